@@ -1,0 +1,14 @@
+//! The comparison of our library with the original Rust, one idea to a module. The binary
+//! `compare` (main.rs) runs its parts.
+
+#![deny(unsafe_code)]
+
+pub mod answers;
+pub mod cases;
+pub mod checksum;
+pub mod numbers;
+#[allow(unsafe_code)]
+pub mod ours;
+pub mod part;
+pub mod random;
+pub mod rust_side;

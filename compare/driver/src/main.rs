@@ -1,0 +1,93 @@
+//! `compare [--seed N] [--rounds N]`: runs every part of the comparison, prints a line for each
+//! and a last one of totals.
+//!
+//! Exit status: 0 if both sides agree; 1 if they differ, or a part had nothing to compare;
+//! 2 if an argument is bad.
+
+use std::env;
+use std::process::ExitCode;
+
+use driver::part::{grouped, Part};
+use driver::{answers, cases, checksum};
+
+const USAGE: &str = "usage: compare [--seed N] [--rounds N]";
+
+/// What the command line may choose.
+struct Options {
+    /// Where the random inputs start.
+    seed: u64,
+    /// How many random inputs a part draws.
+    rounds: u64,
+}
+
+impl Options {
+    fn parse(mut words: impl Iterator<Item = String>) -> Result<Self, String> {
+        let mut options = Options {
+            seed: 1071,
+            rounds: 20_000,
+        };
+        while let Some(word) = words.next() {
+            let option = match word.as_str() {
+                "--seed" => &mut options.seed,
+                "--rounds" => &mut options.rounds,
+                _ => return Err(format!("unknown argument {word}")),
+            };
+            *option = words
+                .next()
+                .and_then(|number| number.parse().ok())
+                .ok_or(format!("{word} needs a number"))?;
+        }
+        Ok(options)
+    }
+}
+
+/// The sum of the parts so far.
+#[derive(Default)]
+struct Total {
+    parts: u64,
+    cases: u64,
+    differences: u64,
+    failed: u64,
+}
+
+impl Total {
+    fn add(&mut self, part: Part) {
+        println!("{part}");
+        self.parts += 1;
+        self.cases += part.cases();
+        self.differences += part.differences();
+        self.failed += u64::from(part.failed());
+    }
+}
+
+fn main() -> ExitCode {
+    let Options { seed, rounds } = match Options::parse(env::args().skip(1)) {
+        Ok(options) => options,
+        Err(message) => {
+            eprintln!("compare: {message}; {USAGE}");
+            return ExitCode::from(2);
+        }
+    };
+
+    let mut total = Total::default();
+    total.add(cases::worked_cases());
+    total.add(answers::refusals());
+    total.add(answers::actions());
+    total.add(checksum::short_lists());
+    total.add(checksum::starts());
+    total.add(checksum::random_lists(seed, rounds));
+    total.add(checksum::sums_in_parts(seed, rounds));
+    total.add(checksum::damaged_header());
+    total.add(checksum::damaged_lists(seed, rounds));
+    total.add(checksum::equal_bits_turned(seed, rounds));
+    total.add(checksum::long_lists(seed));
+
+    println!(
+        "total: {} parts, {} failed; {} cases, {} differences (seed {seed}, rounds {rounds})",
+        total.parts,
+        total.failed,
+        grouped(total.cases),
+        grouped(total.differences),
+    );
+    ExitCode::from(u8::from(total.failed > 0))
+}

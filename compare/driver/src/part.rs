@@ -1,0 +1,113 @@
+//! One part of the comparison: how many cases it had, and where the two sides differed.
+
+use std::fmt;
+
+/// As much of a differing input as is printed, in bytes.
+const SHOWN: usize = 64;
+
+pub struct Part {
+    name: &'static str,
+    /// What a case is called, in the plural.
+    unit: &'static str,
+    cases: u64,
+    differences: u64,
+    /// Of all differences the one with the shortest input, the first of several: its length
+    /// and what is printed.
+    shortest: Option<(usize, String)>,
+}
+
+impl Part {
+    pub fn new(name: &'static str, unit: &'static str) -> Self {
+        Self {
+            name,
+            unit,
+            cases: 0,
+            differences: 0,
+            shortest: None,
+        }
+    }
+
+    /// Counts a case on `input`: two answers that ought to be equal.
+    pub fn case<T: PartialEq + fmt::Debug>(&mut self, input: &[u8], answer: T, expected: T) {
+        self.cases += 1;
+        if answer == expected {
+            return;
+        }
+        self.differences += 1;
+        let shorter = match self.shortest {
+            None => true,
+            Some((length, _)) => input.len() < length,
+        };
+        if shorter {
+            let text = format!("{answer:?} instead of {expected:?} on {}", hex(input));
+            self.shortest = Some((input.len(), text));
+        }
+    }
+
+    pub fn cases(&self) -> u64 {
+        self.cases
+    }
+
+    pub fn differences(&self) -> u64 {
+        self.differences
+    }
+
+    /// Whether the sides differed. A part with no case at all shows nothing, so it fails too.
+    pub fn failed(&self) -> bool {
+        self.differences > 0 || self.cases == 0
+    }
+}
+
+impl fmt::Display for Part {
+    fn fmt(&self, f: &mut fmt::Formatter<'_>) -> fmt::Result {
+        let (cases, differences) = (grouped(self.cases), grouped(self.differences));
+        write!(
+            f,
+            "{}: {cases} {}, {differences} differences",
+            self.name, self.unit
+        )?;
+        if let Some((_, text)) = &self.shortest {
+            write!(f, "\n  FAILED: {text}")?;
+        } else if self.failed() {
+            write!(f, "\n  FAILED: nothing was compared")?;
+        }
+        Ok(())
+    }
+}
+
+/// A 16-bit word of a packet, which is printed in hexadecimal.
+#[derive(Clone, Copy, PartialEq, Eq)]
+pub struct Word(pub u16);
+
+impl fmt::Debug for Word {
+    fn fmt(&self, f: &mut fmt::Formatter<'_>) -> fmt::Result {
+        write!(f, "{:#06x}", self.0)
+    }
+}
+
+/// A number with its digits in groups of three.
+pub fn grouped(number: u64) -> String {
+    let digits = number.to_string();
+    let mut text = String::new();
+    for (index, digit) in digits.chars().enumerate() {
+        if index > 0 && (digits.len() - index).is_multiple_of(3) {
+            text.push(',');
+        }
+        text.push(digit);
+    }
+    text
+}
+
+/// An input in hexadecimal; of a long one, its start.
+fn hex(bytes: &[u8]) -> String {
+    let shown: String = bytes
+        .iter()
+        .take(SHOWN)
+        .map(|byte| format!("{byte:02x}"))
+        .collect();
+    match bytes.len() {
+        0 => "no bytes".to_string(),
+        length if length > SHOWN => format!("{shown}.. ({} bytes)", grouped(length as u64)),
+        _ => shown,
+    }
+}

@@ -1,0 +1,135 @@
+-- The claims of specs/Claims.antt, proved.
+-- Assumes nothing.
+use Prim.Native.Nat.{ℕ, _+_, _-_, _*_, _/_, _%_, _<_, _≤_}
+use native.Mathlib.Omega.{arith}
+use mathlib.Core.Path.{_≡_, refl, sym, ap, _∙_}
+use mathlib.Core.List.{List, [], _∷_, _++_}
+use mathlib.Core.Bool.{Bool, true, false, not}
+use lib.Dec.{ltb}
+use lib.ListN.{length, getD, replicate, length-append, length-replicate}
+use borrow.Author.Tests.{ltb-true, ltb-false}
+use Rattle.field.specs.Field.{Bytes}
+use Rattle.checksum.specs.Sum.{sumOf, folding, foldOf, checksumOf, onesAdd, onesSum}
+use Rattle.checksum.specs.Damage.{isOne, lowBits, bits, Turned}
+use Rattle.checksum.specs.Claims.{Verifies, FoldedSum, SumInParts, PlacedVerifies, DamageFound, Undamaged, Clipped, DamageIs, Sharp, Examples}
+use Rattle.checksum.proofs.Carries.{fold-add, fold-low, fold-is, fold-like, Like, like-add, like-refl}
+use Rattle.checksum.proofs.Bits.{length-bits}
+use Rattle.checksum.proofs.Sums.{sum-append, sealed}
+use Rattle.checksum.proofs.Burst.{burst}
+use Rattle.checksum.proofs.Clip.{turned-take, turned-drop, turned-front, turned-behind}
+
+-- ones' complement addition folds the carry of a plain sum
+ones-add : (a b : ℕ) → a < 65536 → b < 65536 → foldOf (a + b) ≡ onesAdd a b
+unfolding onesAdd
+ones-add a b h k = go (ltb (a + b) 65536) refl
+  where
+    go : (t : Bool) → ltb (a + b) 65536 ≡ t → foldOf (a + b) ≡ elim t [ true ↦ a + b | false ↦ a + b - 65535 ]
+    go true e = fold-is (like-refl (a + b)) (ltb-true (a + b) 65536 e)
+    go false e =
+        let p = ltb-false (a + b) 65536 e in
+        fold-is (record { some = λ q. omega arith; times = 1; same = omega arith }) (omega arith)
+
+pub folded-sum : FoldedSum
+unfolding sumOf onesSum
+folded-sum [] p = fold-is (like-refl 0) (omega arith)
+folded-sum (a ∷ []) p = fold-is (like-refl (a * 256)) (omega arith)
+folded-sum (a ∷ b ∷ l) p =
+    let w = a * 256 + b in
+    let rest = foldOf (sumOf l) in
+    let first : w + sumOf l ≡ sumOf l + w = omega arith in
+    let last : rest + w ≡ w + rest = omega arith in
+    ap foldOf first ∙ sym (fold-add (sumOf l) w) ∙ ap foldOf last
+    ∙ ones-add w rest (omega arith) (fold-low (sumOf l)) ∙ ap (onesAdd w) (folded-sum l (p .1 .1))
+
+pub sum-in-parts : SumInParts
+sum-in-parts start first rest h =
+    let e : start + sumOf first + sumOf rest ≡ start + sumOf (first ++ rest) = omega (arith, sum-append first rest h) in
+    fold-add (start + sumOf first) (sumOf rest) ∙ ap foldOf e
+
+pub placed-verifies : PlacedVerifies
+placed-verifies before after h = sealed before after h
+
+pub damage-found : DamageFound
+damage-found = burst
+
+pub undamaged : (arrived : List ℕ) → Verifies arrived → Undamaged arrived
+undamaged arrived v sent b w t = burst sent arrived b t (w ∙ sym v)
+
+pub clipped : Clipped
+clipped = record {
+  to-front = λ n sent arrived t. turned-take n t;
+  to-back = λ n sent arrived t. turned-drop n t;
+  behind = λ front sent arrived b t. turned-front front b t;
+  ahead = λ back sent arrived b t. turned-behind back b t;
+}
+
+pub sharp : Sharp
+unfolding checksumOf foldOf folding sumOf
+sharp = record { sixteen-equal = refl; sixteen-across = refl; seventeen = refl }
+
+-- a span of fewer than 16 bits is not 16 equal bits
+fewer : {C : Type 0} (x : List Bool) (b : Bool) → length x < 16 → x ≡ replicate 16 b → C
+fewer x b h e = absurd (omega (arith, ap length e, length-replicate 16 b))
+
+-- equal checksums are equal sums
+same-sums : (x y : List ℕ) → checksumOf x ≡ checksumOf y → foldOf (sumOf x) ≡ foldOf (sumOf y)
+unfolding checksumOf
+same-sums x y e = omega (arith, fold-low (sumOf x), fold-low (sumOf y))
+
+-- what the law would find, were it damage, and does not find
+unfound : (sent arrived : List ℕ) → Bytes sent → checksumOf arrived ≡ checksumOf sent → Turned sent arrived → arrived ≡ sent
+unfound sent arrived b e t = burst sent arrived b t (sym (same-sums arrived sent e))
+
+same-length : (sent arrived : List ℕ) (x y : List Bool) → length x ≡ length y → bits sent ≡ x → bits arrived ≡ y → length arrived ≡ length sent
+same-length sent arrived x y e p q = omega (arith, length-bits sent, length-bits arrived, ap length p, ap length q)
+
+one-bit : (sent arrived : List ℕ) → Bytes arrived → (before after : List Bool) (b : Bool)
+    → bits sent ≡ before ++ (b ∷ after) → bits arrived ≡ before ++ (not b ∷ after) → Turned sent arrived
+one-bit sent arrived bytes before after b p q = record {
+  same-length = same-length sent arrived (before ++ (b ∷ after)) (before ++ (not b ∷ after))
+      (length-append before (b ∷ after) ∙ sym (length-append before (not b ∷ after))) p q;
+  bytes = bytes;
+  before = before;
+  span = b ∷ [];
+  turned = not b ∷ [];
+  after = after;
+  sent-bits = p;
+  arrived-bits = q;
+  same-span = refl;
+  short = omega arith;
+  not-all = λ c e f. fewer (b ∷ []) c (omega arith) e;
+}
+
+pub damage-is : DamageIs
+damage-is = record {
+  none = λ sent b. record {
+    same-length = refl;
+    bytes = b;
+    before = [];
+    span = [];
+    turned = [];
+    after = bits sent;
+    sent-bits = refl;
+    arrived-bits = refl;
+    same-span = refl;
+    short = omega arith;
+    not-all = λ c e f. fewer [] c (omega arith) e;
+  };
+  one-bit = one-bit;
+  not-sixteen-equal = λ t. differ 255 0 (ap first (unfound _ _ (omega arith) (sharp .sixteen-equal) t)) (omega arith);
+  not-sixteen-across = λ t. differ 0 255 (ap second (unfound _ _ (omega arith) (sharp .sixteen-across) t)) (omega arith);
+  not-seventeen = λ t. differ 0 1 (ap second (unfound _ _ (omega arith) (sharp .seventeen) t)) (omega arith);
+}
+  where
+    first : List ℕ → ℕ
+    first l = getD l 0 0
+
+    second : List ℕ → ℕ
+    second l = getD l 1 0
+
+    differ : (a b : ℕ) → a ≡ b → (a ≡ b → ⊥) → ⊥
+    differ a b e h = h e
+
+pub examples : Examples
+unfolding checksumOf foldOf folding sumOf
+examples = record { rfc-1071 = refl; odd-byte = refl }

@@ -1,0 +1,8 @@
+-- Why the checksum's claims hold.
+pub mod Carries
+pub mod Bits
+pub mod Clip
+pub mod Spot
+pub mod Sums
+pub mod Burst
+pub mod Claims

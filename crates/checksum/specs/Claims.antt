@@ -1,0 +1,67 @@
+-- What is claimed of the checksum. proofs/Claims.antt proves each claim, for a list of bytes of every length.
+-- Assumes nothing.
+use Prim.Native.Nat.{ℕ, _+_, _-_, _/_, _%_}
+use mathlib.Core.Path.{_≡_}
+use mathlib.Core.List.{List, [], _∷_, _++_}
+use mathlib.Core.Bool.{Bool, not}
+use lib.ListN.{length, take, drop}
+use Rattle.field.specs.Field.{Bytes}
+use Rattle.checksum.specs.Sum.{sumOf, foldOf, checksumOf, onesSum}
+use Rattle.checksum.specs.Damage.{bits, Turned}
+
+-- RFC 1071 (3): "If the result is all 1 bits .., the check succeeds."
+abbrev pub Verifies : List ℕ → Type 0
+Verifies message = foldOf (sumOf message) ≡ 65535
+
+-- Adding first and folding carries afterwards is RFC 1071's ones' complement sum.
+abbrev pub FoldedSum : Type 0
+FoldedSum = (message : List ℕ) → Bytes message → foldOf (sumOf message) ≡ onesSum message
+
+-- Sums can be taken in parts, carries folded between them, where the first part has an even length.
+abbrev pub SumInParts : Type 0
+SumInParts = (start : ℕ) (first rest : List ℕ) → length first % 2 ≡ 0
+    → foldOf (foldOf (start + sumOf first) + sumOf rest) ≡ foldOf (start + sumOf (first ++ rest))
+
+-- A checksum placed at an even offset, over a message in which its field was 0, verifies.
+abbrev pub PlacedVerifies : Type 0
+PlacedVerifies = (before after : List ℕ) → length before % 2 ≡ 0
+    → let c : ℕ = checksumOf (before ++ (0 ∷ 0 ∷ after)) in Verifies (before ++ (c / 256 ∷ c % 256 ∷ after))
+
+-- The damage law: what arrives damaged, with the sum that was sent, is what was sent.
+abbrev pub DamageFound : Type 0
+DamageFound = (sent arrived : List ℕ) → Bytes sent → Turned sent arrived → foldOf (sumOf sent) ≡ foldOf (sumOf arrived) → arrived ≡ sent
+
+-- The damage law as the receiver of a message puts it: no message that verifies came here damaged.
+abbrev pub Undamaged : List ℕ → Type 0
+Undamaged arrived = (sent : List ℕ) → Bytes sent → Verifies sent → Turned sent arrived → arrived ≡ sent
+
+-- Damage to a message is damage to each part of it, and to any message that it is a part of.
+pub record Clipped : Type 0 where
+  pub to-front : (n : ℕ) (sent arrived : List ℕ) → Turned sent arrived → Turned (take n sent) (take n arrived)
+  pub to-back : (n : ℕ) (sent arrived : List ℕ) → Turned sent arrived → Turned (drop n sent) (drop n arrived)
+  pub behind : (front sent arrived : List ℕ) → Bytes front → Turned sent arrived → Turned (front ++ sent) (front ++ arrived)
+  pub ahead : (back sent arrived : List ℕ) → Bytes back → Turned sent arrived → Turned (sent ++ back) (arrived ++ back)
+
+-- What counts as damage, and what does not.
+pub record DamageIs : Type 0 where
+  -- no bit turned
+  pub none : (sent : List ℕ) → Bytes sent → Turned sent sent
+  -- any one bit turned, wherever it stands
+  pub one-bit : (sent arrived : List ℕ) → Bytes arrived → (before after : List Bool) (b : Bool)
+      → bits sent ≡ before ++ (b ∷ after) → bits arrived ≡ before ++ (not b ∷ after) → Turned sent arrived
+  -- not 16 equal bits all turned, at an even place and across words
+  pub not-sixteen-equal : Turned (0 ∷ 0 ∷ 1 ∷ 0 ∷ []) (255 ∷ 255 ∷ 1 ∷ 0 ∷ []) → ⊥
+  pub not-sixteen-across : Turned (1 ∷ 255 ∷ 255 ∷ 0 ∷ []) (1 ∷ 0 ∷ 0 ∷ 0 ∷ []) → ⊥
+  -- not two bits that are 17 apart, first and last counted
+  pub not-seventeen : Turned (0 ∷ 1 ∷ 0 ∷ 0 ∷ []) (0 ∷ 0 ∷ 0 ∷ 1 ∷ []) → ⊥
+
+-- The law is sharp: what it leaves out, 16 equal bits all turned and a span of 17 bits, is not found.
+pub record Sharp : Type 0 where
+  pub sixteen-equal : checksumOf (255 ∷ 255 ∷ 1 ∷ 0 ∷ []) ≡ checksumOf (0 ∷ 0 ∷ 1 ∷ 0 ∷ [])
+  pub sixteen-across : checksumOf (1 ∷ 0 ∷ 0 ∷ 0 ∷ []) ≡ checksumOf (1 ∷ 255 ∷ 255 ∷ 0 ∷ [])
+  pub seventeen : checksumOf (0 ∷ 0 ∷ 0 ∷ 1 ∷ []) ≡ checksumOf (0 ∷ 1 ∷ 0 ∷ 0 ∷ [])
+
+-- Worked examples: RFC 1071, section 3 (its sum 0x2ddf0 folds to 0xddf2), and an odd last byte.
+pub record Examples : Type 0 where
+  pub rfc-1071 : foldOf (sumOf (0x00 ∷ 0x01 ∷ 0xf2 ∷ 0x03 ∷ 0xf4 ∷ 0xf5 ∷ 0xf6 ∷ 0xf7 ∷ [])) ≡ 0xddf2
+  pub odd-byte : checksumOf (0x01 ∷ 0x02 ∷ 0x03 ∷ []) ≡ 65535 - 0x0402

@@ -1,0 +1,3 @@
+-- Refusals: their numbers, and the rule of the first cause that holds.
+pub mod Number
+pub mod Outcome

@@ -1,0 +1,2 @@
+-- The budget that a run is held to.
+pub mod Budget

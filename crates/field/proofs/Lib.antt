@@ -1,0 +1,2 @@
+-- The laws of big-endian fields.
+pub mod Fields

@@ -1,0 +1,2 @@
+-- Big-endian fields.
+pub mod Field
