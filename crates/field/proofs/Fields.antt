@@ -140,3 +140,13 @@ front-bytes width l h = ap (take width) (split-off width 0 l (omega arith)) ∙ 
 
 pub whole-bytes : (width : ℕ) (l : List ℕ) → length l ≡ width → l ≡ bytesAt width 0 l
 whole-bytes width l h = sym (take-all width l (omega arith)) ∙ front-bytes width l (omega arith)
+
+-- the 8 bytes of a number by shifts, as code has them
+abbrev pub shifted : ℕ → List ℕ
+shifted x =
+    x / 2 ^ 56 % 256 ∷ x / 2 ^ 48 % 256 ∷ x / 2 ^ 40 % 256 ∷ x / 2 ^ 32 % 256 ∷ x / 2 ^ 24 % 256 ∷ x / 2 ^ 16 % 256 ∷ x / 2 ^ 8 % 256 ∷ x % 256 ∷ []
+
+pub shifted-bytes : (x : ℕ) → shifted x ≡ bigEndian 8 x
+shifted-bytes x =
+    ap (λ (n : ℕ). x / 2 ^ 56 % 256 ∷ x / 2 ^ 48 % 256 ∷ x / 2 ^ 40 % 256 ∷ x / 2 ^ 32 % 256 ∷ x / 2 ^ 24 % 256 ∷ x / 2 ^ 16 % 256 ∷ x / 2 ^ 8 % 256 ∷ n % 256 ∷ [])
+    (sym (div-one x))

@@ -1,0 +1,83 @@
+-- The information elements of an Error Indication: document 01, leaf 8, with the card's numbers 25 to 29.
+-- Assumes nothing.
+use Prim.Native.Nat.{ℕ, zero, suc, _+_}
+use mathlib.Core.List.{List, [], _∷_}
+use mathlib.Core.Bool.{Bool, true, false, not, _||_, _&&_}
+use lib.Dec.{eqb, ltb}
+use lib.ListN.{length, drop, getD}
+use Rattle.error.specs.Number.{truncatedElement, invalidPeerAddressLength, unsupportedFixedLengthElement, missingTeidDataI, missingPeerAddress}
+use Rattle.error.specs.Outcome.{Outcome, gives, Cause, _⇒_, firstCause}
+use Rattle.field.specs.Field.{field}
+
+-- Of the element at the front of a list: its type, one byte.
+abbrev pub elementType : List ℕ → ℕ
+elementType list = getD list 0 0
+
+-- Type 16 is TEID Data I.
+abbrev pub isTeidDataI : ℕ → Bool
+isTeidDataI ieType = eqb ieType 16
+
+-- Type 133 is GTP-U Peer Address.
+abbrev pub isPeerAddress : ℕ → Bool
+isPeerAddress ieType = eqb ieType 133
+
+-- "Types 128 to 255: a 2-byte length": the bytes behind the type.
+abbrev pub valueLength : List ℕ → ℕ
+valueLength list = field 2 1 list
+
+-- "Type 16: 4 bytes. Types 128 to 255: a 2-byte length, then the value." One byte more is the type.
+unfoldable pub elementSize : List ℕ → ℕ
+elementSize list = elim (isTeidDataI (elementType list)) [ true ↦ 1 + 4 | false ↦ 1 + 2 + valueLength list ]
+
+-- "type under 128, not 16"
+abbrev pub unsupportedType : ℕ → Bool
+unsupportedType ieType = ltb ieType 128 && not (isTeidDataI ieType)
+
+-- "133 must have length 4 or 16": it has another.
+abbrev pub otherLength : ℕ → ℕ → Bool
+otherLength ieType octets = isPeerAddress ieType && not (eqb octets 4 || eqb octets 16)
+
+-- The causes of the element at the front, in the order in which they are judged.
+unfoldable pub elementCauses : List ℕ → List Cause
+elementCauses list =
+    -- "type under 128, not 16"
+    (unsupportedType (elementType list) ⇒ unsupportedFixedLengthElement)
+    -- "element cut": its length, which a 16 does not have
+    ∷ (not (isTeidDataI (elementType list)) && ltb (length list) (1 + 2) ⇒ truncatedElement)
+    -- "133 of other length", "judged (26) before its value's end (25)"
+    ∷ (otherLength (elementType list) (valueLength list) ⇒ invalidPeerAddressLength)
+    -- "element cut": its value
+    ∷ (ltb (length list) (elementSize list) ⇒ truncatedElement)
+    ∷ []
+
+-- One element: refused, or its size.
+abbrev pub elementOf : List ℕ → Outcome ℕ
+elementOf list = firstCause (elementCauses list) (gives (elementSize list))
+
+-- "At the end: 28, then 29."
+unfoldable pub endOf : Bool → Bool → Outcome (Unit {0})
+endOf hasTeidData hasPeerAddress =
+    firstCause
+    ((not hasTeidData ⇒ missingTeidDataI)
+    ∷ (not hasPeerAddress ⇒ missingPeerAddress)
+    ∷ [])
+    (gives tt)
+
+-- "what follows an element is read by the same rule, and elements may repeat": the walk carries on whether a 16 and a 133 were seen.
+-- The first number is there for antt alone, whose recursion is structural. Every element has at least one byte, so the list's length is
+-- enough, and at zero nothing is left. `SameRule` of specs/Claims.antt is the rule without it.
+unfoldable pub walk : ℕ → Bool → Bool → List ℕ → Outcome (Unit {0})
+walk zero hasTeidData hasPeerAddress list = endOf hasTeidData hasPeerAddress
+walk (suc bound) hasTeidData hasPeerAddress [] = endOf hasTeidData hasPeerAddress
+walk (suc bound) hasTeidData hasPeerAddress (ieType ∷ l) =
+    let list = ieType ∷ l in
+    firstCause (elementCauses list)
+    (walk bound (hasTeidData || isTeidDataI ieType) (hasPeerAddress || isPeerAddress ieType) (drop (elementSize list) list))
+
+-- A list, where these elements have been seen before it.
+unfoldable pub elementsFrom : Bool → Bool → List ℕ → Outcome (Unit {0})
+elementsFrom hasTeidData hasPeerAddress list = walk (length list) hasTeidData hasPeerAddress list
+
+-- The payload of an Error Indication.
+unfoldable pub elementsOf : List ℕ → Outcome (Unit {0})
+elementsOf payload = elementsFrom false false payload

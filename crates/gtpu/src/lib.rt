@@ -1,0 +1,195 @@
+// GTP-U (the Rust's gtpu.rs, without its codec): the message types, and the information elements of an Error Indication,
+// document 01's leaf 8. What a list of elements comes to is defined in specs/Element.antt.
+ghost use mathlib.Core.Path.{_≡_};
+ghost use Prim.Native.Nat.{_<_, _≤_};
+ghost use lib.ListN.{length, getD};
+ghost use Rattle.gtpu.specs.Message.{messageTypesOf};
+ghost use Rattle.gtpu.specs.Element.{otherLength, elementOf, endOf, elementsFrom, elementsOf};
+ghost use Rattle.gtpu.specs.Answer.{means, judgedMeans, walkedMeans, Advanced};
+
+// The message types, under the Rust's names. `message_types` proves that they are those of specs/Message.antt.
+pub const GTPU_MSG_ECHO_REQUEST: u8 = 1;
+
+pub const GTPU_MSG_ECHO_RESPONSE: u8 = 2;
+
+pub const GTPU_MSG_ERROR_INDICATION: u8 = 26;
+
+pub const GTPU_MSG_SUPPORTED_EXTENSION_HEADERS_NOTIFICATION: u8 = 31;
+
+pub const GTPU_MSG_END_MARKER: u8 = 254;
+
+pub const GTPU_MSG_GPDU: u8 = 255;
+
+// Every message type, in the Rust's order.
+pub fn message_types() -> [u8; 6]
+    ensures { λ r. ⌜ r ≡ messageTypesOf ⌝ }
+{
+    [
+        GTPU_MSG_ECHO_REQUEST,
+        GTPU_MSG_ECHO_RESPONSE,
+        GTPU_MSG_ERROR_INDICATION,
+        GTPU_MSG_SUPPORTED_EXTENSION_HEADERS_NOTIFICATION,
+        GTPU_MSG_END_MARKER,
+        GTPU_MSG_GPDU,
+    ]
+}
+
+// The types of the two information elements that an Error Indication must have.
+const TEID_DATA_I: u8 = 16;
+
+const GTPU_PEER_ADDRESS: u8 = 133;
+
+// TEID Data I whole: its type and 4 bytes.
+const TEID_DATA_I_SIZE: usize = 5;
+
+// Where the value begins in types 128 to 255: behind the type and a 2-byte length.
+const VALUE_START: usize = 3;
+
+// How often the walk calls itself before it hands back to the loop that started it. The compiler makes no loop of these
+// calls, so this number, and not the list, bounds the stack. The reflector's Error Indications have two elements.
+const WALK_DEPTH: usize = 16;
+
+// One element, judged: refused by this number, or so many bytes long, its type and length included.
+enum JudgedElement {
+    Refused(u8),
+    Size(usize),
+}
+
+// Whether this is a GTP-U Peer Address whose length is that of no address.
+fn other_length(ie_type: u8, value_length: usize) -> bool
+    ensures { λ r. ⌜ r ≡ otherLength «ie_type» «value_length» ⌝ }
+{
+    ie_type == GTPU_PEER_ADDRESS && value_length != 4 && value_length != 16
+}
+
+// The element at the front of a list, of types 128 to 255. A wrong length is judged before the value's end.
+fn judge_variable_length(list: &[u8]) -> JudgedElement
+    requires { ⌜ (0 < length (now list)) × (128 ≤ getD (now list) 0 0) ⌝ }
+    ensures { λ r. ⌜ judgedMeans r ≡ elementOf (now (list .entry)) ⌝ }
+{
+    if list.len() < VALUE_START {
+        return JudgedElement::Refused(error::TRUNCATED_ELEMENT);
+    }
+    let value_length = field::word(list[1], list[2]) as usize;
+    let size = VALUE_START + value_length;
+    if other_length(list[0], value_length) {
+        return JudgedElement::Refused(error::INVALID_PEER_ADDRESS_LENGTH);
+    }
+    if list.len() < size {
+        return JudgedElement::Refused(error::TRUNCATED_ELEMENT);
+    }
+    JudgedElement::Size(size)
+}
+
+// The element at the front of a list.
+fn judge_element(list: &[u8]) -> JudgedElement
+    requires { ⌜ 0 < length (now list) ⌝ }
+    ensures { λ r. ⌜ judgedMeans r ≡ elementOf (now (list .entry)) ⌝ }
+{
+    match list[0] {
+        TEID_DATA_I => {
+            if list.len() < TEID_DATA_I_SIZE {
+                return JudgedElement::Refused(error::TRUNCATED_ELEMENT);
+            }
+            JudgedElement::Size(TEID_DATA_I_SIZE)
+        }
+        128..=255 => judge_variable_length(list),
+        _ => JudgedElement::Refused(error::UNSUPPORTED_FIXED_LENGTH_ELEMENT),
+    }
+}
+
+// A walk: refused by this number; at the end of the list; or to go on, with so many bytes left. The flags say which of the
+// two required elements have been seen.
+enum Walked {
+    Refused(u8),
+    AtEnd {
+        has_teid_data: bool,
+        has_peer_address: bool,
+    },
+    GoOn {
+        has_teid_data: bool,
+        has_peer_address: bool,
+        left: usize,
+    },
+}
+
+// The element at the front is judged, and what follows it is read by the same rule: by a call of the walk on the rest.
+fn walk_elements(
+    list: &[u8],
+    has_teid_data: bool,
+    has_peer_address: bool,
+    calls_left: usize,
+) -> Walked
+    ensures { λ r. ⌜ walkedMeans r (now (list .entry)) ≡ elementsFrom «has_teid_data» «has_peer_address» (now (list .entry)) ⌝ }
+    ensures { λ r. ⌜ Advanced r «calls_left» (now (list .entry)) ⌝ }
+{
+    if list.len() == 0 {
+        return Walked::AtEnd {
+            has_teid_data,
+            has_peer_address,
+        };
+    }
+    if calls_left == 0 {
+        return Walked::GoOn {
+            has_teid_data,
+            has_peer_address,
+            left: list.len(),
+        };
+    }
+    match judge_element(list) {
+        JudgedElement::Refused(number) => Walked::Refused(number),
+        JudgedElement::Size(size) => walk_elements(
+            &list[size..],
+            has_teid_data | (list[0] == TEID_DATA_I),
+            has_peer_address | (list[0] == GTPU_PEER_ADDRESS),
+            calls_left - 1,
+        ),
+    }
+}
+
+// Whether the elements of an Error Indication are accepted, or by which number they are refused.
+pub enum ElementsChecked {
+    Accepted,
+    Refused(u8),
+}
+
+// The end of the list: no TEID Data I, then no GTP-U Peer Address.
+fn judge_end(has_teid_data: bool, has_peer_address: bool) -> ElementsChecked
+    ensures { λ r. ⌜ means r ≡ endOf «has_teid_data» «has_peer_address» ⌝ }
+{
+    if !has_teid_data {
+        return ElementsChecked::Refused(error::MISSING_TEID_DATA_I);
+    }
+    if !has_peer_address {
+        return ElementsChecked::Refused(error::MISSING_PEER_ADDRESS);
+    }
+    ElementsChecked::Accepted
+}
+
+// Validate that an Error Indication payload carries the required information elements. The payload may have any length:
+// the loop starts the walk again where it stopped.
+pub fn validate_error_indication_ies(payload: &[u8]) -> ElementsChecked
+    ensures { λ r. ⌜ means r ≡ elementsOf (now (payload .entry)) ⌝ }
+{
+    let mut rest = payload;
+    let mut has_teid_data = false;
+    let mut has_peer_address = false;
+    loop {
+        match walk_elements(rest, has_teid_data, has_peer_address, WALK_DEPTH) {
+            Walked::Refused(number) => return ElementsChecked::Refused(number),
+            Walked::AtEnd {
+                has_teid_data: teid_data,
+                has_peer_address: peer_address,
+            } => return judge_end(teid_data, peer_address),
+            Walked::GoOn {
+                has_teid_data: teid_data,
+                has_peer_address: peer_address,
+                left,
+            } => {
+                rest = &rest[rest.len() - left..];
+                has_teid_data = teid_data;
+                has_peer_address = peer_address;
+            }
+        }
+    }
+}

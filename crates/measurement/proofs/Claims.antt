@@ -1,0 +1,222 @@
+-- The claims of specs/Claims.antt, proved.
+-- Assumes nothing.
+use Prim.Native.Nat.{ℕ, zero, suc, _+_, _-_, _*_, _/_, _%_, _^_, _<_, _≤_}
+use native.Mathlib.Omega.{arith}
+use mathlib.Core.Path.{_≡_, refl, sym, ap, ap₂, _∙_}
+use mathlib.Core.List.{List, [], _∷_, _++_, append-nil}
+use mathlib.Core.Logic.{_⊎_, inl, inr}
+use lib.ListN.{length, take, drop, getD, replicate, length-append, length-replicate}
+use lib.Seq.{take-at, drop-at}
+use Rattle.error.specs.Outcome.{Outcome, refused, gives}
+use Rattle.error.proofs.Causes.{refused-gives}
+use Rattle.field.specs.Field.{Bytes, number, bytesAt, field}
+use Rattle.field.proofs.Fields.{number-below, bytes-at, bytes-take, bytes-drop, bytes-append, length-bytesAt}
+use Rattle.checksum.specs.Sum.{sumOf, foldOf}
+use Rattle.checksum.specs.Damage.{Turned}
+use Rattle.checksum.specs.Claims.{Verifies}
+use Rattle.measurement.specs.Packet.{addressLength, address, padded, ipv4, ipv4Header, ipv6, ipHeader, ipHeaderLength, pseudoHeader, udp, udpSegment, probe, measurementMagic, buildOf}
+use Rattle.measurement.specs.Read.{payload, tpduOf, readUdp, ihl, readOf}
+use Rattle.measurement.specs.Echo.{reversedOf, echoOfTpdu, echoOf}
+use Rattle.measurement.specs.Claims.{InRange, canonical, tpduBuilt, ReadsBack, EchoIsReversed, EchoOfEcho, ChecksumsRight, ChecksumsVerify, Sent, built, echoed, RefusesOr, DamageOfOneLeg, DamageFound, SentIsRead, Travelled, arrives, echoes, echoesOf, Arrival, LegsChained}
+use Rattle.measurement.specs.declared.DecodedTpdu.{DecodedTpdu}
+use Rattle.measurement.specs.declared.InnerIpFlow.{InnerIpFlow}
+use Rattle.measurement.specs.declared.IpVersion.{IpVersion}
+use Rattle.measurement.specs.declared.IpVersion.the-variants.{V4, V6}
+use Rattle.measurement.proofs.Accept.{Part, part-accepted, Accepted4, Accepted6, accepted}
+use Rattle.measurement.proofs.Built.{header-length, packet, pseudo, packet-even, packet-reads-back, segment-verifies, segment-checksum-not-0, segment-checksum-ones, ipv4-verifies}
+use Rattle.measurement.proofs.Leg.{leg}
+
+pub reads-back : ReadsBack
+unfolding buildOf address
+reads-back f s t g behind =
+    packet-reads-back (f .src) (f .dst) (f .«src_port») (f .«dst_port») s t (g .source-port) (g .destination-port) (g .sequence) (g .time) behind (f .version)
+
+reads-back-alone : (f : InnerIpFlow) (s t : ℕ) → InRange f s t → readOf (buildOf f s t) ≡ gives (tpduBuilt f s t)
+reads-back-alone f s t g = ap readOf (sym (append-nil (buildOf f s t))) ∙ reads-back f s t g []
+
+-- building looks at no more of a flow than reading gives back
+address-padded : (v : IpVersion) (l : List ℕ) → address v (padded (address v l)) ≡ address v l
+unfolding address padded addressLength
+address-padded V4 l = refl
+address-padded V6 l = refl
+
+build-canonical : (f : InnerIpFlow) (s t : ℕ) → buildOf (canonical f) s t ≡ buildOf f s t
+unfolding buildOf
+build-canonical f s t =
+    ap₂ (λ (x y : List ℕ). ipHeader (f .version) x y ++ udp (pseudoHeader (f .version) x y 32) (f .«src_port») (f .«dst_port») s t)
+    (address-padded (f .version) (f .src)) (address-padded (f .version) (f .dst))
+
+echo-given : (b : List ℕ) (d : DecodedTpdu) → readOf b ≡ gives d → echoOf b ≡ gives (echoOfTpdu d)
+unfolding echoOf
+echo-given b d e = rw (e, echoOf)
+
+pub echo-is-reversed : EchoIsReversed
+echo-is-reversed f s t g behind =
+    echo-given (buildOf f s t ++ behind) (tpduBuilt f s t) (reads-back f s t g behind) ∙ ap gives (build-canonical (reversedOf f) s t)
+
+reversed-in-range : {f : InnerIpFlow} {s t : ℕ} → InRange f s t → InRange (reversedOf f) s t
+reversed-in-range g = record {
+  source = g .destination;
+  destination = g .source;
+  source-length = g .destination-length;
+  destination-length = g .source-length;
+  source-port = g .destination-port;
+  destination-port = g .source-port;
+  sequence = g .sequence;
+  time = g .time;
+}
+
+echo-alone : (f : InnerIpFlow) (s t : ℕ) → InRange f s t → echoOf (buildOf f s t) ≡ gives (buildOf (reversedOf f) s t)
+echo-alone f s t g = ap echoOf (sym (append-nil (buildOf f s t))) ∙ echo-is-reversed f s t g []
+
+echo-refused : (b : List ℕ) (n : ℕ) → readOf b ≡ refused n → echoOf b ≡ refused n
+unfolding echoOf
+echo-refused b n e = rw (e, echoOf)
+
+given : {x y : List ℕ} → gives x ≡ gives y → x ≡ y
+given e = cc
+
+pub echo-of-echo : EchoOfEcho
+echo-of-echo f s t g e p = ap echoOf (given (sym p ∙ echo-alone f s t g)) ∙ echo-alone (reversedOf f) s t (reversed-in-range g)
+
+-- the checksums
+front-header : (f : InnerIpFlow) (s t : ℕ) → f .version ≡ V4 → take 20 (buildOf f s t) ≡ ipv4 (bytesAt 4 0 (f .src)) (bytesAt 4 0 (f .dst))
+unfolding buildOf address ipHeader ipv4 ipv4Header addressLength
+front-header f s t h =
+    ap (λ (v : IpVersion). take 20 (ipHeader v (bytesAt (addressLength v) 0 (f .src)) (bytesAt (addressLength v) 0 (f .dst))
+    ++ udp (pseudoHeader v (bytesAt (addressLength v) 0 (f .src)) (bytesAt (addressLength v) 0 (f .dst)) 32) (f .«src_port») (f .«dst_port») s t)) h
+
+module _ (f : InnerIpFlow) (s t : ℕ) where
+  abbrev version-of : IpVersion
+  version-of = f .version
+
+  abbrev ph : List ℕ
+  ph = pseudo (f .version) (f .src) (f .dst) (f .«src_port») (f .«dst_port») s t
+
+  even : length ph % 2 ≡ 0
+  even = packet-even (f .version) (f .src) (f .dst) (f .«src_port») (f .«dst_port») s t
+
+  behind-header : drop (ipHeaderLength (f .version)) (buildOf f s t) ≡ udp ph (f .«src_port») (f .«dst_port») s t
+  unfolding buildOf address
+  behind-header = drop-at (ipHeader version-of (bytesAt (addressLength version-of) 0 (f .src)) (bytesAt (addressLength version-of) 0 (f .dst))) (udp ph (f .«src_port») (f .«dst_port») s t) (ipHeaderLength version-of) (header-length version-of (f .src) (f .dst))
+
+  checksums : ChecksumsRight f s t
+  unfolding address
+  checksums = record {
+    ipv4-header = λ h. ap (λ (x : List ℕ). foldOf (sumOf x)) (front-header f s t h) ∙ ipv4-verifies (f .src) (f .dst);
+    udp = ap (λ (u : List ℕ). foldOf (sumOf (ph ++ u))) behind-header ∙ segment-verifies ph even (f .«src_port») (f .«dst_port») s t;
+    not-zero = λ e. segment-checksum-not-0 ph even (f .«src_port») (f .«dst_port») s t (ap (λ (u : List ℕ). field 2 6 u) (sym behind-header) ∙ e);
+    all-ones = λ e. ap (λ (u : List ℕ). field 2 6 u) behind-header ∙ segment-checksum-ones ph even (f .«src_port») (f .«dst_port») s t e;
+  }
+
+pub checksums-verify : ChecksumsVerify
+checksums-verify f s t g = checksums f s t
+
+-- what is read is in range, so every T-PDU that was sent was built
+field-16 : (at : ℕ) (u : List ℕ) → Bytes u → field 2 at u < 2 ^ 16
+field-16 at u b = number-below (bytesAt 2 at u) (bytes-at 2 at u b)
+
+field-64 : (at : ℕ) (u : List ℕ) → Bytes u → field 8 at u < 2 ^ 64
+field-64 at u b = number-below (bytesAt 8 at u) (bytes-at 8 at u b)
+
+zeros-are-bytes : (n : ℕ) → Bytes (replicate n 0)
+zeros-are-bytes zero = tt
+zeros-are-bytes (suc n) = (omega arith, zeros-are-bytes n)
+
+padded-length : (l : List ℕ) → length l ≤ 16 → length (padded l) ≡ 16
+unfolding padded
+padded-length l h =
+    let z : ℕ = 0 in
+    length-append l (replicate (16 - length l) z) ∙ omega (arith, length-replicate (16 - length l) z)
+
+part-in-range : (v : IpVersion) (src dst u : List ℕ) (r : DecodedTpdu) → Bytes src → Bytes dst → Bytes u → length src ≤ 16 → length dst ≤ 16
+    → readUdp v src dst u ≡ gives r → InRange (r .flow) (r .measurement .sequence) (r .measurement .«send_timestamp_ns»)
+unfolding padded payload
+part-in-range v src dst u r bs bd bu hs hd e =
+    let p = part-accepted src dst u r v e .is in
+    let body = bytes-take (field 2 4 u - 8) (drop 8 u) (bytes-drop 8 u bu) in
+    rw p (record {
+      source = bytes-append src (replicate (16 - length src) 0) bs (zeros-are-bytes (16 - length src));
+      destination = bytes-append dst (replicate (16 - length dst) 0) bd (zeros-are-bytes (16 - length dst));
+      source-length = padded-length src hs;
+      destination-length = padded-length dst hd;
+      source-port = field-16 0 u bu;
+      destination-port = field-16 2 u bu;
+      sequence = field-64 8 (take (field 2 4 u - 8) (drop 8 u)) body;
+      time = field-64 16 (take (field 2 4 u - 8) (drop 8 u)) body;
+    })
+
+read-in-range : (b : List ℕ) (r : DecodedTpdu) → Bytes b → readOf b ≡ gives r → InRange (r .flow) (r .measurement .sequence) (r .measurement .«send_timestamp_ns»)
+read-in-range b r bytes e = go (accepted b r e)
+  where
+    go : ((getD b 0 0 / 16 ≡ 4) × Accepted4 b r) ⊎ ((getD b 0 0 / 16 ≡ 6) × Accepted6 b r) → InRange (r .flow) (r .measurement .sequence) (r .measurement .«send_timestamp_ns»)
+    go (inl x) =
+        part-in-range V4 (bytesAt 4 12 b) (bytesAt 4 16 b) (take (field 2 2 b - ihl b * 4) (drop (ihl b * 4) b)) r (bytes-at 4 12 b bytes) (bytes-at 4 16 b bytes)
+        (bytes-take (field 2 2 b - ihl b * 4) (drop (ihl b * 4) b) (bytes-drop (ihl b * 4) b bytes)) (omega arith) (omega arith) (x .1 .part)
+    go (inr x) =
+        part-in-range V6 (bytesAt 16 8 b) (bytesAt 16 24 b) (take (field 2 4 b) (drop 40 b)) r (bytes-at 16 8 b bytes) (bytes-at 16 24 b bytes)
+        (bytes-take (field 2 4 b) (drop 40 b) (bytes-drop 40 b bytes)) (omega arith) (omega arith) (x .1 .part)
+
+record Build (sent : List ℕ) : Type 0 where
+  flow : InnerIpFlow
+  sequence : ℕ
+  time : ℕ
+  in-range : InRange flow sequence time
+  is : sent ≡ buildOf flow sequence time
+
+sent-is-built : (x : List ℕ) → Sent x → Build x
+sent-is-built x (built f s t g) = record { flow = f; sequence = s; time = t; in-range = g; is = refl }
+sent-is-built x (echoed b e bytes p) = go (readOf b) refl
+  where
+    go : (o : Outcome DecodedTpdu) → readOf b ≡ o → Build x
+    go (refused n) q = absurd (refused-gives (sym (echo-refused b n q) ∙ p))
+    go (gives d) q = record {
+      flow = reversedOf (d .flow);
+      sequence = d .measurement .sequence;
+      time = d .measurement .«send_timestamp_ns»;
+      in-range = reversed-in-range (read-in-range b d bytes q);
+      is = given (sym p ∙ echo-given b d q);
+    }
+
+-- one leg
+module _ (x a : List ℕ) (w : Build x) (q : Turned x a) where
+  abbrev whole : DecodedTpdu
+  whole = tpduBuilt (w .flow) (w .sequence) (w .time)
+
+  whole-read : readOf x ≡ gives whole
+  whole-read = ap readOf (w .is) ∙ reads-back-alone (w .flow) (w .sequence) (w .time) (w .in-range)
+
+  same : (r : DecodedTpdu) → readOf a ≡ gives r → r ≡ whole
+  unfolding buildOf address
+  same r e =
+      let f = w .flow in
+      let g = w .in-range in
+      leg (f .src) (f .dst) (f .«src_port») (f .«dst_port») (w .sequence) (w .time) (g .source) (g .destination) (g .source-port) (g .destination-port) (g .sequence) (g .time)
+      a r (f .version) (rw (w .is) at q) e
+
+  one-leg : DamageOfOneLeg x a
+  one-leg = go (readOf a) refl
+    where
+      go : (o : Outcome DecodedTpdu) → readOf a ≡ o → DamageOfOneLeg x a
+      go (refused n) e = record { reading = rw e tt; echoing = rw (echo-refused a n e) tt }
+      go (gives r) e = record {
+        reading = rw e (ap gives (same r e) ∙ sym whole-read);
+        echoing = rw (echo-given a r e) (ap (λ (d : DecodedTpdu). gives (echoOfTpdu d)) (same r e) ∙ sym (echo-given x whole whole-read));
+      }
+
+pub damage-found : DamageFound
+damage-found x a s q = one-leg x a (sent-is-built x s) q
+
+pub sent-is-read : SentIsRead
+sent-is-read x s n e =
+    let w = sent-is-built x s in
+    refused-gives (sym e ∙ ap readOf (w .is) ∙ reads-back-alone (w .flow) (w .sequence) (w .time) (w .in-range))
+
+-- legs one after the other
+pub legs-chained : LegsChained
+unfolding echoesOf
+legs-chained x a zero s (arrives q) = record { whole = x; echoed = refl; is-sent = s; turned = q }
+legs-chained x a (suc n) s (echoes {at-echo = c} {echo = e} q p w) =
+    let same : echoOf x ≡ gives e = sym (rw p at (damage-found x c s q .echoing)) in
+    let rest = legs-chained e a n (echoed c e (q .bytes) p) w in
+    record { whole = rest .whole; echoed = rw (same, echoesOf) (rest .echoed); is-sent = rest .is-sent; turned = rest .turned }

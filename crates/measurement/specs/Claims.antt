@@ -1,0 +1,115 @@
+-- What is claimed of T-PDUs. proofs/Claims.antt proves each claim.
+-- Assumes nothing.
+use Prim.Native.Nat.{ℕ, zero, suc, _+_, _^_, _<_}
+use mathlib.Core.Path.{_≡_}
+use mathlib.Core.List.{List, [], _∷_, _++_}
+use lib.ListN.{length, take, drop}
+use Rattle.error.specs.Outcome.{Outcome, refused, gives}
+use Rattle.field.specs.Field.{Bytes, field}
+use Rattle.checksum.specs.Sum.{checksumOf}
+use Rattle.checksum.specs.Damage.{Turned}
+use Rattle.checksum.specs.Claims.{Verifies}
+use Rattle.measurement.specs.Packet.{address, padded, pseudoHeader, ipHeaderLength, udpSegment, buildOf}
+use Rattle.measurement.specs.Read.{readOf}
+use Rattle.measurement.specs.Echo.{reversedOf, echoOf}
+use Rattle.measurement.specs.declared.DecodedTpdu.{DecodedTpdu}
+use Rattle.measurement.specs.declared.InnerIpFlow.{InnerIpFlow}
+use Rattle.measurement.specs.declared.IpVersion.{IpVersion}
+use Rattle.measurement.specs.declared.IpVersion.the-variants.{V4, V6}
+
+-- A flow, a sequence and a time of the code's types: 16 bytes for an address, of which IPv4 uses 4; ports below 2^16; numbers below 2^64.
+pub record InRange (flow : InnerIpFlow) (s t : ℕ) : Type 0 where
+  pub source : Bytes (flow .src)
+  pub destination : Bytes (flow .dst)
+  pub source-length : length (flow .src) ≡ 16
+  pub destination-length : length (flow .dst) ≡ 16
+  pub source-port : flow .«src_port» < 2 ^ 16
+  pub destination-port : flow .«dst_port» < 2 ^ 16
+  pub sequence : s < 2 ^ 64
+  pub time : t < 2 ^ 64
+
+-- A flow as it is read back: "of an IPv4 address only the first 4 bytes count, and what makes one leaves the rest 0".
+abbrev pub canonical : InnerIpFlow → InnerIpFlow
+canonical flow = record {
+  version = flow .version;
+  src = padded (address (flow .version) (flow .src));
+  dst = padded (address (flow .version) (flow .dst));
+  «src_port» = flow .«src_port»;
+  «dst_port» = flow .«dst_port»;
+}
+
+abbrev pub tpduBuilt : InnerIpFlow → ℕ → ℕ → DecodedTpdu
+tpduBuilt flow sequence time = record { flow = canonical flow; measurement = record { sequence = sequence; «send_timestamp_ns» = time } }
+
+-- Demand 2: "a built packet reads back to its flow, sequence and time"; also where other bytes follow it in the buffer.
+abbrev pub ReadsBack : Type 0
+ReadsBack = (flow : InnerIpFlow) (sequence time : ℕ) → InRange flow sequence time → (behind : List ℕ)
+    → readOf (buildOf flow sequence time ++ behind) ≡ gives (tpduBuilt flow sequence time)
+
+-- Its echo is the build of the reversed flow,
+abbrev pub EchoIsReversed : Type 0
+EchoIsReversed = (flow : InnerIpFlow) (sequence time : ℕ) → InRange flow sequence time → (behind : List ℕ)
+    → echoOf (buildOf flow sequence time ++ behind) ≡ gives (buildOf (reversedOf flow) sequence time)
+
+-- and the echo of its echo is the first packet.
+abbrev pub EchoOfEcho : Type 0
+EchoOfEcho = (flow : InnerIpFlow) (sequence time : ℕ) → InRange flow sequence time
+    → (echo : List ℕ) → echoOf (buildOf flow sequence time) ≡ gives echo → echoOf echo ≡ gives (buildOf flow sequence time)
+
+-- The checksums of a built packet are right by the RFCs: RFC 791's over the header, RFC 768's and RFC 8200's over pseudo-header and segment,
+-- which is never sent as 0, and as all ones where it comes to 0.
+pub record ChecksumsRight (flow : InnerIpFlow) (s t : ℕ) : Type 0 where
+  pub ipv4-header : flow .version ≡ V4 → Verifies (take 20 (buildOf flow s t))
+  pub udp : let v : IpVersion = flow .version in
+      Verifies (pseudoHeader v (address v (flow .src)) (address v (flow .dst)) 32 ++ drop (ipHeaderLength v) (buildOf flow s t))
+  pub not-zero : field 2 6 (drop (ipHeaderLength (flow .version)) (buildOf flow s t)) ≡ 0 → ⊥
+  pub all-ones : let v : IpVersion = flow .version in
+      checksumOf (pseudoHeader v (address v (flow .src)) (address v (flow .dst)) 32 ++ udpSegment 0 (flow .«src_port») (flow .«dst_port») s t) ≡ 0
+      → field 2 6 (drop (ipHeaderLength v) (buildOf flow s t)) ≡ 65535
+
+abbrev pub ChecksumsVerify : Type 0
+ChecksumsVerify = (flow : InnerIpFlow) (sequence time : ℕ) → InRange flow sequence time → ChecksumsRight flow sequence time
+
+-- Every built or echoed T-PDU. Any bytes that are not refused may have been echoed.
+pub data Sent : List ℕ → Type 0 where
+  built : (flow : InnerIpFlow) (sequence time : ℕ) → InRange flow sequence time → Sent (buildOf flow sequence time)
+  echoed : (tpdu echo : List ℕ) → Bytes tpdu → echoOf tpdu ≡ gives echo → Sent echo
+
+-- An outcome refuses, or is the one expected.
+abbrev pub RefusesOr : {A : Type 0} → Outcome A → Outcome A → Type 0
+RefusesOr (refused n) expected = Unit {0}
+RefusesOr (gives x) expected = gives x ≡ expected
+
+-- Demand 3, first sentence: on one leg, whatever one span of bits turned, "reading refuses or gives the flow, sequence and time that the leg
+-- began with, and echoing refuses or gives the echo of the undamaged T-PDU, byte for byte".
+pub record DamageOfOneLeg (sent arrived : List ℕ) : Type 0 where
+  pub reading : RefusesOr (readOf arrived) (readOf sent)
+  pub echoing : RefusesOr (echoOf arrived) (echoOf sent)
+
+abbrev pub DamageFound : Type 0
+DamageFound = (sent arrived : List ℕ) → Sent sent → Turned sent arrived → DamageOfOneLeg sent arrived
+
+-- A sent T-PDU itself is read, and echoed: so "refuses or is the same" compares with something.
+abbrev pub SentIsRead : Type 0
+SentIsRead = (sent : List ℕ) → Sent sent → (n : ℕ) → readOf sent ≡ refused n → ⊥
+
+-- A T-PDU on its way: echoed so many times, each leg from building or echoing to the next echoing or to the arrival damaged, no echo refused.
+pub data Travelled : List ℕ → ℕ → List ℕ → Type 0 where
+  arrives : {sent arrived : List ℕ} → Turned sent arrived → Travelled sent 0 arrived
+  echoes : {sent at-echo echo arrived : List ℕ} {n : ℕ} → Turned sent at-echo → echoOf at-echo ≡ gives echo → Travelled echo n arrived
+      → Travelled sent (suc n) arrived
+
+-- So many echoes with no bit turned.
+unfoldable pub echoesOf : ℕ → List ℕ → Outcome (List ℕ)
+echoesOf zero sent = gives sent
+echoesOf (suc n) sent = elim (echoOf sent) [ refused k ↦ refused k | gives echo ↦ echoesOf n echo ]
+
+-- The legs chained: what arrives is the undamaged T-PDU, echoed as often, with one span turned.
+pub record Arrival (sent arrived : List ℕ) (n : ℕ) : Type 0 where
+  pub whole : List ℕ
+  pub echoed : echoesOf n sent ≡ gives whole
+  pub is-sent : Sent whole
+  pub turned : Turned whole arrived
+
+abbrev pub LegsChained : Type 0
+LegsChained = (sent arrived : List ℕ) (n : ℕ) → Sent sent → Travelled sent n arrived → Arrival sent arrived n

@@ -1,0 +1,21 @@
+-- The echo of a T-PDU: document 01, leaf 4.
+-- Assumes nothing.
+use Prim.Native.Nat.{ℕ}
+use mathlib.Core.List.{List}
+use Rattle.error.specs.Outcome.{Outcome, refused, gives}
+use Rattle.measurement.specs.Packet.{buildOf}
+use Rattle.measurement.specs.Read.{readOf}
+use Rattle.measurement.specs.declared.DecodedTpdu.{DecodedTpdu}
+use Rattle.measurement.specs.declared.InnerIpFlow.{InnerIpFlow}
+
+-- "source and destination address and port exchanged"
+abbrev pub reversedOf : InnerIpFlow → InnerIpFlow
+reversedOf flow =
+    record { version = flow .version; src = flow .dst; dst = flow .src; «src_port» = flow .«dst_port»; «dst_port» = flow .«src_port» }
+
+-- "sequence and time kept, options and extra bytes gone": the T-PDU is built anew.
+abbrev pub echoOfTpdu : DecodedTpdu → List ℕ
+echoOfTpdu tpdu = buildOf (reversedOf (tpdu .flow)) (tpdu .measurement .sequence) (tpdu .measurement .«send_timestamp_ns»)
+
+unfoldable pub echoOf : List ℕ → Outcome (List ℕ)
+echoOf tpdu = elim (readOf tpdu) [ refused n ↦ refused n | gives t ↦ gives (echoOfTpdu t) ]

@@ -1,0 +1,116 @@
+// Measurement T-PDUs (leaves 3 and 4; the Rust's measurement.rs): the types, and what both directions share. What building, reading and
+// echoing give is defined in specs/, and proved there to fit together (specs/Claims.antt); the calls are in the crates
+// measurement_build, measurement_decode and measurement_echo.
+ghost use mathlib.Core.Path.{_≡_};
+ghost use Rattle.checksum.specs.Sum.{sumOf, foldOf};
+ghost use Rattle.measurement.specs.Packet.{address, pseudoHeader, probe};
+ghost use Rattle.measurement.specs.Echo.{reversedOf};
+
+pub enum IpVersion {
+    V4,
+    V6,
+}
+
+// An inner IP/UDP flow. Of an IPv4 address only the first 4 bytes count.
+pub struct InnerIpFlow {
+    pub version: IpVersion,
+    pub src: [u8; 16],
+    pub dst: [u8; 16],
+    pub src_port: u16,
+    pub dst_port: u16,
+}
+
+impl InnerIpFlow {
+    // The flow with source and destination exchanged.
+    pub fn reversed(self) -> Self
+        ensures { λ r. ⌜ r ≡ reversedOf self ⌝ }
+    {
+        let version = self.version;
+        let src = self.src;
+        let dst = self.dst;
+        Self {
+            version: version,
+            src: dst,
+            dst: src,
+            src_port: self.dst_port,
+            dst_port: self.src_port,
+        }
+    }
+}
+
+// What a probe carries.
+pub struct MeasurementHeader {
+    pub sequence: u64,
+    pub send_timestamp_ns: u64,
+}
+
+impl MeasurementHeader {
+    // The 24 bytes of the probe.
+    pub fn encode(self) -> [u8; 24]
+        ensures { λ r. ⌜ r ≡ probe (self .sequence) (self .«send_timestamp_ns») ⌝ }
+    {
+        let s = self.sequence;
+        let t = self.send_timestamp_ns;
+        [
+            0x4f,
+            0x50,
+            0x43,
+            0x44,
+            0x50,
+            0x54,
+            0x4b,
+            0x31,
+            ((s >> 56) % 256) as u8,
+            ((s >> 48) % 256) as u8,
+            ((s >> 40) % 256) as u8,
+            ((s >> 32) % 256) as u8,
+            ((s >> 24) % 256) as u8,
+            ((s >> 16) % 256) as u8,
+            ((s >> 8) % 256) as u8,
+            (s % 256) as u8,
+            ((t >> 56) % 256) as u8,
+            ((t >> 48) % 256) as u8,
+            ((t >> 40) % 256) as u8,
+            ((t >> 32) % 256) as u8,
+            ((t >> 24) % 256) as u8,
+            ((t >> 16) % 256) as u8,
+            ((t >> 8) % 256) as u8,
+            (t % 256) as u8,
+        ]
+    }
+}
+
+// What reading a T-PDU gives.
+pub struct DecodedTpdu {
+    pub flow: InnerIpFlow,
+    pub measurement: MeasurementHeader,
+}
+
+// Whether a T-PDU was read.
+pub enum Decoding {
+    Accepted,
+    Refused(u8),
+}
+
+// The reader's answer. The flow has arrays, so it stands beside the enum, and is all zeros beside a refusal.
+pub struct DecodeResult {
+    pub decoding: Decoding,
+    pub tpdu: DecodedTpdu,
+}
+
+// The answer of a call that writes a T-PDU into a lent buffer: how many bytes, or why none.
+pub enum Written {
+    Bytes(usize),
+    Refused(u8),
+}
+
+// The folded sum of the pseudo-header of a UDP checksum: RFC 768; RFC 8200, section 8.1.
+pub fn pseudo_header_sum(version: IpVersion, src: [u8; 16], dst: [u8; 16], udp_length: u16) -> u16
+    ensures { λ r. ⌜ r ≡ foldOf (sumOf (pseudoHeader version (address version src) (address version dst) «udp_length»)) ⌝ }
+{
+    let start = checksum::fold(17 + (udp_length as u32));
+    match version {
+        IpVersion::V4 => checksum::sum(checksum::sum(start, &src[..4]), &dst[..4]),
+        IpVersion::V6 => checksum::sum(checksum::sum(start, &src), &dst),
+    }
+}

@@ -1,0 +1,87 @@
+-- A header and a segment in a buffer are the whole T-PDU of the definitions.
+-- Assumes nothing.
+use Prim.Native.Nat.{ℕ, _+_, _-_, _%_, _<_, _≤_}
+use native.Mathlib.Omega.{arith}
+use mathlib.Core.Path.{_≡_, refl, sym, ap, ap₂, _∙_}
+use mathlib.Core.List.{List, [], _∷_, _++_}
+use lib.ListN.{length, take, drop, length-append}
+use borrow.Author.Tests.{lt-ltb, le-ltb}
+use Rattle.error.specs.Outcome.{Outcome, refused, gives}
+use Rattle.field.specs.Field.{bytesAt}
+use Rattle.field.proofs.Fields.{length-bytesAt}
+use Rattle.field.proofs.Parts.{laid}
+use Rattle.checksum.specs.Sum.{sumOf, foldOf, checksumOf}
+use Rattle.checksum.proofs.Carries.{fold-add}
+use Rattle.checksum.proofs.Sums.{sum-append}
+use Rattle.measurement.specs.Packet.{addressLength, address, ipHeader, ipHeaderLength, pseudoHeader, udp, udpSegment, nonzero, buildOf}
+use Rattle.measurement.specs.Answer.{Writing, writing}
+use Rattle.measurement.specs.declared.InnerIpFlow.{InnerIpFlow}
+use Rattle.measurement.specs.declared.IpVersion.{IpVersion}
+use Rattle.measurement.proofs.Built.{header-length, packet-even, segment-length}
+use Rattle.measurement_build.specs.Segment.{segmentOver}
+
+abbrev pair : Outcome ℕ → List ℕ → Writing
+pair o b = record { outcome = o; buffer = b }
+
+writing-short : (b out : List ℕ) → length out < length b → pair (refused 15) out ≡ writing b out
+unfolding writing
+writing-short b out h = rw (lt-ltb (length out) (length b) h, writing)
+
+pub writing-fits : (b out : List ℕ) → length b ≤ length out → pair (gives (length b)) (b ++ drop (length b) out) ≡ writing b out
+unfolding writing
+writing-fits b out h = rw (le-ltb (length out) (length b) h, writing)
+
+module _ (f : InnerIpFlow) (s t : ℕ) (v : IpVersion) (e : f .version ≡ v) where
+  abbrev source : List ℕ
+  source = bytesAt (addressLength v) 0 (f .src)
+
+  abbrev destination : List ℕ
+  destination = bytesAt (addressLength v) 0 (f .dst)
+
+  abbrev pseudo : List ℕ
+  pseudo = pseudoHeader v (bytesAt (addressLength v) 0 (f .src)) (bytesAt (addressLength v) 0 (f .dst)) 32
+
+  even : length pseudo % 2 ≡ 0
+  even = packet-even v (f .src) (f .dst) (f .«src_port») (f .«dst_port») s t
+
+  abbrev segment : List ℕ
+  segment = udp pseudo (f .«src_port») (f .«dst_port») s t
+
+  build-is : buildOf f s t ≡ ipHeader v source destination ++ segment
+  unfolding buildOf address
+  build-is =
+      ap (λ (w : IpVersion). ipHeader w (bytesAt (addressLength w) 0 (f .src)) (bytesAt (addressLength w) 0 (f .dst))
+      ++ udp (pseudoHeader w (bytesAt (addressLength w) 0 (f .src)) (bytesAt (addressLength w) 0 (f .dst)) 32) (f .«src_port») (f .«dst_port») s t) e
+
+  pub build-length : length (buildOf f s t) ≡ ipHeaderLength v + 32
+  build-length =
+      ap length build-is ∙ length-append (ipHeader v source destination) segment
+      ∙ ap₂ (λ (a b : ℕ). a + b) (header-length v (f .src) (f .dst)) (segment-length pseudo even (f .«src_port») (f .«dst_port») s t)
+
+  -- over the pseudo-header's sum, or over its bytes
+  over : {p : ℕ} → p ≡ foldOf (sumOf pseudo) → segmentOver p (f .«src_port») (f .«dst_port») s t ≡ segment
+  unfolding segmentOver udp checksumOf
+  over {p} ep =
+      let u = udpSegment 0 (f .«src_port») (f .«dst_port») s t in
+      ap (λ (n : ℕ). udpSegment (nonzero (65535 - n)) (f .«src_port») (f .«dst_port») s t)
+      (ap (λ (n : ℕ). foldOf (n + sumOf u)) ep ∙ fold-add (sumOf pseudo) (sumOf u) ∙ ap foldOf (sym (sum-append pseudo u even)))
+
+  pub too-short : (out : List ℕ) → length out < ipHeaderLength v + 32 → pair (refused 15) out ≡ writing (buildOf f s t) out
+  too-short out h = writing-short (buildOf f s t) out (omega (arith, build-length))
+
+  pub built : (out part whole : List ℕ) (p : ℕ) → ipHeaderLength v + 32 ≤ length out
+      → whole ≡ ipHeader v source destination ++ drop (ipHeaderLength v) out
+      → p ≡ foldOf (sumOf (pseudoHeader (f .version) (address (f .version) (f .src)) (address (f .version) (f .dst)) 32))
+      → part ≡ segmentOver p (f .«src_port») (f .«dst_port») s t ++ drop 32 (take (length whole - ipHeaderLength v) (drop (ipHeaderLength v) whole))
+      → pair (gives (ipHeaderLength v + 32)) (take (ipHeaderLength v) whole ++ (part ++ drop (length whole - ipHeaderLength v) (drop (ipHeaderLength v) whole)))
+      ≡ writing (buildOf f s t) out
+  unfolding address
+  built out part whole p h ew ep eq =
+      let same : p ≡ foldOf (sumOf pseudo) =
+      ep ∙ ap (λ (w : IpVersion). foldOf (sumOf (pseudoHeader w (bytesAt (addressLength w) 0 (f .src)) (bytesAt (addressLength w) 0 (f .dst)) 32))) e in
+      let q = eq ∙ ap (λ (x : List ℕ). x ++ drop 32 (take (length whole - ipHeaderLength v) (drop (ipHeaderLength v) whole))) (over same) in
+      let w = laid (ipHeader v source destination) segment out part whole (ipHeaderLength v) 32 (header-length v (f .src) (f .dst))
+      (segment-length pseudo even (f .«src_port») (f .«dst_port») s t) h ew q in
+      ap (pair (gives (ipHeaderLength v + 32))) w
+      ∙ ap₂ (λ (n : ℕ) (b : List ℕ). pair (gives n) (b ++ drop n out)) (sym build-length) (sym build-is)
+      ∙ writing-fits (buildOf f s t) out (omega (arith, build-length))

@@ -1,0 +1,166 @@
+-- `measurement_build::write_ipv4_header` meets its contract.
+-- Assumes nothing.
+use native.Mathlib.Omega.{arith}
+use native.Mathlib.Nat.{min-eq-left}
+use lib.ListN.{length-set, length-take}
+use Rattle.measurement_build.proofs.Headers.{ipv4-stored}
+use borrow.Author.Needs.{needs}
+use Rattle.measurement_build.proofs.write_ipv4_header.Statement.{statement}
+use Rattle.measurement_build.proofs.write_ipv4_header.Tie as tie
+
+slice-write-out : tie.Need-slice-write-out
+slice-write-out c = search needs
+
+slice-write-out-2 : tie.Need-slice-write-out-2
+slice-write-out-2 c = simp length-set (omega arith)
+
+slice-write-out-3 : tie.Need-slice-write-out-3
+slice-write-out-3 c = simp length-set (omega arith)
+
+slice-write-out-4 : tie.Need-slice-write-out-4
+slice-write-out-4 c = simp length-set (omega arith)
+
+slice-write-out-5 : tie.Need-slice-write-out-5
+slice-write-out-5 c = simp length-set (omega arith)
+
+slice-write-out-6 : tie.Need-slice-write-out-6
+slice-write-out-6 c = simp length-set (omega arith)
+
+slice-write-out-7 : tie.Need-slice-write-out-7
+slice-write-out-7 c = simp length-set (omega arith)
+
+slice-write-out-8 : tie.Need-slice-write-out-8
+slice-write-out-8 c = simp length-set (omega arith)
+
+slice-write-out-9 : tie.Need-slice-write-out-9
+slice-write-out-9 c = simp length-set (omega arith)
+
+slice-write-out-10 : tie.Need-slice-write-out-10
+slice-write-out-10 c = simp length-set (omega arith)
+
+slice-write-out-11 : tie.Need-slice-write-out-11
+slice-write-out-11 c = simp length-set (omega arith)
+
+slice-write-out-12 : tie.Need-slice-write-out-12
+slice-write-out-12 c = simp length-set (omega arith)
+
+array-read-out : tie.Need-array-read-out
+array-read-out c = search needs
+
+slice-write-out-13 : tie.Need-slice-write-out-13
+slice-write-out-13 c = simp length-set (omega arith)
+
+array-read-out-2 : tie.Need-array-read-out-2
+array-read-out-2 c = search needs
+
+slice-write-out-14 : tie.Need-slice-write-out-14
+slice-write-out-14 c = simp length-set (omega arith)
+
+array-read-out-3 : tie.Need-array-read-out-3
+array-read-out-3 c = search needs
+
+slice-write-out-15 : tie.Need-slice-write-out-15
+slice-write-out-15 c = simp length-set (omega arith)
+
+array-read-out-4 : tie.Need-array-read-out-4
+array-read-out-4 c = search needs
+
+slice-write-out-16 : tie.Need-slice-write-out-16
+slice-write-out-16 c = simp length-set (omega arith)
+
+array-read-out-5 : tie.Need-array-read-out-5
+array-read-out-5 c = search needs
+
+slice-write-out-17 : tie.Need-slice-write-out-17
+slice-write-out-17 c = simp length-set (omega arith)
+
+array-read-out-6 : tie.Need-array-read-out-6
+array-read-out-6 c = search needs
+
+slice-write-out-18 : tie.Need-slice-write-out-18
+slice-write-out-18 c = simp length-set (omega arith)
+
+array-read-out-7 : tie.Need-array-read-out-7
+array-read-out-7 c = search needs
+
+slice-write-out-19 : tie.Need-slice-write-out-19
+slice-write-out-19 c = simp length-set (omega arith)
+
+array-read-out-8 : tie.Need-array-read-out-8
+array-read-out-8 c = search needs
+
+slice-write-out-20 : tie.Need-slice-write-out-20
+slice-write-out-20 c = simp length-set (omega arith)
+
+slice-reshare-prefix-checksum : tie.Need-slice-reshare-prefix-checksum
+slice-reshare-prefix-checksum c = simp length-set (omega arith)
+
+slice-aggregate-checksum : tie.Need-slice-aggregate-checksum
+slice-aggregate-checksum c = simp (length-take, length-set) (omega (arith, min-eq-left (c .before .before .pre)))
+
+checksum-requires : tie.Need-checksum-requires
+checksum-requires c κs = search needs
+
+high-requires : tie.Need-high-requires
+high-requires c κs = search needs
+
+slice-write-out-21 : tie.Need-slice-write-out-21
+slice-write-out-21 c = simp length-set (omega arith)
+
+low-requires : tie.Need-low-requires
+low-requires c κs = search needs
+
+slice-write-out-22 : tie.Need-slice-write-out-22
+slice-write-out-22 c = simp length-set (omega arith)
+
+same-length : tie.Need-same-length
+same-length c = simp length-set
+
+returns : tie.Need-returns
+returns c =
+    let at-sum = c .before .before in
+    let s = at-sum .before .before .before in
+    ipv4-stored (s .args .t1) (s .args .t2) (s .args .out .now) (at-sum .checksum .result) (c .before .high .result) (c .low .result) (s .pre)
+    (at-sum .checksum .ensures) (c .before .high .ensures) (c .low .ensures)
+
+pub write-ipv4-header-spec : {M : Type 1} → statement M
+write-ipv4-header-spec =
+    tie.close
+    (tie.spec
+    slice-write-out
+    slice-write-out-2
+    slice-write-out-3
+    slice-write-out-4
+    slice-write-out-5
+    slice-write-out-6
+    slice-write-out-7
+    slice-write-out-8
+    slice-write-out-9
+    slice-write-out-10
+    slice-write-out-11
+    slice-write-out-12
+    array-read-out
+    slice-write-out-13
+    array-read-out-2
+    slice-write-out-14
+    array-read-out-3
+    slice-write-out-15
+    array-read-out-4
+    slice-write-out-16
+    array-read-out-5
+    slice-write-out-17
+    array-read-out-6
+    slice-write-out-18
+    array-read-out-7
+    slice-write-out-19
+    array-read-out-8
+    slice-write-out-20
+    slice-reshare-prefix-checksum
+    slice-aggregate-checksum
+    checksum-requires
+    high-requires
+    slice-write-out-21
+    low-requires
+    slice-write-out-22
+    same-length
+    returns)

@@ -1,0 +1,2 @@
+-- A segment over the sum of its pseudo-header.
+pub mod Segment

@@ -1,0 +1,2 @@
+-- The laws that the reader's functions cite.
+pub mod Laws

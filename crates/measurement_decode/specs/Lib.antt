@@ -1,0 +1,2 @@
+-- What the reader's helpers are handed.
+pub mod Part

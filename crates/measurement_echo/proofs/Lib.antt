@@ -1,0 +1,2 @@
+-- The laws of the block and of the echo.
+pub mod Block

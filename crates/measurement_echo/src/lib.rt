@@ -1,0 +1,58 @@
+// The echo of a measurement T-PDU (leaf 4; `echo_tpdu` of the Rust's measurement.rs).
+use measurement::Decoding;
+use measurement::InnerIpFlow;
+use measurement::Written;
+ghost use mathlib.Core.Path.{_≡_};
+ghost use Rattle.measurement.specs.Packet.{buildOf};
+ghost use Rattle.measurement.specs.Echo.{echoOf};
+ghost use Rattle.measurement.specs.Answer.{wrote, writing, writingOf};
+
+// A T-PDU made in a block of 72 zero bytes, whose bytes are then copied out: where they do not fit, the output is untouched.
+fn write_from_block(
+    flow: InnerIpFlow,
+    sequence: u64,
+    send_timestamp_ns: u64,
+    out: &mut [u8],
+) -> Written
+    ensures { λ r. ⌜ wrote r (now (out .exit)) ≡ writing (buildOf flow sequence «send_timestamp_ns») (now (out .entry)) ⌝ }
+{
+    let mut block = [0; 72];
+    let built = measurement_build::build_measurement_tpdu(
+        flow,
+        sequence,
+        send_timestamp_ns,
+        &mut block,
+    );
+    match built {
+        Written::Refused(number) => Written::Refused(number),
+        Written::Bytes(n) => {
+            if out.len() < n {
+                return Written::Refused(error::OUTPUT_TOO_SHORT);
+            }
+            bytes::copy(&block[..n], out);
+            Written::Bytes(n)
+        }
+    }
+}
+
+// Reads a T-PDU and writes its echo to the front of `out`: source and destination exchanged, sequence and time kept.
+pub fn echo_tpdu(tpdu: &[u8], out: &mut [u8]) -> Written
+    ensures { λ r. ⌜ wrote r (now (out .exit)) ≡ writingOf (echoOf (now (tpdu .entry))) (now (out .entry)) ⌝ }
+{
+    let read = measurement_decode::decode_measurement_tpdu(tpdu);
+    let decoding = read.decoding;
+    match decoding {
+        Decoding::Refused(number) => Written::Refused(number),
+        Decoding::Accepted => {
+            let decoded = read.tpdu;
+            let flow = decoded.flow;
+            let header = decoded.measurement;
+            write_from_block(
+                flow.reversed(),
+                header.sequence,
+                header.send_timestamp_ns,
+                out,
+            )
+        }
+    }
+}
