@@ -7,6 +7,7 @@ use testkit_open::evidence::PacketContinuityBudget;
 use testkit_open::traffic::TrafficPlan;
 
 use crate::numbers::{NO_TEID_ELEMENT, RATE_TOO_HIGH};
+use crate::packet::{self, IPV4_HEADER_CHECKSUM_AT, IPV4_UDP_CHECKSUM_AT, IPV6_UDP_CHECKSUM_AT};
 use crate::part::{Part, Word};
 use crate::rust_side::gtpu::validate_error_indication_ies;
 use crate::rust_side::measurement::{build, decode, echo, Flow, Probe};
@@ -14,11 +15,6 @@ use crate::rust_side::traffic::{generate, interval, Observer};
 
 /// Window ends for the cases that hold at every one.
 const WINDOW_ENDS: [u64; 7] = [0, 10, 15, 40, 41, 100, u64::MAX];
-
-/// Where the checksums stand.
-const IPV4_HEADER_CHECKSUM_AT: usize = 10;
-const IPV4_UDP_CHECKSUM_AT: usize = 26;
-const IPV6_UDP_CHECKSUM_AT: usize = 46;
 
 pub fn worked_cases() -> Part {
     let mut part = Part::new("worked cases on the Rust", "cases");
@@ -129,6 +125,6 @@ fn longest_run(observer: &Observer, window_end: u64) -> (u64, u64) {
     )
 }
 
-fn word(bytes: &[u8], at: usize) -> Word {
-    Word(u16::from_be_bytes([bytes[at], bytes[at + 1]]))
+fn word(tpdu: &[u8], at: usize) -> Word {
+    Word(packet::word(tpdu, at))
 }

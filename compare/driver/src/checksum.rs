@@ -4,9 +4,9 @@
 //! wrong for 131,075 of 0xff. Longer lists are held against `model`, which is held against the
 //! Rust below that length.
 
-use std::ops::RangeInclusive;
-
 use crate::cases::ipv4_probe;
+use crate::damage::{each_damage, excluded, turn, window, window_starts};
+use crate::lists::each_list;
 use crate::ours;
 use crate::part::{Part, Word};
 use crate::random::Random;
@@ -90,18 +90,9 @@ pub fn damaged_header() -> Part {
         let mut header = tpdu[..length].to_vec();
         place_checksum(&mut header, 10);
         part.case(&header, verdicts(&header), Verdicts::ACCEPTED);
-        let starts = window_starts(0, length);
-        for start in starts.clone() {
-            // Each set of bits once: in the window that starts with it, or in the last one.
-            let first_mask = if start < *starts.end() { 0x8000 } else { 1 };
-            for mask in first_mask..=0xffff {
-                if !excluded(&header, start, mask) {
-                    turn(&mut header, start, mask);
-                    part.case(&header, verdicts(&header), Verdicts::REFUSED);
-                    turn(&mut header, start, mask);
-                }
-            }
-        }
+        each_damage(&header, |damaged| {
+            part.case(damaged, verdicts(damaged), Verdicts::REFUSED);
+        });
     }
     part
 }
@@ -240,45 +231,4 @@ fn place_checksum(list: &mut [u8], at: usize) {
     list[at..at + 2].fill(0);
     let checksum = ours::checksum(list);
     list[at..at + 2].copy_from_slice(&checksum.to_be_bytes());
-}
-
-/// Calls `each` with every list of these lengths that has all its bytes in `alphabet`.
-fn each_list(alphabet: &[u8], lengths: RangeInclusive<u32>, mut each: impl FnMut(&[u8])) {
-    for length in lengths {
-        let mut list = vec![0; length as usize];
-        for number in 0..alphabet.len().pow(length) {
-            let mut digits = number;
-            for byte in &mut list {
-                *byte = alphabet[digits % alphabet.len()];
-                digits /= alphabet.len();
-            }
-            each(&list);
-        }
-    }
-}
-
-/// Where 16 neighbouring bits may start, counted in bits, most significant first, in the bytes
-/// from `first` to `length`. Any damage of at most 16 neighbouring bits is within such a window.
-fn window_starts(first: usize, length: usize) -> RangeInclusive<usize> {
-    8 * first..=8 * length - 16
-}
-
-/// The 16 bits from `start` on.
-fn window(list: &[u8], start: usize) -> u16 {
-    let byte = |index| u32::from(*list.get(start / 8 + index).unwrap_or(&0));
-    let bits = byte(0) << 16 | byte(1) << 8 | byte(2);
-    (bits >> (8 - start % 8)) as u16
-}
-
-/// Turns those of the 16 bits from `start` on that are set in `mask`.
-fn turn(list: &mut [u8], start: usize, mask: u16) {
-    let turned = u32::from(mask) << (16 - start % 8);
-    for (byte, bits) in list[start / 8..].iter_mut().zip(turned.to_be_bytes()) {
-        *byte ^= bits;
-    }
-}
-
-/// Whether this damage is the one that is excluded: 16 equal bits, all turned.
-fn excluded(list: &[u8], start: usize, mask: u16) -> bool {
-    mask == 0xffff && matches!(window(list, start), 0 | 0xffff)
 }

@@ -11,6 +11,8 @@ pub struct Part {
     unit: &'static str,
     cases: u64,
     differences: u64,
+    /// What else is to be printed.
+    note: String,
     /// Of all differences the one with the shortest input, the first of several: its length
     /// and what is printed.
     shortest: Option<(usize, String)>,
@@ -23,6 +25,7 @@ impl Part {
             unit,
             cases: 0,
             differences: 0,
+            note: String::new(),
             shortest: None,
         }
     }
@@ -42,6 +45,11 @@ impl Part {
             let text = format!("{answer:?} instead of {expected:?} on {}", hex(input));
             self.shortest = Some((input.len(), text));
         }
+    }
+
+    /// Prints this below the part's line.
+    pub fn note(&mut self, note: String) {
+        self.note = note;
     }
 
     pub fn cases(&self) -> u64 {
@@ -66,6 +74,9 @@ impl fmt::Display for Part {
             "{}: {cases} {}, {differences} differences",
             self.name, self.unit
         )?;
+        if !self.note.is_empty() {
+            write!(f, "\n  {}", self.note)?;
+        }
         if let Some((_, text)) = &self.shortest {
             write!(f, "\n  FAILED: {text}")?;
         } else if self.failed() {
@@ -82,6 +93,16 @@ pub struct Word(pub u16);
 impl fmt::Debug for Word {
     fn fmt(&self, f: &mut fmt::Formatter<'_>) -> fmt::Result {
         write!(f, "{:#06x}", self.0)
+    }
+}
+
+/// Bytes of a packet, which are printed in hexadecimal.
+#[derive(Clone, Copy, PartialEq, Eq)]
+pub struct Bytes<T>(pub T);
+
+impl<T: AsRef<[u8]>> fmt::Debug for Bytes<T> {
+    fn fmt(&self, f: &mut fmt::Formatter<'_>) -> fmt::Result {
+        f.write_str(&hex(self.0.as_ref()))
     }
 }
 

@@ -1,11 +1,64 @@
 // The C interface: each public call under the prefix `testkit_`, on numbers and lent buffers, with the call's own contract. A slice
-// passes as a pointer and a length.
+// passes as a pointer and a length, an address as a pointer to 16 bytes. A refusal is its number, and 0 is none.
+use measurement::Decoding;
+use measurement::InnerIpFlow;
+use measurement::IpVersion;
+use measurement::Written;
 ghost use mathlib.Core.Path.{_≡_};
 ghost use Prim.Native.Nat.{_+_};
 ghost use mathlib.Core.Bool.{true};
 ghost use lib.Dec.{eqb};
 ghost use Rattle.checksum.specs.Sum.{sumOf, foldOf, checksumOf};
 ghost use Rattle.checksum.specs.Claims.{Undamaged};
+ghost use Rattle.measurement.specs.Packet.{buildOf};
+ghost use Rattle.measurement.specs.Read.{readOf};
+ghost use Rattle.measurement.specs.Echo.{echoOf};
+ghost use Rattle.measurement.specs.Answer.{writtenMeans, writing, writingOf, decodeResult};
+ghost use Rattle.exports.specs.Interface.{versionNumbered, versionNumber, flowOf, writtenNumbers, decodingNumber, tpduNumbers};
+
+// What a call that writes into a lent buffer answers: 0 and how many bytes it wrote, or a refusal's number and 0 bytes.
+#[repr(C)]
+pub struct TestkitWritten {
+    pub number: u8,
+    pub bytes: usize,
+}
+
+// What reading answers: 0 and the values, or a refusal's number and zeros. `version` is 4 or 6.
+#[repr(C)]
+pub struct TestkitTpdu {
+    pub number: u8,
+    pub version: u8,
+    pub src_port: u16,
+    pub dst_port: u16,
+    pub sequence: u64,
+    pub send_timestamp_ns: u64,
+}
+
+// The version that a number stands for: 4 is IPv4, every other number IPv6. The card has no number for a third.
+fn version_of(number: u8) -> IpVersion
+    ensures { λ r. ⌜ r ≡ versionNumbered number ⌝ }
+{
+    if number == 4 {
+        return IpVersion::V4;
+    }
+    IpVersion::V6
+}
+
+// A writer's answer in numbers.
+fn written_numbers(answer: Written) -> TestkitWritten
+    ensures { λ r. ⌜ r ≡ writtenNumbers (writtenMeans answer) ⌝ }
+{
+    match answer {
+        Written::Bytes(n) => TestkitWritten {
+            number: 0,
+            bytes: n,
+        },
+        Written::Refused(number) => TestkitWritten {
+            number: number,
+            bytes: 0,
+        },
+    }
+}
 
 // `checksum::sum`
 #[no_mangle]
@@ -30,4 +83,88 @@ pub extern "C" fn testkit_verify(bytes: &[u8]) -> bool
     ensures found { λ r. ⌜ (r ≡ true → Undamaged (now (bytes .entry))) ⌝ }
 {
     checksum::verify(bytes)
+}
+
+fn version_number(version: IpVersion) -> u8
+    ensures { λ r. ⌜ r ≡ versionNumber version ⌝ }
+{
+    match version {
+        IpVersion::V4 => 4,
+        IpVersion::V6 => 6,
+    }
+}
+
+fn decoding_number(decoding: Decoding) -> u8
+    ensures { λ r. ⌜ r ≡ decodingNumber decoding ⌝ }
+{
+    match decoding {
+        Decoding::Accepted => 0,
+        Decoding::Refused(number) => number,
+    }
+}
+
+// `measurement_build::build_measurement_tpdu`
+#[no_mangle]
+pub extern "C" fn testkit_build(
+    version: u8,
+    src: &[u8; 16],
+    dst: &[u8; 16],
+    src_port: u16,
+    dst_port: u16,
+    sequence: u64,
+    send_timestamp_ns: u64,
+    out: &mut [u8],
+) -> TestkitWritten
+    ensures answer { λ r. ⌜ r ≡ writtenNumbers (writing (buildOf (flowOf version (now (src .entry)) (now (dst .entry)) «src_port» «dst_port») sequence «send_timestamp_ns») (now (out .entry)) .outcome) ⌝ }
+    ensures buffer { λ _. ⌜ now (out .exit) ≡ writing (buildOf (flowOf version (now (src .entry)) (now (dst .entry)) «src_port» «dst_port») sequence «send_timestamp_ns») (now (out .entry)) .buffer ⌝ }
+{
+    let flow = InnerIpFlow {
+        version: version_of(version),
+        src: *src,
+        dst: *dst,
+        src_port: src_port,
+        dst_port: dst_port,
+    };
+    written_numbers(measurement_build::build_measurement_tpdu(
+        flow,
+        sequence,
+        send_timestamp_ns,
+        out,
+    ))
+}
+
+// `measurement_echo::echo_tpdu`
+#[no_mangle]
+pub extern "C" fn testkit_echo(tpdu: &[u8], out: &mut [u8]) -> TestkitWritten
+    ensures answer { λ r. ⌜ r ≡ writtenNumbers (writingOf (echoOf (now (tpdu .entry))) (now (out .entry)) .outcome) ⌝ }
+    ensures buffer { λ _. ⌜ now (out .exit) ≡ writingOf (echoOf (now (tpdu .entry))) (now (out .entry)) .buffer ⌝ }
+{
+    written_numbers(measurement_echo::echo_tpdu(tpdu, out))
+}
+
+// `measurement_decode::decode_measurement_tpdu`
+#[no_mangle]
+pub extern "C" fn testkit_decode(tpdu: &[u8], src: &mut [u8; 16], dst: &mut [u8; 16]) -> TestkitTpdu
+    ensures answer { λ r. ⌜ r ≡ tpduNumbers (decodeResult (readOf (now (tpdu .entry)))) ⌝ }
+    ensures source { λ _. ⌜ now (src .exit) ≡ decodeResult (readOf (now (tpdu .entry))) .tpdu .flow .src ⌝ }
+    ensures destination { λ _. ⌜ now (dst .exit) ≡ decodeResult (readOf (now (tpdu .entry))) .tpdu .flow .dst ⌝ }
+{
+    let read = measurement_decode::decode_measurement_tpdu(tpdu);
+    let decoding = read.decoding;
+    let decoded = read.tpdu;
+    let flow = decoded.flow;
+    let header = decoded.measurement;
+    let version = flow.version;
+    let source = flow.src;
+    let destination = flow.dst;
+    *src = source;
+    *dst = destination;
+    TestkitTpdu {
+        number: decoding_number(decoding),
+        version: version_number(version),
+        src_port: flow.src_port,
+        dst_port: flow.dst_port,
+        sequence: header.sequence,
+        send_timestamp_ns: header.send_timestamp_ns,
+    }
 }

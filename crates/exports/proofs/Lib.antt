@@ -1,0 +1,2 @@
+-- The laws of the C interface.
+pub mod Calls

@@ -1,0 +1,49 @@
+-- How the C interface puts values: a version as a number, an outcome as a number and values beside it.
+-- Assumes nothing.
+use Prim.Native.Nat.{ℕ}
+use mathlib.Core.List.{List}
+use mathlib.Core.Bool.{true, false}
+use lib.Dec.{eqb}
+use Rattle.error.specs.Outcome.{Outcome, refused, gives}
+use Rattle.measurement.specs.declared.DecodeResult.{DecodeResult}
+use Rattle.measurement.specs.declared.DecodedTpdu.{DecodedTpdu}
+use Rattle.measurement.specs.declared.Decoding.{Decoding}
+use Rattle.measurement.specs.declared.Decoding.the-variants as decoding
+use Rattle.measurement.specs.declared.InnerIpFlow.{InnerIpFlow}
+use Rattle.measurement.specs.declared.IpVersion.{IpVersion}
+use Rattle.measurement.specs.declared.IpVersion.the-variants.{V4, V6}
+use Rattle.exports.specs.declared.TestkitTpdu.{TestkitTpdu}
+use Rattle.exports.specs.declared.TestkitWritten.{TestkitWritten}
+
+-- 4 stands for IPv4, and every other number for IPv6: the card has no number for a third version.
+unfoldable pub versionNumbered : ℕ → IpVersion
+versionNumbered n = elim (eqb n 4) [ true ↦ V4 | false ↦ V6 ]
+
+abbrev pub versionNumber : IpVersion → ℕ
+versionNumber V4 = 4
+versionNumber V6 = 6
+
+abbrev pub flowOf : ℕ → List ℕ → List ℕ → ℕ → ℕ → InnerIpFlow
+flowOf version src dst sourcePort destinationPort =
+    record { version = versionNumbered version; src = src; dst = dst; «src_port» = sourcePort; «dst_port» = destinationPort }
+
+-- 0 and the count of bytes, or a refusal's number and 0 bytes.
+abbrev pub writtenNumbers : Outcome ℕ → TestkitWritten
+writtenNumbers (refused n) = record { number = n; bytes = 0 }
+writtenNumbers (gives bytes) = record { number = 0; bytes = bytes }
+
+-- 0 where a T-PDU was read, or a refusal's number.
+abbrev pub decodingNumber : Decoding → ℕ
+decodingNumber decoding.Accepted = 0
+decodingNumber (decoding.Refused n) = n
+
+-- What reading answers, without the addresses, which go into lent arrays.
+abbrev pub tpduNumbers : DecodeResult → TestkitTpdu
+tpduNumbers r = record {
+  number = decodingNumber (r .decoding);
+  version = versionNumber (r .tpdu .flow .version);
+  «src_port» = r .tpdu .flow .«src_port»;
+  «dst_port» = r .tpdu .flow .«dst_port»;
+  sequence = r .tpdu .measurement .sequence;
+  «send_timestamp_ns» = r .tpdu .measurement .«send_timestamp_ns»;
+}

@@ -1,0 +1,2 @@
+-- How the C interface puts values.
+pub mod Interface
