@@ -32,3 +32,36 @@ pub struct LatencySummary {
     pub max_ns: u64,
     pub avg_ns: u64,
 }
+
+// The latencies, or none where no packet returned.
+pub enum Latency {
+    Absent,
+    Summary(LatencySummary),
+}
+
+// The report on a run: its numbers and two verdicts (leaf 7 says how each comes about).
+pub struct PacketContinuityReport {
+    // The measurement window.
+    pub window_start_ns: u64,
+    pub window_end_ns: u64,
+    // Sequences that were sent, that returned, and the difference.
+    pub sent_packets: u64,
+    pub received_packets: u64,
+    pub lost_packets: u64,
+    // Returns of a sequence that had returned before.
+    pub duplicate_packets: u64,
+    // First returns of a sequence below one that had returned before.
+    pub out_of_order_packets: u64,
+    // Error Indications on the return path.
+    pub gtpu_error_indications: u64,
+    // The longest run of lost packets by count, and the longest by duration: not always the same run.
+    pub max_consecutive_lost_packets: u64,
+    pub max_gap_duration_ns: u64,
+    pub latency: Latency,
+    // What the run was held to.
+    pub budget: PacketContinuityBudget,
+    // Some packet returned.
+    pub forwarding_proven: bool,
+    // The losses are within the budget, and there was no Error Indication.
+    pub packet_continuity_proven: bool,
+}

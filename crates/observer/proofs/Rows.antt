@@ -1,0 +1,144 @@
+-- Rows and columns: the used rows are the fronts of the columns, and what `withRows` writes, column by column, as stores and insertions.
+-- Assumes nothing.
+use Prim.Native.Nat.{ℕ, zero, suc, _+_, _-_, _≤_, _<_}
+use mathlib.Core.Path.{_≡_, refl, sym, ap, _∙_}
+use mathlib.Core.List.{List, [], _∷_, _++_, map, append-assoc}
+use native.Mathlib.Nat.{not-suc-le-zero, le-of-suc-le-suc}
+use native.Mathlib.Omega.{arith}
+use lib.ListN.{length, getD, set, take, drop, take-append-drop, length-set, length-take, length-map, length-append, length-drop}
+use lib.Seq.{set-append-left, map-set-same, take-take, take-append-seam, getD-take, slice}
+use Rattle.observer.specs.Counts.{withUsed}
+use Rattle.observer.specs.Observer.{Row, Observer, capacity, rowsOf, rows, sentRow, rowAt, column, withRows}
+use Rattle.observer.specs.Columns.{inserted}
+
+-- ---- how many rows there is room for
+
+-- every column has this many entries, and the capacity is no less
+pub record Within (n : ℕ) (o : Observer) : Type 0 where
+  pub sequences : n ≤ length (o .sequences)
+  pub sendTimes : n ≤ length (o .sendTimes)
+  pub latencies : n ≤ length (o .latencies)
+  pub marks : n ≤ length (o .marks)
+  pub most : n ≤ 2048
+
+pub within : (n : ℕ) (o : Observer) → n ≤ capacity o → Within n o
+unfolding capacity
+within n o h = record { sequences = omega arith; sendTimes = omega arith; latencies = omega arith; marks = omega arith; most = omega arith }
+
+-- ---- the used rows
+
+-- each field of the rows is the front of its column
+pub record Fronts (n : ℕ) (rs : List Row) (a b c d : List ℕ) : Type 0 where
+  pub count : length rs ≡ n
+  pub sequences : map (λ r. r .sequence) rs ≡ take n a
+  pub sendTimes : map (λ r. r .sent) rs ≡ take n b
+  pub latencies : map (λ r. r .latency) rs ≡ take n c
+  pub marks : map (λ r. r .mark) rs ≡ take n d
+
+fronts : (n : ℕ) (a b c d : List ℕ) → n ≤ length a → n ≤ length b → n ≤ length c → n ≤ length d → Fronts n (take n (rowsOf a b c d)) a b c d
+fronts zero a b c d h i j k = record { count = refl; sequences = refl; sendTimes = refl; latencies = refl; marks = refl }
+fronts (suc n) [] b c d h i j k = absurd (not-suc-le-zero h)
+fronts (suc n) (q ∷ a) [] c d h i j k = absurd (not-suc-le-zero i)
+fronts (suc n) (q ∷ a) (t ∷ b) [] d h i j k = absurd (not-suc-le-zero j)
+fronts (suc n) (q ∷ a) (t ∷ b) (l ∷ c) [] h i j k = absurd (not-suc-le-zero k)
+fronts (suc n) (q ∷ a) (t ∷ b) (l ∷ c) (m ∷ d) h i j k =
+    let f = fronts n a b c d (le-of-suc-le-suc h) (le-of-suc-le-suc i) (le-of-suc-le-suc j) (le-of-suc-le-suc k) in
+    record {
+      count = ap suc (f .count);
+      sequences = ap (λ (x : List ℕ). q ∷ x) (f .sequences);
+      sendTimes = ap (λ (x : List ℕ). t ∷ x) (f .sendTimes);
+      latencies = ap (λ (x : List ℕ). l ∷ x) (f .latencies);
+      marks = ap (λ (x : List ℕ). m ∷ x) (f .marks);
+    }
+
+pub rows-are : (o : Observer) → o .counts .used ≤ capacity o
+    → Fronts (o .counts .used) (rows o) (o .sequences) (o .sendTimes) (o .latencies) (o .marks)
+unfolding rows
+rows-are o fits =
+    let w = within (o .counts .used) o fits in
+    fronts (o .counts .used) (o .sequences) (o .sendTimes) (o .latencies) (o .marks) (w .sequences) (w .sendTimes) (w .latencies) (w .marks)
+
+pub field-at : (field : Row → ℕ) (rs : List Row) (k : ℕ) → k < length rs → getD (map field rs) k 0 ≡ field (rowAt k rs)
+field-at field [] k h = absurd (omega arith)
+field-at field (r ∷ rs) zero h = refl
+field-at field (r ∷ rs) (suc k) h = field-at field rs k (le-of-suc-le-suc h)
+
+-- a field of row k is entry k of its column
+pub entry-is : (field : Row → ℕ) (rs : List Row) (n : ℕ) (old : List ℕ) → map field rs ≡ take n old → length rs ≡ n
+    → (k : ℕ) → k < n → field (rowAt k rs) ≡ getD old k 0
+entry-is field rs n old e l k h =
+    sym (field-at field rs k (omega arith)) ∙ ap (λ (x : List ℕ). getD x k 0) e ∙ getD-take n old k 0 h
+
+-- ---- rows put back
+
+rowsOf-front : (rs : List Row) (a b c d : List ℕ)
+    → rowsOf (map (λ r. r .sequence) rs ++ a) (map (λ r. r .sent) rs ++ b) (map (λ r. r .latency) rs ++ c) (map (λ r. r .mark) rs ++ d)
+    ≡ rs ++ rowsOf a b c d
+rowsOf-front [] a b c d = refl
+rowsOf-front (r ∷ rs) a b c d = ap (λ (l : List Row). r ∷ l) (rowsOf-front rs a b c d)
+
+-- the rows that were put back are the used rows
+pub rows-with : (rs : List Row) (o : Observer) → rows (withRows rs o) ≡ rs
+unfolding rows withRows
+rows-with rs o =
+    ap (take (length rs))
+    (rowsOf-front rs (drop (length rs) (o .sequences)) (drop (length rs) (o .sendTimes)) (drop (length rs) (o .latencies)) (drop (length rs) (o .marks)))
+    ∙ take-append-seam rs _
+
+pub counts-with : (rs : List Row) (o : Observer) → withRows rs o .counts ≡ withUsed (length rs) (o .counts)
+unfolding withRows
+counts-with rs o = refl
+
+-- a row put in at k
+abbrev pub putIn : ℕ → Row → List Row → List Row
+putIn k r rs = take k rs ++ r ∷ drop k rs
+
+pub length-put : (k : ℕ) (r : Row) (rs : List Row) → length (putIn k r rs) ≡ suc (length rs)
+length-put k r rs = simp (length-append, length-take, length-drop) (omega arith)
+
+length-column : (field : Row → ℕ) (rs : List Row) (old : List ℕ) → length rs ≤ length old → length (column field rs old) ≡ length old
+length-column field rs old h = simp (length-append, length-map, length-drop) (omega arith)
+
+-- rows for which there is room leave the capacity as it was
+pub capacity-with : (rs : List Row) (o : Observer) → length rs ≤ capacity o → capacity (withRows rs o) ≡ capacity o
+unfolding withRows capacity
+capacity-with rs o h =
+    let w = within (length rs) o h in
+    rw (
+      length-column (λ r. r .sequence) rs (o .sequences) (w .sequences),
+      length-column (λ r. r .sent) rs (o .sendTimes) (w .sendTimes),
+      length-column (λ r. r .latency) rs (o .latencies) (w .latencies),
+      length-column (λ r. r .mark) rs (o .marks) (w .marks),
+    )
+
+-- ---- column by column
+
+map-set : (field : Row → ℕ) (rs : List Row) (k : ℕ) (r : Row) → map field (set rs k r) ≡ set (map field rs) k (field r)
+map-set field [] k r = refl
+map-set field (x ∷ rs) zero r = refl
+map-set field (x ∷ rs) (suc k) r = ap (λ (l : List ℕ). field x ∷ l) (map-set field rs k r)
+
+pub map-put : (field : Row → ℕ) (rs : List Row) (k : ℕ) (r : Row) → map field (putIn k r rs) ≡ take k (map field rs) ++ field r ∷ drop k (map field rs)
+map-put field rs zero r = refl
+map-put field [] (suc k) r = refl
+map-put field (x ∷ rs) (suc k) r = ap (λ (l : List ℕ). field x ∷ l) (map-put field rs k r)
+
+module _ (field : Row → ℕ) (rs : List Row) (old : List ℕ) {n : ℕ} (count : length rs ≡ n) (front : map field rs ≡ take n old) (k : ℕ) (r : Row) where
+  -- row k is another: its field is stored
+  pub column-set : k < n → column field (set rs k r) old ≡ set old k (field r)
+  column-set h =
+      let l : k < length (take n old) = omega (arith, length-map rs field, ap length front) in
+      rw (length-set rs k r, map-set field rs k r, front, count)
+      (sym (set-append-left (take n old) (drop n old) k (field r) l)
+      ∙ ap (λ (x : List ℕ). set x k (field r)) (take-append-drop n old))
+
+  -- row k is another with the same field: nothing is stored
+  pub column-same : field r ≡ field (rowAt k rs) → column field (set rs k r) old ≡ old
+  column-same h = rw (length-set rs k r, map-set-same field rs k r (sentRow 0 0) h, front, count) (take-append-drop n old)
+
+  -- a row is put in: so is its field
+  pub column-put : k ≤ n → column field (putIn k r rs) old ≡ inserted n k (field r) old
+  unfolding inserted
+  column-put h =
+      rw (length-put k r rs, map-put field rs k r, front, count, take-take k n old h)
+      (append-assoc (take k old) (field r ∷ slice k n old) (drop (suc n) old))

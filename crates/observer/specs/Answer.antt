@@ -1,0 +1,45 @@
+-- The code's values in these terms: what the lent columns and the counts make, and what each case of an answer means.
+-- Assumes nothing.
+use Prim.Native.Nat.{ℕ}
+use mathlib.Core.List.{List}
+use Rattle.error.specs.Outcome.{Outcome, refused, gives}
+use Rattle.observer.specs.Observer.{Observer}
+use Rattle.observer.specs.Judge.{Step}
+use Rattle.observer.specs.declared.ObserverCounts.{ObserverCounts}
+use Rattle.observer.specs.declared.Recorded.{Recorded}
+use Rattle.observer.specs.declared.Recording.{Recording}
+use Rattle.observer.specs.declared.Recording.the-variants as recording
+use Rattle.observer.specs.declared.Returned.{Returned}
+use Rattle.observer.specs.declared.Returned.the-variants as returned
+use Rattle.observer.specs.declared.Walked.{Walked}
+use Rattle.observer.specs.declared.Walked.the-variants as walked
+
+-- The observer of lent columns (sequences, send times, latencies, marks) and the counts beside them.
+abbrev pub observerOf : List ℕ → List ℕ → List ℕ → List ℕ → ObserverCounts → Observer
+observerOf qs ts ls ms c = record { sequences = qs; sendTimes = ts; latencies = ls; marks = ms; counts = c }
+
+-- What a call's answer means. The Rust answers a first return and a duplicate alike, with Ok(()), and so does this.
+abbrev pub recordingMeans : Recording → Outcome (Unit {0})
+recordingMeans recording.Accepted = gives tt
+recordingMeans (recording.Refused n) = refused n
+
+-- the answers of a call that was taken and of one that was refused, with the counts as it leaves them
+abbrev pub acceptance : ObserverCounts → Recorded
+acceptance c = record { answer = recording.Accepted; counts = c }
+
+abbrev pub refusal : ℕ → ObserverCounts → Recorded
+refusal n c = record { answer = recording.Refused n; counts = c }
+
+-- What reading a T-PDU came to, of which only the sequence counts: the observer has its own send time for it.
+abbrev pub returnedMeans : Returned → Outcome ℕ
+returnedMeans (returned.Sequence q) = gives q
+returnedMeans (returned.Refused n) = refused n
+
+-- What walking the elements of an Error Indication came to.
+abbrev pub walkedMeans : Walked → Outcome (Unit {0})
+walkedMeans walked.Accepted = gives tt
+walkedMeans (walked.Refused n) = refused n
+
+-- What a call answered, and the columns as it left them.
+abbrev pub recorded : Recorded → List ℕ → List ℕ → List ℕ → List ℕ → Step
+recorded r qs ts ls ms = record { outcome = recordingMeans (r .answer); observer = observerOf qs ts ls ms (r .counts) }

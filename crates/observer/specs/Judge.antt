@@ -1,0 +1,41 @@
+-- Cause 21, which every call judges first, and what a call comes to.
+-- Assumes nothing.
+use Prim.Native.Nat.{ℕ}
+use mathlib.Core.List.{List, [], _∷_}
+use mathlib.Core.Bool.{Bool, true, not, _&&_}
+use lib.Dec.{leb, ltb}
+use Rattle.error.specs.Number.{malformedObserver}
+use Rattle.error.specs.Outcome.{Outcome, refused, gives, _⇒_, firstCause}
+use Rattle.observer.specs.Observer.{Row, Observer, capacity, rows, sequencesOf}
+
+-- "Rows rise strictly by sequence": each number is below the next.
+abbrev pub rising : List ℕ → Bool
+rising [] = true
+rising (x ∷ []) = true
+rising (x ∷ y ∷ xs) = ltb x y && rising (y ∷ xs)
+
+-- The mark is 0 or 1. (The latency of a row that has not returned may be anything.)
+abbrev pub rowKnown : Row → Bool
+rowKnown r = ltb (r .mark) 2
+
+abbrev pub rowsKnown : List Row → Bool
+rowsKnown [] = true
+rowsKnown (r ∷ rs) = rowKnown r && rowsKnown rs
+
+-- Not cause 21: "used count above capacity, used rows not rising, a used row's mark not 0 or 1".
+unfoldable pub wellFormed : Observer → Bool
+wellFormed o = leb (o .counts .used) (capacity o) && (rising (sequencesOf (rows o)) && rowsKnown (rows o))
+
+-- "Every call, the report too, judges 21 first".
+unfoldable pub judged : {A : Type 0} → Observer → Outcome A → Outcome A
+judged o onward = firstCause ((not (wellFormed o) ⇒ malformedObserver) ∷ []) onward
+
+-- What a call that may change the observer comes to: its outcome, and the observer as it leaves it.
+pub record Step : Type 0 where
+  pub outcome : Outcome (Unit {0})
+  pub observer : Observer
+
+-- What is given is the next observer. "A refusal returns its number and nothing else", and leaves all as it was.
+abbrev pub step : Observer → Outcome Observer → Step
+step o (refused n) = record { outcome = refused n; observer = o }
+step o (gives next) = record { outcome = gives tt; observer = next }

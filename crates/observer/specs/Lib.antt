@@ -1,0 +1,10 @@
+-- The observer: document 01's run sheet. What it is, what makes it malformed, and what each call makes of it.
+pub mod Counts
+pub mod Observer
+pub mod Judge
+pub mod Place
+pub mod Sending
+pub mod Returning
+pub mod Answer
+pub mod Columns
+pub mod Claims

@@ -1,0 +1,38 @@
+-- Where a sequence stands, and what "below the highest marked sequence" means.
+-- Assumes nothing.
+use Prim.Native.Nat.{ℕ, suc, max}
+use mathlib.Core.List.{List, [], _∷_}
+use mathlib.Core.Bool.{Bool, true, false, _&&_, _||_}
+use lib.Dec.{ltb, eqb}
+use lib.ListN.{length, getD}
+use Rattle.observer.specs.Observer.{Row, rowAt, sequencesOf}
+
+-- The place of q among numbers that rise: how many stand before it.
+abbrev pub place : ℕ → List ℕ → ℕ
+place q [] = 0
+place q (x ∷ xs) = elim (ltb x q) [ true ↦ suc (place q xs) | false ↦ 0 ]
+
+-- There is a number at place k, and it is q.
+unfoldable pub holds : ℕ → ℕ → List ℕ → Bool
+holds q k xs = ltb k (length xs) && eqb (getD xs k 0) q
+
+abbrev pub placeOf : ℕ → List Row → ℕ
+placeOf q rs = place q (sequencesOf rs)
+
+-- The sequence is on the sheet.
+abbrev pub wasSent : ℕ → List Row → Bool
+wasSent q rs = holds q (placeOf q rs) (sequencesOf rs)
+
+-- the row of a sequence that is on the sheet
+abbrev pub rowOf : ℕ → List Row → Row
+rowOf q rs = rowAt (placeOf q rs) rs
+
+-- "the highest marked sequence"; 0, which no sequence is below, if none is marked
+abbrev pub highestMarked : List Row → ℕ
+highestMarked [] = 0
+highestMarked (r ∷ rs) = elim (eqb (r .mark) 1) [ true ↦ max (r .sequence) (highestMarked rs) | false ↦ highestMarked rs ]
+
+-- Some row of a higher sequence is marked: the same on every list of rows (specs/Claims.antt).
+abbrev pub markedAbove : ℕ → List Row → Bool
+markedAbove q [] = false
+markedAbove q (r ∷ rs) = (eqb (r .mark) 1 && ltb q (r .sequence)) || markedAbove q rs
