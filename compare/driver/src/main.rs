@@ -1,4 +1,4 @@
-//! `compare [--seed N] [--rounds N]`: runs every part of the comparison, prints a line for each
+//! `compare [--seed N] [--rounds N] [--long]`: runs every part of the comparison, prints a line for each
 //! and a last one of totals.
 //!
 //! Exit status: 0 if both sides agree; 1 if they differ, or a part had nothing to compare;
@@ -8,9 +8,9 @@ use std::env;
 use std::process::ExitCode;
 
 use driver::part::{grouped, Part};
-use driver::{answers, cases, checksum};
+use driver::{answers, cases, checksum, measurement};
 
-const USAGE: &str = "usage: compare [--seed N] [--rounds N]";
+const USAGE: &str = "usage: compare [--seed N] [--rounds N] [--long]";
 
 /// What the command line may choose.
 struct Options {
@@ -18,6 +18,8 @@ struct Options {
     seed: u64,
     /// How many random inputs a part draws.
     rounds: u64,
+    /// Whether to damage all packets that there are for it, and not only the first.
+    long: bool,
 }
 
 impl Options {
@@ -25,11 +27,16 @@ impl Options {
         let mut options = Options {
             seed: 1071,
             rounds: 20_000,
+            long: false,
         };
         while let Some(word) = words.next() {
             let option = match word.as_str() {
                 "--seed" => &mut options.seed,
                 "--rounds" => &mut options.rounds,
+                "--long" => {
+                    options.long = true;
+                    continue;
+                }
                 _ => return Err(format!("unknown argument {word}")),
             };
             *option = words
@@ -61,7 +68,7 @@ impl Total {
 }
 
 fn main() -> ExitCode {
-    let Options { seed, rounds } = match Options::parse(env::args().skip(1)) {
+    let Options { seed, rounds, long } = match Options::parse(env::args().skip(1)) {
         Ok(options) => options,
         Err(message) => {
             eprintln!("compare: {message}; {USAGE}");
@@ -81,6 +88,12 @@ fn main() -> ExitCode {
     total.add(checksum::damaged_lists(seed, rounds));
     total.add(checksum::equal_bits_turned(seed, rounds));
     total.add(checksum::long_lists(seed));
+    total.add(measurement::building(seed, rounds));
+    total.add(measurement::reading(seed, rounds));
+    total.add(measurement::echoing(seed, rounds));
+    total.add(measurement::echoing_twice(seed, rounds));
+    total.add(measurement::damaged_packets(if long { 5 } else { 2 }));
+    total.add(measurement::damaged_random_packets(seed, rounds));
 
     println!(
         "total: {} parts, {} failed; {} cases, {} differences (seed {seed}, rounds {rounds})",

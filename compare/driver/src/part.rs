@@ -3,7 +3,7 @@
 use std::fmt;
 
 /// As much of a differing input as is printed, in bytes.
-const SHOWN: usize = 64;
+const SHOWN: usize = 96;
 
 pub struct Part {
     name: &'static str,

@@ -1,9 +1,14 @@
 // The C interface: each public call under the prefix `testkit_`, on numbers and lent buffers, with the call's own contract. A slice
 // passes as a pointer and a length, an address as a pointer to 16 bytes. A refusal is its number, and 0 is none.
+use gtpu::ElementsChecked;
 use measurement::Decoding;
 use measurement::InnerIpFlow;
 use measurement::IpVersion;
 use measurement::Written;
+use observer::ObserverCounts;
+use observer::Recorded;
+use observer::Recording;
+use traffic::TrafficPlan;
 ghost use mathlib.Core.Path.{_≡_};
 ghost use Prim.Native.Nat.{_+_};
 ghost use mathlib.Core.Bool.{true};
@@ -14,7 +19,11 @@ ghost use Rattle.measurement.specs.Packet.{buildOf};
 ghost use Rattle.measurement.specs.Read.{readOf};
 ghost use Rattle.measurement.specs.Echo.{echoOf};
 ghost use Rattle.measurement.specs.Answer.{writtenMeans, writing, writingOf, decodeResult};
-ghost use Rattle.exports.specs.Interface.{versionNumbered, versionNumber, flowOf, writtenNumbers, decodingNumber, tpduNumbers};
+ghost use Rattle.traffic.specs.Generate.{generateOf};
+ghost use Rattle.gtpu.specs.Element.{elementsOf};
+ghost use Rattle.observer.specs.Sending.{recordSent};
+ghost use Rattle.observer.specs.Answer.{observerOf, recordingMeans};
+ghost use Rattle.exports.specs.Interface.{versionNumbered, versionNumber, flowOf, writtenNumbers, decodingNumber, tpduNumbers, planOf, generatedNumbers, outcomeNumber, countsOf, recordedNumbers, RecordedStep};
 
 // What a call that writes into a lent buffer answers: 0 and how many bytes it wrote, or a refusal's number and 0 bytes.
 #[repr(C)]
@@ -167,4 +176,140 @@ pub extern "C" fn testkit_decode(tpdu: &[u8], src: &mut [u8; 16], dst: &mut [u8;
         sequence: header.sequence,
         send_timestamp_ns: header.send_timestamp_ns,
     }
+}
+
+// What generating answers, and the next sequence afterwards, on refusals too.
+#[repr(C)]
+pub struct TestkitGenerated {
+    pub number: u8,
+    pub bytes: usize,
+    pub next_sequence: u64,
+}
+
+// `traffic::generate_packets`
+#[no_mangle]
+pub extern "C" fn testkit_generate(
+    version: u8,
+    src: &[u8; 16],
+    dst: &[u8; 16],
+    src_port: u16,
+    dst_port: u16,
+    packet_count: u64,
+    target_rate_pps: u64,
+    first_send_timestamp_ns: u64,
+    next_sequence: u64,
+    out: &mut [u8],
+) -> TestkitGenerated
+    ensures answer { λ r. ⌜ r ≡ generatedNumbers (generateOf (flowOf version (now (src .entry)) (now (dst .entry)) «src_port» «dst_port») (planOf «packet_count» «target_rate_pps» «first_send_timestamp_ns») «next_sequence» (now (out .entry))) ⌝ }
+    ensures buffer { λ _. ⌜ now (out .exit) ≡ generateOf (flowOf version (now (src .entry)) (now (dst .entry)) «src_port» «dst_port») (planOf «packet_count» «target_rate_pps» «first_send_timestamp_ns») «next_sequence» (now (out .entry)) .buffer ⌝ }
+{
+    let flow = InnerIpFlow {
+        version: version_of(version),
+        src: *src,
+        dst: *dst,
+        src_port: src_port,
+        dst_port: dst_port,
+    };
+    let plan = TrafficPlan {
+        packet_count: packet_count,
+        target_rate_pps: target_rate_pps,
+        first_send_timestamp_ns: first_send_timestamp_ns,
+    };
+    let generated = traffic::generate_packets(flow, plan, next_sequence, out);
+    let written = generated.written;
+    let answer = written_numbers(written);
+    TestkitGenerated {
+        number: answer.number,
+        bytes: answer.bytes,
+        next_sequence: generated.next_sequence,
+    }
+}
+
+// `gtpu::validate_error_indication_ies`
+#[no_mangle]
+pub extern "C" fn testkit_validate_elements(payload: &[u8]) -> u8
+    ensures { λ r. ⌜ r ≡ outcomeNumber (elementsOf (now (payload .entry))) ⌝ }
+{
+    match gtpu::validate_error_indication_ies(payload) {
+        ElementsChecked::Accepted => 0,
+        ElementsChecked::Refused(number) => number,
+    }
+}
+
+// The counts beside an observer's columns.
+#[repr(C)]
+pub struct TestkitCounts {
+    pub used: usize,
+    pub duplicate_packets: u64,
+    pub out_of_order_packets: u64,
+    pub gtpu_error_indications: u64,
+}
+
+// What an observer's call answers: 0 or a refusal's number, and the counts as it leaves them.
+#[repr(C)]
+pub struct TestkitRecorded {
+    pub number: u8,
+    pub used: usize,
+    pub duplicate_packets: u64,
+    pub out_of_order_packets: u64,
+    pub gtpu_error_indications: u64,
+}
+
+fn counts_of(counts: TestkitCounts) -> ObserverCounts
+    ensures { λ r. ⌜ r ≡ countsOf counts ⌝ }
+{
+    ObserverCounts {
+        used: counts.used,
+        duplicate_packets: counts.duplicate_packets,
+        out_of_order_packets: counts.out_of_order_packets,
+        gtpu_error_indications: counts.gtpu_error_indications,
+    }
+}
+
+fn recording_number(answer: Recording) -> u8
+    ensures { λ r. ⌜ r ≡ outcomeNumber (recordingMeans answer) ⌝ }
+{
+    match answer {
+        Recording::Accepted => 0,
+        Recording::Refused(number) => number,
+    }
+}
+
+fn recorded_numbers(recorded: Recorded) -> TestkitRecorded
+    ensures { λ r. ⌜ r ≡ recordedNumbers (recordingMeans (recorded .answer)) (recorded .counts) ⌝ }
+{
+    let answer = recorded.answer;
+    let counts = recorded.counts;
+    TestkitRecorded {
+        number: recording_number(answer),
+        used: counts.used,
+        duplicate_packets: counts.duplicate_packets,
+        out_of_order_packets: counts.out_of_order_packets,
+        gtpu_error_indications: counts.gtpu_error_indications,
+    }
+}
+
+// `observer::record_sent`
+#[no_mangle]
+pub extern "C" fn testkit_record_sent(
+    sequences: &mut [u64],
+    send_timestamps: &mut [u64],
+    latencies: &mut [u64],
+    marks: &mut [u8],
+    counts: TestkitCounts,
+    sequence: u64,
+    send_timestamp_ns: u64,
+) -> TestkitRecorded
+    ensures { λ r. ⌜ RecordedStep r (now (sequences .exit)) (now («send_timestamps» .exit)) (now (latencies .exit)) (now (marks .exit))
+        (recordSent (observerOf (now (sequences .entry)) (now («send_timestamps» .entry)) (now (latencies .entry)) (now (marks .entry)) (countsOf counts)) sequence «send_timestamp_ns») ⌝ }
+{
+    recorded_numbers(observer::record_sent(
+        sequences,
+        send_timestamps,
+        latencies,
+        marks,
+        counts_of(counts),
+        sequence,
+        send_timestamp_ns,
+    ))
 }

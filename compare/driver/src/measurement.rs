@@ -1,0 +1,305 @@
+//! Our building, reading and echoing of T-PDUs against the Rust's, on built packets, on wild
+//! ones (wild.rs) and on damaged ones (damage.rs).
+
+use std::collections::BTreeMap;
+use std::net::SocketAddr;
+
+use crate::cases::{ipv4_probe, ipv6_probe};
+use crate::damage::{each_damage, excluded, turn, window_starts};
+use crate::ours::{self, Values, Written};
+use crate::packet::{part_at, version, word, IPV4_HEADER_CHECKSUM_AT};
+use crate::part::{grouped, Bytes, Part, Word};
+use crate::random::Random;
+use crate::rust_side::measurement::{build, decode, echo, Flow, Probe};
+use crate::rust_side::Outcome;
+use crate::wild::{any_probe, each_wild};
+
+/// The number of an output that is too short, which the Rust does not have.
+const OUTPUT_SHORT: u8 = 15;
+
+/// The orders in which the readers of IPv4 and IPv6 judge. Numbers 1 and 2 come before both.
+const IPV4_ORDER: [u8; 9] = [3, 4, 5, 6, 7, 10, 12, 13, 14];
+const IPV6_ORDER: [u8; 8] = [8, 6, 9, 11, 12, 10, 13, 14];
+
+/// What an output has in it before a call.
+const DIRT: u8 = 0xa5;
+
+/// One damaged packet in so many is echoed, if both sides refuse to read it.
+const ECHO_SAMPLE: u64 = 64;
+
+/// Random and extreme probes into buffers of every kind. Ours is lent junk behind each IPv4
+/// address, and for IPv6 any version but 4.
+pub fn building(seed: u64, rounds: u64) -> Part {
+    let mut part = Part::new("building", "calls");
+    let mut random = Random::new(seed);
+    for round in 0..rounds {
+        let mut probe = any_probe(&mut random);
+        if round % 4 == 0 {
+            probe = steered(probe);
+            let tpdu = build(probe);
+            let due = probe.flow.source.is_ipv4().then_some(Word(0));
+            part.case(&tpdu, checksums(&tpdu), (due, Word(0xffff)));
+        }
+        let mut values = Values::from(probe);
+        if values.version == 4 {
+            values.src[4..].copy_from_slice(&random.bytes(12));
+            values.dst[4..].copy_from_slice(&random.bytes(12));
+        } else if random.below(2) == 0 {
+            values.version = [0, 3, 5, 255][random.below(4)];
+        }
+        let tpdu = build(probe);
+        writes(&mut part, &tpdu, Ok(&tpdu), |out| ours::build(&values, out));
+    }
+    part
+}
+
+/// Wild packets, read by both. Each cause of a refusal must have been met, in both versions.
+pub fn reading(seed: u64, rounds: u64) -> Part {
+    let mut part = Part::new("reading, wild packets", "packets");
+    let mut seen = BTreeMap::new();
+    each_wild(seed, rounds, |tpdu| {
+        let expected = as_ours(decode(tpdu));
+        let answer = ours::decode(tpdu);
+        if answer.0 == expected.0 {
+            *seen.entry(cause(tpdu, answer.0)).or_insert(0) += 1;
+        }
+        part.case(tpdu, answer, expected);
+    });
+
+    let mut due = vec![(0, 1), (0, 2), (4, 0), (6, 0)];
+    due.extend(IPV4_ORDER.map(|number| (4, number)));
+    due.extend(IPV6_ORDER.map(|number| (6, number)));
+    due.sort();
+    part.case(&[], seen.keys().copied().collect(), due);
+    part.note(counts(&seen));
+    part
+}
+
+/// Wild packets, echoed by both.
+pub fn echoing(seed: u64, rounds: u64) -> Part {
+    let mut part = Part::new("echo, wild packets", "calls");
+    each_wild(seed, rounds, |tpdu| echoes(&mut part, tpdu));
+    part
+}
+
+/// The echo of the echo of a built packet is the packet.
+pub fn echoing_twice(seed: u64, rounds: u64) -> Part {
+    let mut part = Part::new("echo of echo", "packets");
+    let mut random = Random::new(seed);
+    for _ in 0..rounds {
+        let tpdu = build(any_probe(&mut random));
+        let (mut once, mut twice) = (vec![DIRT; tpdu.len()], vec![DIRT; tpdu.len()]);
+        ours::echo(&tpdu, &mut once);
+        ours::echo(&once, &mut twice);
+        part.case(&tpdu, Bytes(&twice), Bytes(&tpdu));
+    }
+    part
+}
+
+/// Every damage, within 16 neighbouring bits, of the first few of `some_probes` in both
+/// versions: refused, or read as what was sent.
+pub fn damaged_packets(count: usize) -> Part {
+    let mut part = Part::new("damage, every one of some packets", "readings and echoes");
+    for version in [4, 6] {
+        for probe in some_probes(version).into_iter().take(count) {
+            each_damage(&build(probe), |damaged| {
+                survives(&mut part, probe, damaged);
+            });
+        }
+    }
+    part
+}
+
+/// Random damage, within 16 neighbouring bits, of random built packets.
+pub fn damaged_random_packets(seed: u64, rounds: u64) -> Part {
+    let mut part = Part::new("damage, random packets", "readings and echoes");
+    let mut random = Random::new(seed);
+    for _ in 0..rounds {
+        let probe = any_probe(&mut random);
+        let mut tpdu = build(probe);
+        let start = random.below(window_starts(0, tpdu.len()).end() + 1);
+        let mask = 1 + random.below(0xffff) as u16;
+        if !excluded(&tpdu, start, mask) {
+            turn(&mut tpdu, start, mask);
+            survives(&mut part, probe, &tpdu);
+        }
+    }
+    part
+}
+
+impl From<Probe> for Values {
+    fn from(probe: Probe) -> Self {
+        let Flow {
+            source,
+            destination,
+        } = probe.flow;
+        let address = |end: SocketAddr| {
+            let mut bytes = [0; 16];
+            match end {
+                SocketAddr::V4(end) => bytes[..4].copy_from_slice(&end.ip().octets()),
+                SocketAddr::V6(end) => bytes = end.ip().octets(),
+            }
+            bytes
+        };
+        Self {
+            version: if source.is_ipv4() { 4 } else { 6 },
+            src: address(source),
+            dst: address(destination),
+            src_port: source.port(),
+            dst_port: destination.port(),
+            sequence: probe.sequence,
+            send_time: probe.send_time,
+        }
+    }
+}
+
+/// What ours has to say where the Rust reads this: values, or a number and none.
+fn as_ours(outcome: Outcome<Probe>) -> (u8, Values) {
+    const NONE: Values = Values {
+        version: 4,
+        src: [0; 16],
+        dst: [0; 16],
+        src_port: 0,
+        dst_port: 0,
+        sequence: 0,
+        send_time: 0,
+    };
+    match outcome {
+        Ok(probe) => (0, probe.into()),
+        Err(number) => (number, NONE),
+    }
+}
+
+/// Holds a call of ours that writes against what is due, in an output that is longer than need
+/// be, just long enough, one byte short and empty; where a refusal is due, in a long and an empty
+/// one. All but the answer must stay as it was.
+fn writes(
+    part: &mut Part,
+    input: &[u8],
+    due: Outcome<&[u8]>,
+    mut call: impl FnMut(&mut [u8]) -> Written,
+) {
+    const LONG: usize = 96;
+    let rooms: &[usize] = match due {
+        Ok(bytes) => &[LONG - 8, bytes.len(), bytes.len() - 1, 0],
+        Err(_) => &[LONG - 8, 0],
+    };
+    for &room in rooms {
+        let mut out = [DIRT; LONG];
+        let written = call(&mut out[..room]);
+
+        let mut expected = [DIRT; LONG];
+        let answer = match due {
+            Err(number) => Err(number),
+            Ok(bytes) if room < bytes.len() => Err(OUTPUT_SHORT),
+            Ok(bytes) => {
+                expected[..bytes.len()].copy_from_slice(bytes);
+                Ok(bytes.len())
+            }
+        };
+        let due = Written {
+            number: answer.err().unwrap_or(0),
+            bytes: answer.unwrap_or(0),
+        };
+        part.case(input, (written, Bytes(out)), (due, Bytes(expected)));
+    }
+}
+
+fn echoes(part: &mut Part, tpdu: &[u8]) {
+    let due = echo(tpdu);
+    let due = due.as_deref().map_err(|number| *number);
+    writes(part, tpdu, due, |out| ours::echo(tpdu, out));
+}
+
+/// Both sides must read the damaged packet alike: refuse it, or read the probe that was sent.
+fn survives(part: &mut Part, sent: Probe, damaged: &[u8]) {
+    let outcome = decode(damaged);
+    let harmless = outcome.is_err() || outcome == Ok(sent);
+    let answer = (ours::decode(damaged), harmless);
+    part.case(damaged, answer, (as_ours(outcome), true));
+    if outcome.is_ok() || part.cases().is_multiple_of(ECHO_SAMPLE) {
+        echoes(part, damaged);
+    }
+}
+
+/// An ordinary probe, the same with checksums that come out 0, all zeros, all ones, and one of
+/// the worked cases.
+fn some_probes(version: u8) -> [Probe; 5] {
+    let case = match version {
+        4 => ipv4_probe(0),
+        _ => ipv6_probe(),
+    };
+    let ordinary = Probe {
+        flow: match version {
+            4 => Flow::new(([203, 0, 113, 77], 54_321), ([198, 51, 100, 9], 2_152)),
+            _ => Flow::new(
+                ([0x2001, 0xdb8, 0xa1, 0, 0, 0xb2, 0xc3, 0xd4], 54_321),
+                ([0x2001, 0xdb8, 0xe5, 0xf6, 0, 0, 0, 9], 2_152),
+            ),
+        },
+        sequence: 0x0123_4567_89ab_cdef,
+        send_time: 1_700_000_000_123_456_789,
+    };
+    let all = |byte| {
+        let port = u16::from_be_bytes([byte; 2]);
+        let number = u64::from_be_bytes([byte; 8]);
+        Probe {
+            flow: match version {
+                4 => Flow::new(([byte; 4], port), ([byte; 4], port)),
+                _ => Flow::new(([byte; 16], port), ([byte; 16], port)),
+            },
+            sequence: number,
+            send_time: number,
+        }
+    };
+    [ordinary, steered(ordinary), all(0x00), all(0xff), case]
+}
+
+/// The probe with another last word of its time, and of an IPv4 destination, so that each sum
+/// comes out 0xffff and each checksum 0.
+fn steered(mut probe: Probe) -> Probe {
+    if let SocketAddr::V4(end) = probe.flow.destination {
+        let [first, second, ..] = end.ip().octets();
+        let ending = |[third, fourth]: [u8; 2]| ([first, second, third, fourth], end.port()).into();
+        probe.flow.destination = ending([0, 0]);
+        let checksum = word(&build(probe), IPV4_HEADER_CHECKSUM_AT);
+        probe.flow.destination = ending(checksum.to_be_bytes());
+    }
+    probe.send_time &= !0xffff;
+    let (_, Word(checksum)) = checksums(&build(probe));
+    probe.send_time |= u64::from(checksum);
+    probe
+}
+
+/// The header checksum, which IPv4 has, and the UDP checksum of a built packet.
+fn checksums(tpdu: &[u8]) -> (Option<Word>, Word) {
+    let header = (version(tpdu) == 4).then(|| Word(word(tpdu, IPV4_HEADER_CHECKSUM_AT)));
+    (header, Word(word(tpdu, part_at(tpdu) + 6)))
+}
+
+/// Why a packet was refused, or 0: the number, with the IP version if the number has one.
+fn cause(tpdu: &[u8], number: u8) -> (u8, u8) {
+    match number {
+        1 | 2 => (0, number),
+        _ => (version(tpdu), number),
+    }
+}
+
+/// How often each cause was met, in the order in which they are judged, and how often none.
+fn counts(seen: &BTreeMap<(u8, u8), u64>) -> String {
+    let count = |version, number| grouped(seen.get(&(version, number)).copied().unwrap_or(0));
+    let counts = |version, numbers: &[u8]| {
+        let each = numbers.iter();
+        each.map(|&number| format!("{number}: {}", count(version, number)))
+            .collect::<Vec<_>>()
+            .join(", ")
+    };
+    format!(
+        "{}; IPv4 {}, read: {}; IPv6 {}, read: {}",
+        counts(0, &[1, 2]),
+        counts(4, &IPV4_ORDER),
+        count(4, 0),
+        counts(6, &IPV6_ORDER),
+        count(6, 0),
+    )
+}

@@ -1,0 +1,231 @@
+//! Wild packets: T-PDUs that no builder makes, right ones among them, so that the reader meets
+//! each of its causes, and each just missed.
+
+use crate::lists::each_list;
+use crate::packet::{length_at, part_at, set_word, sum_again, version};
+use crate::random::Random;
+use crate::rust_side::measurement::{build, Flow, Probe};
+
+/// The length of the UDP part that a builder makes, and of the UDP header in it.
+const UDP_LENGTH: usize = 32;
+const UDP_HEADER: usize = 8;
+
+/// The longest that a length field can say.
+const MOST: usize = 65_535;
+
+/// What a right packet may have that a built one has not.
+#[derive(Default)]
+struct Extra {
+    /// IPv4 options, in words of 4 bytes.
+    options: usize,
+    /// Bytes of the UDP payload past the probe.
+    payload: usize,
+    /// Bytes past the length that the IP header gives.
+    padding: usize,
+    /// A UDP checksum of 0.
+    unsummed: bool,
+}
+
+/// Calls `each` with every list of up to 2 bytes; with some packets, cut at every length and
+/// with every value of their words and lengths; and with random packets and random bytes.
+pub fn each_wild(seed: u64, rounds: u64, mut each: impl FnMut(&[u8])) {
+    let all: Vec<u8> = (0..=0xff).collect();
+    each_list(&all, 0..=2, &mut each);
+
+    let mut random = Random::new(seed);
+    for packet in some_packets(&mut random) {
+        for length in 0..packet.len() {
+            each(&packet[..length]);
+        }
+        each_word(&packet, &mut each);
+        each_two_lengths(&packet, &mut each);
+    }
+    for _ in 0..rounds {
+        each(&any_packet(&mut random));
+        let length = random.length(100);
+        each(&random.bytes(length));
+    }
+}
+
+/// A probe of either version.
+pub fn any_probe(random: &mut Random) -> Probe {
+    let version = [4, 6][random.below(2)];
+    any_probe_of(random, version)
+}
+
+/// A flow, a sequence and a time, each one of `Random::bytes`' kinds or 1.
+pub fn any_probe_of(random: &mut Random, version: u8) -> Probe {
+    let mut number = || match random.below(8) {
+        0 => 1,
+        _ => u128::from_be_bytes(random.bytes(16).try_into().expect("16 bytes")),
+    };
+    let flow = match version {
+        4 => Flow::new(
+            ((number() as u32).to_be_bytes(), number() as u16),
+            ((number() as u32).to_be_bytes(), number() as u16),
+        ),
+        _ => Flow::new(
+            (number().to_be_bytes(), number() as u16),
+            (number().to_be_bytes(), number() as u16),
+        ),
+    };
+    Probe {
+        flow,
+        sequence: number() as u64,
+        send_time: number() as u64,
+    }
+}
+
+/// Built packets of both versions, and packets with the shortest and the longest options, with
+/// odd payload and padding, and with a UDP checksum of 0.
+fn some_packets(random: &mut Random) -> Vec<Vec<u8>> {
+    let extras = [
+        (4, 0, 0, 0, false),
+        (4, 1, 3, 2, false),
+        (4, 10, 0, 0, false),
+        (4, 0, 1, 1, true),
+        (6, 0, 0, 0, false),
+        (6, 0, 3, 2, false),
+        (6, 0, 1, 1, true),
+    ];
+    extras
+        .into_iter()
+        .map(|(version, options, payload, padding, unsummed)| {
+            let extra = Extra {
+                options,
+                payload,
+                padding,
+                unsummed,
+            };
+            let probe = any_probe_of(random, version);
+            right_packet(random, probe, &extra)
+        })
+        .collect()
+}
+
+/// Every value of every 16-bit word before the probe's sequence, the checksums made right.
+fn each_word(packet: &[u8], each: &mut impl FnMut(&[u8])) {
+    for at in (0..part_at(packet) + UDP_HEADER + 8).step_by(2) {
+        for value in 0..=0xffff {
+            let mut changed = packet.to_vec();
+            set_word(&mut changed, at, value);
+            sum_again(&mut changed);
+            each(&changed);
+        }
+    }
+}
+
+/// Every length of the packet with every length of UDP, from 0 to beyond the packet's own.
+fn each_two_lengths(packet: &[u8], each: &mut impl FnMut(&[u8])) {
+    let most = packet.len() as u16 + 2;
+    for length in 0..=most {
+        for udp_length in 0..=most {
+            let mut changed = packet.to_vec();
+            set_word(&mut changed, length_at(packet), length);
+            set_word(&mut changed, part_at(packet) + 4, udp_length);
+            sum_again(&mut changed);
+            each(&changed);
+        }
+    }
+}
+
+/// A right packet with anything extra, changed in up to two ways.
+fn any_packet(random: &mut Random) -> Vec<u8> {
+    let version = [4, 6][random.below(2)];
+    let options = match version {
+        4 => random.below(11),
+        _ => 0,
+    };
+    let most = match version {
+        4 => MOST - 20 - 4 * options - UDP_LENGTH,
+        _ => MOST - UDP_LENGTH,
+    };
+    let extra = Extra {
+        options,
+        payload: match random.below(16) {
+            0 => most,
+            1..8 => 0,
+            _ => random.length(most),
+        },
+        padding: match random.below(16) {
+            0 => random.length(70_000),
+            1..8 => 0,
+            _ => random.length(100),
+        },
+        unsummed: random.below(8) == 0,
+    };
+    let probe = any_probe_of(random, version);
+    let mut packet = right_packet(random, probe, &extra);
+    for _ in 0..random.below(3) {
+        change(random, &mut packet);
+    }
+    packet
+}
+
+/// The built packet with something extra, and with anything where the reader does not look.
+fn right_packet(random: &mut Random, probe: Probe, extra: &Extra) -> Vec<u8> {
+    let built = build(probe);
+    let (header, udp) = built.split_at(built.len() - UDP_LENGTH);
+    let options = random.bytes(4 * extra.options);
+    let payload = random.bytes(extra.payload);
+    let mut packet = [header, &options, udp, &payload].concat();
+
+    let length = match version(&packet) {
+        4 => {
+            packet[0] += extra.options as u8;
+            packet[1] = random.number() as u8;
+            packet[4..9].copy_from_slice(&random.bytes(5));
+            packet.len()
+        }
+        _ => {
+            packet[0] |= random.below(16) as u8;
+            packet[1..4].copy_from_slice(&random.bytes(3));
+            packet[7] = random.number() as u8;
+            packet.len() - header.len()
+        }
+    };
+    let at = part_at(&packet);
+    set_word(&mut packet, length_at(header), length as u16);
+    set_word(&mut packet, at + 4, (UDP_LENGTH + extra.payload) as u16);
+    if extra.unsummed {
+        set_word(&mut packet, at + 6, 0);
+    }
+    sum_again(&mut packet);
+    packet.extend(random.bytes(extra.padding));
+    packet
+}
+
+/// Cuts the packet, turns bits of it or changes a field; then may make the checksums right.
+fn change(random: &mut Random, packet: &mut Vec<u8>) {
+    let at = part_at(packet);
+    let near = packet.len().min(at + UDP_LENGTH);
+    if near == 0 {
+        return;
+    }
+    match random.below(6) {
+        0 => packet.truncate(random.length(packet.len())),
+        1 => {
+            for _ in 0..=random.below(3) {
+                packet[random.below(near)] ^= 1 << random.below(8);
+            }
+        }
+        2 => {
+            let place = random.below(packet.len());
+            packet[place] = random.number() as u8;
+        }
+        3 => {
+            let values = [0, 1, 7, 8, 31, 32, 33, 0x7fff, 0x8000, 0xfffe, 0xffff];
+            let value = values[random.below(values.len())];
+            set_word(packet, random.below(near), value);
+        }
+        4 => {
+            let length = packet.len().saturating_sub(at).min(MOST);
+            let shorter = length - random.length(length);
+            set_word(packet, at + 4, shorter as u16);
+        }
+        _ => set_word(packet, at + 6, 0),
+    }
+    if random.below(2) == 0 {
+        sum_again(packet);
+    }
+}

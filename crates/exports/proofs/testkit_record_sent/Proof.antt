@@ -1,0 +1,55 @@
+-- `exports::testkit_record_sent` meets its contract.
+-- Assumes nothing.
+use mathlib.Core.Path.{ap, _∙_}
+use Rattle.observer.specs.Answer.{observerOf}
+use Rattle.observer.specs.Sending.{recordSent}
+use Rattle.observer.specs.declared.ObserverCounts.{ObserverCounts}
+use Rattle.exports.proofs.Calls.{stepped}
+use borrow.Author.Needs.{needs}
+use Rattle.exports.proofs.testkit_record_sent.Statement.{statement}
+use Rattle.exports.proofs.testkit_record_sent.Tie as tie
+
+counts-of-requires : tie.Need-counts-of-requires
+counts-of-requires c κs = search needs
+
+record-sent-requires : tie.Need-record-sent-requires
+record-sent-requires c κs = search needs
+
+recorded-numbers-requires : tie.Need-recorded-numbers-requires
+recorded-numbers-requires c κs = search needs
+
+same-length : tie.Need-same-length
+same-length c = search needs
+
+same-length-2 : tie.Need-same-length-2
+same-length-2 c = search needs
+
+same-length-3 : tie.Need-same-length-3
+same-length-3 c = search needs
+
+same-length-4 : tie.Need-same-length-4
+same-length-4 c = search needs
+
+returns : tie.Need-returns
+returns c =
+    let b = c .before .before .before .before .before .before .before .before .before in
+    let k = b .before in
+    let a = k .before .before .before .before .before .before .before .before .before .args in
+    let e = b .record-sent .ensures
+    ∙ ap (λ (x : ObserverCounts). recordSent (observerOf (a .sequences .now) (a .send-timestamps .now) (a .latencies .now) (a .marks .now) x) (a .sequence) (a .send-timestamp-ns))
+    (k .counts-of .ensures) in
+    stepped (c .recorded-numbers .result) (b .record-sent .result) (b .record-sent .last .0) (b .record-sent .last .1 .0) (b .record-sent .last .1 .1 .0)
+    (b .record-sent .last .1 .1 .1 .0) _ e (c .recorded-numbers .ensures)
+
+pub testkit-record-sent-spec : {M : Type 1} → statement M
+testkit-record-sent-spec =
+    tie.close
+    (tie.spec
+    counts-of-requires
+    record-sent-requires
+    recorded-numbers-requires
+    same-length
+    same-length-2
+    same-length-3
+    same-length-4
+    returns)

@@ -1,0 +1,150 @@
+-- What the generator leaves, from how the plan was judged.
+-- Assumes nothing.
+use Prim.Native.Nat.{ℕ, zero, suc, _+_, _*_, _^_, _<_, _≤_}
+use native.Mathlib.Omega.{arith}
+use native.Mathlib.Nat.{mul-le-mul}
+use mathlib.Core.Path.{_≡_, refl, sym, ap, ap₂, _∙_}
+use mathlib.Core.List.{List, _++_}
+use lib.ListN.{length, drop}
+use borrow.Author.Tests.{lt-ltb, le-ltb}
+use Rattle.error.specs.Outcome.{Outcome, refused, gives}
+use Rattle.measurement.specs.Packet.{ipHeaderLength}
+use Rattle.measurement.specs.declared.InnerIpFlow.{InnerIpFlow}
+use Rattle.measurement.specs.declared.IpVersion.{IpVersion}
+use Rattle.measurement.specs.declared.IpVersion.the-variants.{V4, V6}
+use Rattle.measurement.specs.declared.MeasurementHeader.{MeasurementHeader}
+use Rattle.measurement.specs.declared.Written.the-variants as written
+use Rattle.traffic.specs.Plan.{top, interval, Judged, packetsOf, judgePlan}
+use Rattle.traffic.specs.Generate.{endToEnd, placing, generateOf, generated}
+use Rattle.traffic.specs.Judge.{Fits, intervalAnswer, judgedPlan}
+use Rattle.traffic.specs.Claims.{Acceptable, accepted}
+use Rattle.traffic.specs.declared.Interval.the-variants as answer
+use Rattle.traffic.specs.declared.JudgedPlan.{JudgedPlan}
+use Rattle.traffic.specs.declared.TrafficPlan.{TrafficPlan}
+use Rattle.traffic.proofs.Judged.{plan-accepted}
+use Rattle.traffic.proofs.Packets.{size, packets-length}
+
+-- bytes into a buffer
+module _ (bytes : List ℕ) (next after : ℕ) (buffer : List ℕ) where
+  pub placing-short : length buffer < length bytes → record { outcome = refused 15; next = next; buffer = buffer } ≡ placing bytes next after buffer
+  unfolding placing
+  placing-short h = rw (lt-ltb (length buffer) (length bytes) h, placing)
+
+  pub placing-fits : length bytes ≤ length buffer
+      → record { outcome = gives (length bytes); next = after; buffer = bytes ++ drop (length bytes) buffer } ≡ placing bytes next after buffer
+  unfolding placing
+  placing-fits h = rw (le-ltb (length buffer) (length bytes) h, placing)
+
+-- room for the packets in numbers
+header-short : (v : IpVersion) → ipHeaderLength v ≤ 40
+unfolding ipHeaderLength
+header-short V4 = omega arith
+header-short V6 = omega arith
+
+pub all-fits : (flow : InnerIpFlow) (n s : ℕ) → n ≤ 2048 → s ≡ size flow → n * s < 2 ^ 64
+all-fits flow n s h e =
+    let l : s ≤ 72 = omega (arith, header-short (flow .version)) in
+    let m : n * s ≤ 2048 * 72 = mul-le-mul h l in
+    omega arith
+
+-- the sequence behind the last
+pub behind-last : (n next : ℕ) → next ≤ top → ((k : ℕ) → k < n → next + k < top) → next + n ≤ top
+behind-last zero next low all = omega arith
+behind-last (suc n) next low all = omega (arith, all n (omega arith))
+
+module _ (flow : InnerIpFlow) (plan : TrafficPlan) (next : ℕ) (buffer : List ℕ) where
+  abbrev bytes-of : List ℕ
+  bytes-of = endToEnd flow (packetsOf plan next)
+
+  pub bytes-length : length bytes-of ≡ plan .«packet_count» * size flow
+  unfolding packetsOf
+  bytes-length = packets-length plan next flow (plan .«packet_count») 0
+
+  pub generate-refused : (n : ℕ) → judgePlan plan next .outcome ≡ refused n
+      → record { outcome = refused n; next = judgePlan plan next .next; buffer = buffer } ≡ generateOf flow plan next buffer
+  unfolding generateOf
+  generate-refused n e = rw (e, generateOf)
+
+  pub generate-accepted : judgePlan plan next ≡ accepted plan next → placing bytes-of next (next + plan .«packet_count») buffer ≡ generateOf flow plan next buffer
+  unfolding generateOf
+  generate-accepted e =
+      let given : judgePlan plan next .outcome ≡ gives (packetsOf plan next) = ap (λ (j : Judged). j .outcome) e in
+      ap (λ (j : Judged). placing bytes-of next (j .next) buffer) (sym e) ∙ rw (given, generateOf)
+
+  -- the code's answers
+  module _ (r : JudgedPlan) (e : r ≡ judgedPlan plan (judgePlan plan next)) where
+    interval-is : r .interval ≡ intervalAnswer (interval (plan .«target_rate_pps»)) (judgePlan plan next .outcome)
+    interval-is = ap (λ (x : JudgedPlan). x .interval) e
+
+    next-is : r .«next_sequence» ≡ judgePlan plan next .next
+    next-is = ap (λ (x : JudgedPlan). x .«next_sequence») e
+
+    pub answer-refused : (n : ℕ) → r .interval ≡ answer.Refused n
+        → generated (written.Refused n) (r .«next_sequence») buffer ≡ generateOf flow plan next buffer
+    unfolding intervalAnswer
+    answer-refused n a = go (judgePlan plan next .outcome) refl (sym a ∙ interval-is)
+      where
+        go : (o : Outcome (List MeasurementHeader)) → judgePlan plan next .outcome ≡ o
+            → answer.Refused n ≡ intervalAnswer (interval (plan .«target_rate_pps»)) (judgePlan plan next .outcome)
+            → generated (written.Refused n) (r .«next_sequence») buffer ≡ generateOf flow plan next buffer
+        go (refused m) q f =
+            let g : answer.Refused n ≡ answer.Refused m = f ∙ ap (intervalAnswer (interval (plan .«target_rate_pps»))) q in
+            let same : m ≡ n = cc in
+            ap (λ (x : ℕ). record { outcome = refused n; next = x; buffer = buffer }) next-is ∙ generate-refused n (q ∙ ap refused same)
+        go (gives p) q f =
+            let g : answer.Refused n ≡ answer.Nanoseconds (interval (plan .«target_rate_pps»)) = f ∙ ap (intervalAnswer (interval (plan .«target_rate_pps»))) q in
+            let z : _≡_ {A = ℕ} 0 1 = cc in absurd (omega arith)
+
+    pub answer-accepted : (i : ℕ) → r .interval ≡ answer.Nanoseconds i
+        → (i ≡ interval (plan .«target_rate_pps»)) × Acceptable plan next × (judgePlan plan next ≡ accepted plan next)
+    unfolding intervalAnswer
+    answer-accepted i a = go (judgePlan plan next .outcome) refl (sym a ∙ interval-is)
+      where
+        go : (o : Outcome (List MeasurementHeader)) → judgePlan plan next .outcome ≡ o
+            → answer.Nanoseconds i ≡ intervalAnswer (interval (plan .«target_rate_pps»)) (judgePlan plan next .outcome)
+            → (i ≡ interval (plan .«target_rate_pps»)) × Acceptable plan next × (judgePlan plan next ≡ accepted plan next)
+        go (refused m) q f =
+            let g : answer.Nanoseconds i ≡ answer.Refused m = f ∙ ap (intervalAnswer (interval (plan .«target_rate_pps»))) q in
+            let z : _≡_ {A = ℕ} 0 1 = cc in absurd (omega arith)
+        go (gives p) q f =
+            let g : answer.Nanoseconds i ≡ answer.Nanoseconds (interval (plan .«target_rate_pps»)) = f ∙ ap (intervalAnswer (interval (plan .«target_rate_pps»))) q in
+            let same : i ≡ interval (plan .«target_rate_pps») = cc in
+            let h = plan-accepted plan next p q in
+            (same, h .0, h .1)
+
+    module _ (i : ℕ) (a : r .interval ≡ answer.Nanoseconds i) where
+      count-fits : plan .«packet_count» ≤ 2048
+      count-fits = answer-accepted i a .1 .count-within
+
+      pub length-fits : (s : ℕ) → s ≡ size flow → plan .«packet_count» * s < 2 ^ 64
+      length-fits s es = all-fits flow (plan .«packet_count») s count-fits es
+
+      pub answer-short : (s : ℕ) → s ≡ size flow → length buffer < plan .«packet_count» * s
+          → generated (written.Refused 15) next buffer ≡ generateOf flow plan next buffer
+      answer-short s es h =
+          placing-short bytes-of next (next + plan .«packet_count») buffer (omega (arith, bytes-length, ap (λ (x : ℕ). plan .«packet_count» * x) es))
+          ∙ generate-accepted (answer-accepted i a .2)
+
+      pub answer-fits : (s : ℕ) → s ≡ size flow → next ≤ top → plan .«packet_count» * s ≤ length buffer → Fits flow plan i next buffer
+      answer-fits s es low h =
+          let t = answer-accepted i a in
+          record {
+            is = t .0;
+            count = t .1 .count-within;
+            sequences = behind-last (plan .«packet_count») next low (t .1 .sequences);
+            times = t .1 .times;
+            room = omega (arith, ap (λ (x : ℕ). plan .«packet_count» * x) es);
+          }
+
+      pub answer-written : (s : ℕ) (whole : List ℕ) → s ≡ size flow → plan .«packet_count» * s ≤ length buffer
+          → whole ≡ bytes-of ++ drop (plan .«packet_count» * size flow) buffer
+          → generated (written.Bytes (plan .«packet_count» * s)) (r .«next_sequence») whole ≡ generateOf flow plan next buffer
+      answer-written s whole es h ew =
+          let t = answer-accepted i a .2 in
+          let n : plan .«packet_count» * s ≡ plan .«packet_count» * size flow = ap (λ (x : ℕ). plan .«packet_count» * x) es in
+          let after : r .«next_sequence» ≡ next + plan .«packet_count» = next-is ∙ ap (λ (j : Judged). j .next) t in
+          ap₂ (λ (x y : ℕ). record { outcome = gives x; next = y; buffer = whole }) (n ∙ sym bytes-length) after
+          ∙ ap (λ (x : List ℕ). record { outcome = gives (length bytes-of); next = next + plan .«packet_count»; buffer = x })
+          (ew ∙ ap (λ (x : ℕ). bytes-of ++ drop x buffer) (sym bytes-length))
+          ∙ placing-fits bytes-of next (next + plan .«packet_count») buffer (omega (arith, bytes-length))
+          ∙ generate-accepted t

@@ -1,0 +1,43 @@
+-- For the contracts of private functions: the code's answer to a judgement, and what it is to fit.
+-- Assumes nothing.
+use Prim.Native.Nat.{ℕ, _+_, _*_, _<_, _≤_}
+use mathlib.Core.Path.{_≡_}
+use mathlib.Core.List.{List}
+use lib.ListN.{length}
+use Rattle.error.specs.Outcome.{Outcome, refused, gives}
+use Rattle.measurement.specs.Packet.{ipHeaderLength}
+use Rattle.measurement.specs.declared.InnerIpFlow.{InnerIpFlow}
+use Rattle.measurement.specs.declared.MeasurementHeader.{MeasurementHeader}
+use Rattle.traffic.specs.Plan.{top, interval, timeAt, Judged}
+use Rattle.traffic.specs.declared.Interval.{Interval}
+use Rattle.traffic.specs.declared.Interval.the-variants as answer
+use Rattle.traffic.specs.declared.JudgedPlan.{JudgedPlan}
+use Rattle.traffic.specs.declared.TrafficPlan.{TrafficPlan}
+
+-- The answer to a judgement: of an accepted plan its interval.
+unfoldable pub intervalAnswer : ℕ → Outcome (List MeasurementHeader) → Interval
+intervalAnswer i (refused n) = answer.Refused n
+intervalAnswer i (gives packets) = answer.Nanoseconds i
+
+abbrev pub judgedPlan : TrafficPlan → Judged → JudgedPlan
+judgedPlan plan judged = record { interval = intervalAnswer (interval (plan .«target_rate_pps»)) (judged .outcome); «next_sequence» = judged .next }
+
+-- So many of `count` packets have a time that fits: those before it do, and it does not.
+pub record InTime (first i count r : ℕ) : Type 0 where
+  pub within : r ≤ count
+  pub before : (k : ℕ) → k < r → first + k * i ≤ top
+  pub at : r < count → top < first + r * i
+
+-- The interval of a plan whose rate and count are judged.
+pub record Timed (plan : TrafficPlan) (i : ℕ) : Type 0 where
+  pub is : i ≡ interval (plan .«target_rate_pps»)
+  pub positive : 0 < i
+  pub count : plan .«packet_count» ≤ 2048
+
+-- An accepted plan, and a buffer for all of its packets.
+pub record Fits (flow : InnerIpFlow) (plan : TrafficPlan) (i next : ℕ) (buffer : List ℕ) : Type 0 where
+  pub is : i ≡ interval (plan .«target_rate_pps»)
+  pub count : plan .«packet_count» ≤ 2048
+  pub sequences : next + plan .«packet_count» ≤ top
+  pub times : (k : ℕ) → k < plan .«packet_count» → timeAt plan k ≤ top
+  pub room : plan .«packet_count» * (ipHeaderLength (flow .version) + 32) ≤ length buffer
