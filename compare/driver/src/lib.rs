@@ -7,13 +7,22 @@ pub mod answers;
 pub mod cases;
 pub mod checksum;
 pub mod damage;
+pub mod gtpu;
 pub mod lists;
 pub mod measurement;
 pub mod numbers;
+pub mod observer;
 #[allow(unsafe_code)]
 pub mod ours;
+#[allow(unsafe_code)]
+pub mod ours_traffic;
 pub mod packet;
 pub mod part;
 pub mod random;
 pub mod rust_side;
+pub mod seen;
+pub mod sheets;
+pub mod speed_traffic;
+pub mod tally;
+pub mod traffic;
 pub mod wild;

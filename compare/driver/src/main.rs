@@ -8,7 +8,7 @@ use std::env;
 use std::process::ExitCode;
 
 use driver::part::{grouped, Part};
-use driver::{answers, cases, checksum, measurement};
+use driver::{answers, cases, checksum, gtpu, measurement, observer, tally, traffic};
 
 const USAGE: &str = "usage: compare [--seed N] [--rounds N] [--long]";
 
@@ -94,6 +94,12 @@ fn main() -> ExitCode {
     total.add(measurement::echoing_twice(seed, rounds));
     total.add(measurement::damaged_packets(if long { 5 } else { 2 }));
     total.add(measurement::damaged_random_packets(seed, rounds));
+    total.add(traffic::generating(seed, rounds));
+    total.add(gtpu::elements(seed, rounds));
+    total.add(observer::runs(seed, rounds));
+    total.add(observer::states(seed, rounds));
+    total.add(observer::malformed(seed, rounds));
+    total.add(tally::tallies(seed, rounds));
 
     println!(
         "total: {} parts, {} failed; {} cases, {} differences (seed {seed}, rounds {rounds})",

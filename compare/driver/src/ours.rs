@@ -1,5 +1,5 @@
-//! Our library, as C has it, and a safe function for each of its calls. All unsafe code of the
-//! comparison is here.
+//! Our library, as C has it, and a safe function for each of its calls on checksums and packets.
+//! The unsafe code of the comparison is here and in `ours_traffic.rs`.
 
 unsafe extern "C" {
     fn testkit_checksum(bytes: *const u8, length: usize) -> u16;

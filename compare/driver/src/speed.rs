@@ -1,4 +1,4 @@
-//! `speed`: how long building, reading and echoing take, ours and the Rust's, as a Markdown table.
+//! `speed`: how long the calls take, ours and the Rust's, as a Markdown table.
 //!
 //! Both sides have the same inputs in the same process and take turns, each round in the other
 //! order. A time is the median of many rounds, divided by the inputs of a round. The Rust is the
@@ -54,6 +54,9 @@ fn main() {
             |input| ours::echo(&input.tpdu, black_box(&mut out)),
             |input| echo_tpdu(&input.tpdu),
         );
+    }
+    for (name, ours, rust) in driver::speed_traffic::speed() {
+        println!("| {name} | {ours:.1} | {rust:.1} | {:.2} |", ours / rust);
     }
     println!();
     println!("Medians of {ROUNDS} rounds of {INPUTS} calls. Our output is not cleared first; the");

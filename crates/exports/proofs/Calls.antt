@@ -11,7 +11,14 @@ use Rattle.observer.specs.Judge.{Step}
 use Rattle.observer.specs.declared.ObserverCounts.{ObserverCounts}
 use Rattle.observer.specs.declared.Recorded.{Recorded}
 use Rattle.traffic.specs.Generate.{Generating, generated}
-use Rattle.exports.specs.Interface.{writtenNumbers, decodingNumber, versionNumber, tpduNumbers, generatedNumbers, recordedNumbers, RecordedStep}
+use Rattle.exports.specs.Interface.{writtenNumbers, decodingNumber, versionNumber, tpduNumbers, generatedNumbers, recordedNumbers, RecordedStep, messageNumbers, MessageStepNumbers}
+use Rattle.continuity.specs.Answer.{messageMeans, messageRecorded}
+use Rattle.continuity.specs.Returns.{MessageStep}
+use Rattle.continuity.specs.declared.MessageRecorded.{MessageRecorded}
+use Rattle.evidence.specs.declared.PacketContinuityReport.{PacketContinuityReport}
+use Rattle.exports.specs.declared.LatencyNumbers.{LatencyNumbers}
+use Rattle.exports.specs.declared.TestkitMessage.{TestkitMessage}
+use Rattle.exports.specs.declared.TestkitReport.{TestkitReport}
 use Rattle.exports.specs.declared.TestkitGenerated.{TestkitGenerated}
 use Rattle.exports.specs.declared.TestkitRecorded.{TestkitRecorded}
 use Rattle.exports.specs.declared.TestkitTpdu.{TestkitTpdu}
@@ -77,3 +84,54 @@ module _ (written : Written) (next : ℕ) (buffer : List ℕ) (g : Generating) (
 
   pub generated-buffer : buffer ≡ g .buffer
   generated-buffer = ap (λ (x : Generating). x .buffer) e
+
+-- a message: its number, kind and type
+abbrev messageWith : ObserverCounts → ℕ → ℕ → ℕ → TestkitMessage
+messageWith c n k t = record {
+  number = n;
+  kind = k;
+  «message_type» = t;
+  used = c .used;
+  «duplicate_packets» = c .«duplicate_packets»;
+  «out_of_order_packets» = c .«out_of_order_packets»;
+  «gtpu_error_indications» = c .«gtpu_error_indications»;
+}
+
+pub with-kind : {n m k l t u : ℕ} (c : ObserverCounts) → n ≡ m → k ≡ l → t ≡ u → messageWith c n k t ≡ messageWith c m l u
+with-kind {n} {m} {k} {l} {t} {u} c p q r = ap₂ (λ (n k : ℕ). messageWith c n k t) p q ∙ ap (messageWith c m l) r
+
+pub message-stepped : (r : TestkitMessage) (x : MessageRecorded) (qs ts ls ms : List ℕ) (s : MessageStep) → messageRecorded x qs ts ls ms ≡ s
+    → r ≡ messageNumbers (messageMeans (x .answer)) (x .counts) → MessageStepNumbers r ls ms s
+message-stepped r x qs ts ls ms s e p = record {
+  answer = p ∙ ap (λ (s : MessageStep). messageNumbers (s .outcome) (s .observer .counts)) e;
+  latencies = ap (λ (s : MessageStep). s .observer .latencies) e;
+  marks = ap (λ (s : MessageStep). s .observer .marks) e;
+}
+
+-- a report: its latencies
+abbrev reportWith : PacketContinuityReport → LatencyNumbers → TestkitReport
+reportWith r l = record {
+  number = 0;
+  «window_start_ns» = r .«window_start_ns»;
+  «window_end_ns» = r .«window_end_ns»;
+  «sent_packets» = r .«sent_packets»;
+  «received_packets» = r .«received_packets»;
+  «lost_packets» = r .«lost_packets»;
+  «duplicate_packets» = r .«duplicate_packets»;
+  «out_of_order_packets» = r .«out_of_order_packets»;
+  «gtpu_error_indications» = r .«gtpu_error_indications»;
+  «max_consecutive_lost_packets» = r .«max_consecutive_lost_packets»;
+  «max_gap_duration_ns» = r .«max_gap_duration_ns»;
+  «has_latency» = l .present;
+  «min_ns» = l .summary .«min_ns»;
+  «max_ns» = l .summary .«max_ns»;
+  «avg_ns» = l .summary .«avg_ns»;
+  «max_lost» = r .budget .«max_lost_packets»;
+  «max_consecutive» = r .budget .«max_consecutive_lost_packets»;
+  «outage_budget_ns» = r .budget .«outage_budget_ns»;
+  «forwarding_proven» = r .«forwarding_proven»;
+  «packet_continuity_proven» = r .«packet_continuity_proven»;
+}
+
+pub with-latency : (r : PacketContinuityReport) {l m : LatencyNumbers} → l ≡ m → reportWith r l ≡ reportWith r m
+with-latency r e = ap (reportWith r) e

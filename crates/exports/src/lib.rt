@@ -1,5 +1,12 @@
 // The C interface: each public call under the prefix `testkit_`, on numbers and lent buffers, with the call's own contract. A slice
 // passes as a pointer and a length, an address as a pointer to 16 bytes. A refusal is its number, and 0 is none.
+use continuity::GtpuReturnDatagramOutcome;
+use continuity::MessageRecorded;
+use continuity::ReturnRecording;
+use evidence::Latency;
+use evidence::LatencySummary;
+use evidence::PacketContinuityBudget;
+use evidence::PacketContinuityReport;
 use gtpu::ElementsChecked;
 use measurement::Decoding;
 use measurement::InnerIpFlow;
@@ -8,11 +15,13 @@ use measurement::Written;
 use observer::ObserverCounts;
 use observer::Recorded;
 use observer::Recording;
+use report::Reported;
 use traffic::TrafficPlan;
 ghost use mathlib.Core.Path.{_≡_};
 ghost use Prim.Native.Nat.{_+_};
 ghost use mathlib.Core.Bool.{true};
 ghost use lib.Dec.{eqb};
+ghost use Rattle.error.specs.Outcome.{refused, gives};
 ghost use Rattle.checksum.specs.Sum.{sumOf, foldOf, checksumOf};
 ghost use Rattle.checksum.specs.Claims.{Undamaged};
 ghost use Rattle.measurement.specs.Packet.{buildOf};
@@ -23,7 +32,11 @@ ghost use Rattle.traffic.specs.Generate.{generateOf};
 ghost use Rattle.gtpu.specs.Element.{elementsOf};
 ghost use Rattle.observer.specs.Sending.{recordSent};
 ghost use Rattle.observer.specs.Answer.{observerOf, recordingMeans};
-ghost use Rattle.exports.specs.Interface.{versionNumbered, versionNumber, flowOf, writtenNumbers, decodingNumber, tpduNumbers, planOf, generatedNumbers, outcomeNumber, countsOf, recordedNumbers, RecordedStep};
+ghost use Rattle.continuity.specs.Returns.{recordReceivedTpdu, recordReturnMessage};
+ghost use Rattle.continuity.specs.Answer.{messageMeans};
+ghost use Rattle.report.specs.Report.{reporting};
+ghost use Rattle.report.specs.Answer.{reportedMeans};
+ghost use Rattle.exports.specs.Interface.{versionNumbered, versionNumber, flowOf, writtenNumbers, decodingNumber, tpduNumbers, planOf, generatedNumbers, outcomeNumber, countsOf, recordedNumbers, RecordedStep, kindNumber, ignoredType, messageNumbers, MessageStepNumbers, latencyNumbers, budgetOf, reportNumbers};
 
 // What a call that writes into a lent buffer answers: 0 and how many bytes it wrote, or a refusal's number and 0 bytes.
 #[repr(C)]
@@ -312,4 +325,267 @@ pub extern "C" fn testkit_record_sent(
         sequence,
         send_timestamp_ns,
     ))
+}
+
+// `continuity::record_received_tpdu`
+#[no_mangle]
+pub extern "C" fn testkit_record_received_tpdu(
+    sequences: &[u64],
+    send_timestamps: &[u64],
+    latencies: &mut [u64],
+    marks: &mut [u8],
+    counts: TestkitCounts,
+    return_timestamp_ns: u64,
+    tpdu: &[u8],
+) -> TestkitRecorded
+    ensures { λ r. ⌜ RecordedStep r (now (sequences .entry)) (now («send_timestamps» .entry)) (now (latencies .exit)) (now (marks .exit))
+        (recordReceivedTpdu (observerOf (now (sequences .entry)) (now («send_timestamps» .entry)) (now (latencies .entry)) (now (marks .entry)) (countsOf counts)) «return_timestamp_ns» (now (tpdu .entry))) ⌝ }
+{
+    recorded_numbers(continuity::record_received_tpdu(
+        sequences,
+        send_timestamps,
+        latencies,
+        marks,
+        counts_of(counts),
+        return_timestamp_ns,
+        tpdu,
+    ))
+}
+
+// What a message call answers. `kind`: 0 refused, 1 a measurement T-PDU, 2 an Error Indication, 3 an Echo Response, 4 ignored; of an ignored
+// message the type stands in `message_type`.
+#[repr(C)]
+pub struct TestkitMessage {
+    pub number: u8,
+    pub kind: u8,
+    pub message_type: u8,
+    pub used: usize,
+    pub duplicate_packets: u64,
+    pub out_of_order_packets: u64,
+    pub gtpu_error_indications: u64,
+}
+
+fn message_number(answer: ReturnRecording) -> u8
+    ensures { λ r. ⌜ r ≡ outcomeNumber (messageMeans answer) ⌝ }
+{
+    match answer {
+        ReturnRecording::Accepted(_) => 0,
+        ReturnRecording::Refused(number) => number,
+    }
+}
+
+fn kind_number(answer: ReturnRecording) -> u8
+    ensures { λ r. ⌜ r ≡ kindNumber (messageMeans answer) ⌝ }
+{
+    match answer {
+        ReturnRecording::Refused(_) => 0,
+        ReturnRecording::Accepted(kind) => match kind {
+            GtpuReturnDatagramOutcome::MeasurementTpdu => 1,
+            GtpuReturnDatagramOutcome::ErrorIndication => 2,
+            GtpuReturnDatagramOutcome::EchoResponse => 3,
+            GtpuReturnDatagramOutcome::Ignored(_) => 4,
+        },
+    }
+}
+
+fn ignored_type(answer: ReturnRecording) -> u8
+    ensures { λ r. ⌜ r ≡ ignoredType (messageMeans answer) ⌝ }
+{
+    match answer {
+        ReturnRecording::Refused(_) => 0,
+        ReturnRecording::Accepted(kind) => match kind {
+            GtpuReturnDatagramOutcome::MeasurementTpdu => 0,
+            GtpuReturnDatagramOutcome::ErrorIndication => 0,
+            GtpuReturnDatagramOutcome::EchoResponse => 0,
+            GtpuReturnDatagramOutcome::Ignored(message_type) => message_type,
+        },
+    }
+}
+
+fn message_numbers(recorded: MessageRecorded) -> TestkitMessage
+    ensures { λ r. ⌜ r ≡ messageNumbers (messageMeans (recorded .answer)) (recorded .counts) ⌝ }
+{
+    let answer = recorded.answer;
+    let counts = recorded.counts;
+    TestkitMessage {
+        number: message_number(answer),
+        kind: kind_number(answer),
+        message_type: ignored_type(answer),
+        used: counts.used,
+        duplicate_packets: counts.duplicate_packets,
+        out_of_order_packets: counts.out_of_order_packets,
+        gtpu_error_indications: counts.gtpu_error_indications,
+    }
+}
+
+// `continuity::record_return_gtpu_datagram`
+#[no_mangle]
+pub extern "C" fn testkit_record_return_gtpu_datagram(
+    sequences: &[u64],
+    send_timestamps: &[u64],
+    latencies: &mut [u64],
+    marks: &mut [u8],
+    counts: TestkitCounts,
+    return_timestamp_ns: u64,
+    message_type: u8,
+    payload: &[u8],
+) -> TestkitMessage
+    ensures { λ r. ⌜ MessageStepNumbers r (now (latencies .exit)) (now (marks .exit))
+        (recordReturnMessage (observerOf (now (sequences .entry)) (now («send_timestamps» .entry)) (now (latencies .entry)) (now (marks .entry)) (countsOf counts)) «return_timestamp_ns» «message_type» (now (payload .entry))) ⌝ }
+{
+    message_numbers(continuity::record_return_gtpu_datagram(
+        sequences,
+        send_timestamps,
+        latencies,
+        marks,
+        counts_of(counts),
+        return_timestamp_ns,
+        message_type,
+        payload,
+    ))
+}
+
+// The report in numbers: 0 and the report, or a refusal's number and zeros.
+#[repr(C)]
+pub struct TestkitReport {
+    pub number: u8,
+    pub window_start_ns: u64,
+    pub window_end_ns: u64,
+    pub sent_packets: u64,
+    pub received_packets: u64,
+    pub lost_packets: u64,
+    pub duplicate_packets: u64,
+    pub out_of_order_packets: u64,
+    pub gtpu_error_indications: u64,
+    pub max_consecutive_lost_packets: u64,
+    pub max_gap_duration_ns: u64,
+    pub has_latency: bool,
+    pub min_ns: u64,
+    pub max_ns: u64,
+    pub avg_ns: u64,
+    pub max_lost: u64,
+    pub max_consecutive: u64,
+    pub outage_budget_ns: u64,
+    pub forwarding_proven: bool,
+    pub packet_continuity_proven: bool,
+}
+
+// The latencies of a report: whether there are any, and the three numbers.
+struct LatencyNumbers {
+    present: bool,
+    summary: LatencySummary,
+}
+
+fn latency_numbers(latency: Latency) -> LatencyNumbers
+    ensures { λ r. ⌜ r ≡ latencyNumbers latency ⌝ }
+{
+    match latency {
+        Latency::Absent => LatencyNumbers {
+            present: false,
+            summary: LatencySummary {
+                min_ns: 0,
+                max_ns: 0,
+                avg_ns: 0,
+            },
+        },
+        Latency::Summary(summary) => LatencyNumbers {
+            present: true,
+            summary: summary,
+        },
+    }
+}
+
+fn report_given(report: PacketContinuityReport) -> TestkitReport
+    ensures { λ r. ⌜ r ≡ reportNumbers (gives report) ⌝ }
+{
+    let latency = report.latency;
+    let budget = report.budget;
+    let latencies = latency_numbers(latency);
+    let summary = latencies.summary;
+    TestkitReport {
+        number: 0,
+        window_start_ns: report.window_start_ns,
+        window_end_ns: report.window_end_ns,
+        sent_packets: report.sent_packets,
+        received_packets: report.received_packets,
+        lost_packets: report.lost_packets,
+        duplicate_packets: report.duplicate_packets,
+        out_of_order_packets: report.out_of_order_packets,
+        gtpu_error_indications: report.gtpu_error_indications,
+        max_consecutive_lost_packets: report.max_consecutive_lost_packets,
+        max_gap_duration_ns: report.max_gap_duration_ns,
+        has_latency: latencies.present,
+        min_ns: summary.min_ns,
+        max_ns: summary.max_ns,
+        avg_ns: summary.avg_ns,
+        max_lost: budget.max_lost_packets,
+        max_consecutive: budget.max_consecutive_lost_packets,
+        outage_budget_ns: budget.outage_budget_ns,
+        forwarding_proven: report.forwarding_proven,
+        packet_continuity_proven: report.packet_continuity_proven,
+    }
+}
+
+fn report_refused(number: u8) -> TestkitReport
+    ensures { λ r. ⌜ r ≡ reportNumbers (refused number) ⌝ }
+{
+    TestkitReport {
+        number: number,
+        window_start_ns: 0,
+        window_end_ns: 0,
+        sent_packets: 0,
+        received_packets: 0,
+        lost_packets: 0,
+        duplicate_packets: 0,
+        out_of_order_packets: 0,
+        gtpu_error_indications: 0,
+        max_consecutive_lost_packets: 0,
+        max_gap_duration_ns: 0,
+        has_latency: false,
+        min_ns: 0,
+        max_ns: 0,
+        avg_ns: 0,
+        max_lost: 0,
+        max_consecutive: 0,
+        outage_budget_ns: 0,
+        forwarding_proven: false,
+        packet_continuity_proven: false,
+    }
+}
+
+// `report::report`
+#[no_mangle]
+pub extern "C" fn testkit_report(
+    sequences: &[u64],
+    send_timestamps: &[u64],
+    latencies: &[u64],
+    marks: &[u8],
+    counts: TestkitCounts,
+    window_start_ns: u64,
+    window_end_ns: u64,
+    max_lost_packets: u64,
+    max_consecutive_lost_packets: u64,
+    outage_budget_ns: u64,
+) -> TestkitReport
+    ensures { λ r. ⌜ r ≡ reportNumbers (reporting (observerOf (now (sequences .entry)) (now («send_timestamps» .entry)) (now (latencies .entry)) (now (marks .entry)) (countsOf counts)) «window_start_ns» «window_end_ns» (budgetOf «max_lost_packets» «max_consecutive_lost_packets» «outage_budget_ns»)) ⌝ }
+{
+    let budget = PacketContinuityBudget {
+        max_lost_packets: max_lost_packets,
+        max_consecutive_lost_packets: max_consecutive_lost_packets,
+        outage_budget_ns: outage_budget_ns,
+    };
+    let reported = report::report(
+        sequences,
+        send_timestamps,
+        latencies,
+        marks,
+        counts_of(counts),
+        window_start_ns,
+        window_end_ns,
+        budget,
+    );
+    match reported {
+        Reported::Given(report) => report_given(report),
+        Reported::Refused(number) => report_refused(number),
+    }
 }

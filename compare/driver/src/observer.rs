@@ -1,0 +1,485 @@
+//! Our run sheet against the Rust's observer: whole runs, sheets set to any state, and malformed
+//! sheets, which the Rust cannot have.
+
+use std::collections::BTreeMap;
+
+use testkit_open::evidence::PacketContinuityBudget;
+use testkit_open::traffic::GtpuReturnDatagramOutcome;
+
+use crate::gtpu::any_elements;
+use crate::ours_traffic::{Noted, Report, RunSheet};
+use crate::packet::{part_at, set_word, sum_again};
+use crate::part::Part;
+use crate::random::Random;
+use crate::rust_side::gtpu::Message;
+use crate::rust_side::measurement::{build, echo, Probe};
+use crate::rust_side::traffic::{Observer, Row, Sheet};
+use crate::seen::Seen;
+use crate::sheets::{capacity, difference, fresh, holding, questions, MOST_ROWS};
+use crate::wild::any_probe;
+
+/// Numbers that the Rust does not have.
+const SHEET_MALFORMED: u8 = 21;
+const SHEET_FULL: u8 = 22;
+
+const G_PDU: u8 = 255;
+
+/// One call on a run sheet.
+enum Call {
+    Sent {
+        sequence: u64,
+        send_time: u64,
+    },
+    Tpdu {
+        time: u64,
+        tpdu: Vec<u8>,
+    },
+    Message {
+        time: u64,
+        message_type: u8,
+        payload: Vec<u8>,
+    },
+}
+
+/// Runs on fresh sheets, of few rows and of 2,048. Each number of a run must have been due.
+pub fn runs(seed: u64, rounds: u64) -> Part {
+    let mut part = Part::new("run sheet, runs", "calls and reports");
+    let mut seen = Seen::default();
+    let mut random = Random::new(seed);
+    for round in 0..rounds / 8 {
+        let rows = match round % 512 {
+            0 => MOST_ROWS,
+            _ => random.length(48),
+        };
+        let mut pair = Pair::new(fresh(&mut random, rows), Sheet::default());
+        run(&mut part, &mut seen, &mut random, &mut pair, 4 * rows + 20);
+        fill(&mut part, &mut seen, &mut random, &mut pair);
+        if round % 256 == 1 {
+            each_type(&mut part, &mut seen, &mut random, &mut pair);
+        }
+    }
+    let met = (0..=14).chain([SHEET_FULL]).chain(23..=29).chain([37]);
+    seen.require(&mut part, met);
+    part
+}
+
+/// Runs from any state: counters at or near their top, latencies of any size, and on rows that
+/// have not returned a latency that nobody may look at.
+pub fn states(seed: u64, rounds: u64) -> Part {
+    let mut part = Part::new("run sheet, any state", "calls and reports");
+    let mut seen = Seen::default();
+    let mut random = Random::new(seed);
+    for round in 0..rounds / 10 {
+        let rows = match round % 512 {
+            0 => MOST_ROWS,
+            _ => random.length(48),
+        };
+        let contents = any_contents(&mut random, rows);
+        let room = (rows + random.below(4)).min(MOST_ROWS);
+        let mut pair = Pair::new(fresh(&mut random, room), contents);
+        pair.spoil_unmarked(&mut random);
+        pair.reports(&mut part, &mut random);
+        run(&mut part, &mut seen, &mut random, &mut pair, 20);
+    }
+    let met = (0..=14).chain([SHEET_FULL]).chain(23..=29).chain([37]);
+    seen.require(&mut part, met);
+    part
+}
+
+/// Malformed sheets: every call refuses by 21 and leaves all, before it looks at anything else.
+pub fn malformed(seed: u64, rounds: u64) -> Part {
+    let mut part = Part::new("run sheet, malformed", "calls and reports");
+    let mut random = Random::new(seed);
+    for round in 0..rounds / 10 {
+        let rows = match round % 128 {
+            0..4 => MOST_ROWS,
+            _ => 2 + random.length(30),
+        };
+        let contents = any_contents(&mut random, rows);
+        let mut sheet = holding(&fresh(&mut random, rows), &contents);
+        spoil(&mut random, &mut sheet, round % 4);
+
+        let mut calls: Vec<Call> = (0..8)
+            .map(|_| any_call(&mut random, &contents.rows, 0, rows))
+            .collect();
+        calls.extend(
+            [0, 1, 2, 26, 31, 254, G_PDU].map(|message_type| Call::Message {
+                time: random.number(),
+                message_type,
+                payload: any_elements(&mut random, 12),
+            }),
+        );
+        let due = Noted {
+            number: SHEET_MALFORMED,
+            ..Noted::default()
+        };
+        for call in calls {
+            let mut ours = sheet.clone();
+            let answer = call.on_ours(&mut ours);
+            let answer = (answer, difference(&ours, &sheet));
+            part.case(call.input(), answer, (due, None));
+        }
+        let due = Report {
+            number: SHEET_MALFORMED,
+            ..Report::default()
+        };
+        let budget = PacketContinuityBudget::zero_loss();
+        part.case(&[], sheet.report(0, random.number(), budget), due);
+    }
+    part
+}
+
+impl Call {
+    /// What is printed of it.
+    fn input(&self) -> &[u8] {
+        match self {
+            Call::Sent { .. } => &[],
+            Call::Tpdu { tpdu, .. } => tpdu,
+            Call::Message { payload, .. } => payload,
+        }
+    }
+
+    fn on_ours(&self, sheet: &mut RunSheet) -> Noted {
+        match self {
+            Call::Sent {
+                sequence,
+                send_time,
+            } => sheet.record_sent(*sequence, *send_time),
+            Call::Tpdu { time, tpdu } => sheet.record_received_tpdu(*time, tpdu),
+            Call::Message {
+                time,
+                message_type,
+                payload,
+            } => sheet.record_return_gtpu_datagram(*time, *message_type, payload),
+        }
+    }
+
+    fn on_rust(&self, observer: &mut Observer) -> Noted {
+        use GtpuReturnDatagramOutcome as Outcome;
+        let outcome = match self {
+            Call::Sent {
+                sequence,
+                send_time,
+            } => {
+                observer.record_sent(*sequence, *send_time);
+                return Noted::default();
+            }
+            Call::Tpdu { time, tpdu } => {
+                let number = observer.record_received_tpdu(*time, tpdu).err();
+                return Noted {
+                    number: number.unwrap_or(0),
+                    ..Noted::default()
+                };
+            }
+            Call::Message {
+                time,
+                message_type,
+                payload,
+            } => {
+                let message = Message {
+                    message_type: *message_type,
+                    teid: *time as u32, // neither this
+                    sequence: None,     // nor this is looked at
+                    payload: payload.clone(),
+                };
+                observer.record_return_gtpu_datagram(*time, &message)
+            }
+        };
+        let (number, kind, message_type) = match outcome {
+            Err(number) => (number, 0, 0),
+            Ok(Outcome::MeasurementTpdu) => (0, 1, 0),
+            Ok(Outcome::ErrorIndication) => (0, 2, 0),
+            Ok(Outcome::EchoResponse) => (0, 3, 0),
+            Ok(Outcome::Ignored { message_type }) => (0, 4, message_type),
+        };
+        Noted {
+            number,
+            kind,
+            message_type,
+        }
+    }
+}
+
+/// A sheet of ours beside an observer of the Rust's.
+struct Pair {
+    ours: RunSheet,
+    rust: Observer,
+    /// What the observer holds.
+    contents: Sheet,
+    /// What stands as latency on rows of ours that have not returned, if it is not 0.
+    unmarked_latencies: BTreeMap<u64, u64>,
+}
+
+impl Pair {
+    fn new(sheet: RunSheet, contents: Sheet) -> Self {
+        Self {
+            ours: holding(&sheet, &contents),
+            rust: Observer::from_sheet(&contents),
+            contents,
+            unmarked_latencies: BTreeMap::new(),
+        }
+    }
+
+    /// Writes any latency on our rows that have not returned.
+    fn spoil_unmarked(&mut self, random: &mut Random) {
+        for row in self.contents.rows.iter().filter(|row| !row.returned) {
+            let latency = random.number();
+            self.unmarked_latencies.insert(row.sequence, latency);
+        }
+        self.ours = self.due();
+    }
+
+    /// Our sheet as it has to be for what the observer holds: every cell past the used rows kept.
+    fn due(&self) -> RunSheet {
+        let mut due = holding(&self.ours, &self.contents);
+        if !self.unmarked_latencies.is_empty() {
+            for (at, row) in self.contents.rows.iter().enumerate() {
+                if let (false, Some(&latency)) =
+                    (row.returned, self.unmarked_latencies.get(&row.sequence))
+                {
+                    due.latencies[at] = latency;
+                }
+            }
+        }
+        due
+    }
+
+    /// Whether this is a new sequence on a full sheet.
+    fn full_for(&self, call: &Call) -> bool {
+        let Call::Sent { sequence, .. } = call else {
+            return false;
+        };
+        let rows = &self.contents.rows;
+        rows.len() == capacity(&self.ours)
+            && rows
+                .binary_search_by_key(sequence, |row| row.sequence)
+                .is_err()
+    }
+
+    /// Makes a call on both: the answers, the counts and every cell must be equal afterwards.
+    fn call(&mut self, part: &mut Part, seen: &mut Seen, call: &Call) {
+        let due_answer = if self.full_for(call) {
+            Noted {
+                number: SHEET_FULL,
+                ..Noted::default()
+            }
+        } else {
+            call.on_rust(&mut self.rust)
+        };
+        let mut ours = self.ours.clone();
+        let answer = call.on_ours(&mut ours);
+        self.contents = self.rust.sheet();
+        let due = self.due();
+        seen.add(due_answer.number);
+        let answer = (answer, difference(&ours, &due));
+        part.case(call.input(), answer, (due_answer, None));
+        self.ours = due;
+    }
+
+    fn reports(&self, part: &mut Part, random: &mut Random) {
+        let report = |(start, end, budget)| Report::from(self.rust.report(start, end, budget));
+        for question in questions(random, &self.contents, report) {
+            let (start, end, budget) = question;
+            part.case(&[], self.ours.report(start, end, budget), report(question));
+        }
+    }
+}
+
+/// As many random calls, with reports now and then.
+fn run(part: &mut Part, seen: &mut Seen, random: &mut Random, pair: &mut Pair, calls: usize) {
+    let rows = capacity(&pair.ours);
+    let base = match random.below(4) {
+        0 => 0,
+        1 => u64::MAX - rows as u64,
+        _ => random.number(),
+    };
+    for step in 0..calls {
+        let call = any_call(random, &pair.contents.rows, base, rows);
+        pair.call(part, seen, &call);
+        if step % 16 == 15 && (rows < MOST_ROWS || step % 256 == 15) {
+            pair.reports(part, random);
+        }
+    }
+    pair.reports(part, random);
+}
+
+/// Sends new sequences until the sheet is full, one more, and a row that is there.
+fn fill(part: &mut Part, seen: &mut Seen, random: &mut Random, pair: &mut Pair) {
+    let mut sequences: Vec<u64> = (pair.contents.rows.len()..=capacity(&pair.ours))
+        .map(|_| random.number())
+        .collect();
+    sequences.extend(pair.contents.rows.last().map(|row| row.sequence));
+    for sequence in sequences {
+        let send_time = random.number();
+        let call = Call::Sent {
+            sequence,
+            send_time,
+        };
+        pair.call(part, seen, &call);
+    }
+    pair.reports(part, random);
+}
+
+/// Every message type, with a T-PDU, with elements and with nothing.
+fn each_type(part: &mut Part, seen: &mut Seen, random: &mut Random, pair: &mut Pair) {
+    let sequence = pair.contents.rows.first().map_or(0, |row| row.sequence);
+    let probe = Probe {
+        sequence,
+        ..any_probe(random)
+    };
+    let elements = [16, 0, 0, 0, 9, 133, 0, 4, 10, 0, 0, 9];
+    for payload in [&build(probe)[..], &elements, &[]] {
+        for message_type in 0..=255 {
+            let call = Call::Message {
+                time: u64::MAX,
+                message_type,
+                payload: payload.to_vec(),
+            };
+            pair.call(part, seen, &call);
+        }
+    }
+}
+
+/// A call on a sheet with these rows, on sequences from `base` on.
+fn any_call(random: &mut Random, rows: &[Row], base: u64, capacity: usize) -> Call {
+    let any_sequence = base.wrapping_add(random.below(2 * capacity + 2) as u64);
+    let row = match rows.len() {
+        0 => None,
+        length => Some(rows[random.below(length)]),
+    };
+    match random.below(16) {
+        0..6 => {
+            let last = rows.last();
+            let next = last.map_or(base, |row| {
+                row.sequence.wrapping_add(1 + random.length(2) as u64)
+            });
+            Call::Sent {
+                sequence: if random.below(4) == 0 {
+                    any_sequence
+                } else {
+                    next
+                },
+                send_time: time_near(random, last.map_or(0, |row| row.send_time)),
+            }
+        }
+        6 => Call::Sent {
+            sequence: row.map_or(any_sequence, |row| row.sequence),
+            send_time: time_near(random, row.map_or(0, |row| row.send_time)),
+        },
+        7..13 => {
+            let mut probe = any_probe(random);
+            if random.below(16) > 0 {
+                probe.sequence = row.map_or(any_sequence, |row| row.sequence);
+            }
+            let mut tpdu = build(probe);
+            if random.below(4) == 0 {
+                tpdu = echo(&tpdu).expect("a built T-PDU is echoed");
+            }
+            if random.below(4) == 0 {
+                spoil_tpdu(random, &mut tpdu);
+            }
+            let time = time_near(random, row.map_or(0, |row| row.send_time));
+            if random.below(2) == 0 {
+                Call::Tpdu { time, tpdu }
+            } else {
+                Call::Message {
+                    time,
+                    message_type: G_PDU,
+                    payload: tpdu,
+                }
+            }
+        }
+        _ => {
+            let message_types = [26, 26, 26, 2, 31, 254, 1, random.number() as u8];
+            let length = random.length(60);
+            Call::Message {
+                time: random.number(),
+                message_type: message_types[random.below(message_types.len())],
+                payload: any_elements(random, length),
+            }
+        }
+    }
+}
+
+/// A time soon after another, as a rule; or just before it, the same, or any.
+fn time_near(random: &mut Random, time: u64) -> u64 {
+    match random.below(16) {
+        0 => [0, u64::MAX, random.number()][random.below(3)],
+        1 => time.saturating_sub(1),
+        2 => time,
+        3 => time.saturating_sub(random.length(1 << 20) as u64),
+        _ => time.saturating_add(random.length(1 << 20) as u64),
+    }
+}
+
+/// Cuts a T-PDU or changes a byte or a field; then may make the checksums right.
+fn spoil_tpdu(random: &mut Random, tpdu: &mut Vec<u8>) {
+    let at = part_at(tpdu);
+    match random.below(4) {
+        0 => tpdu.truncate(random.below(tpdu.len())),
+        1 => {
+            let place = random.below(tpdu.len());
+            tpdu[place] = random.number() as u8;
+        }
+        2 => {
+            let lengths = [0, 7, 8, 31, 32, 33, 0xffff];
+            set_word(tpdu, at + 4, lengths[random.below(lengths.len())]);
+        }
+        _ => set_word(tpdu, 2 * random.below(at / 2 + 8), 0),
+    }
+    if random.below(2) == 0 {
+        sum_again(tpdu);
+    }
+}
+
+/// What a sheet may hold: rows with sequences near each other or far apart, any times and
+/// latencies, any counters.
+fn any_contents(random: &mut Random, rows: usize) -> Sheet {
+    let gap = [1, 3, u64::MAX / (rows as u64 + 1)][random.below(3)];
+    let most = u64::MAX - gap * (rows as u64).saturating_sub(1);
+    let mut sequence = [0, most, random.number() % most.max(1)][random.below(3)];
+    let number = |random: &mut Random| match random.below(4) {
+        0 => [0, 1, u64::MAX - 1, u64::MAX][random.below(4)],
+        1 => random.length(1 << 20) as u64,
+        _ => random.number(),
+    };
+    let returning = random.below(5);
+    let contents = (0..rows).map(|index| {
+        if index > 0 {
+            sequence += gap;
+        }
+        let returned = random.below(4) < returning;
+        Row {
+            sequence,
+            send_time: number(random),
+            latency: if returned { number(random) } else { 0 },
+            returned,
+        }
+    });
+    Sheet {
+        rows: contents.collect(),
+        duplicates: number(random),
+        out_of_order: number(random),
+        error_indications: number(random) * random.below(2) as u64,
+    }
+}
+
+/// Makes a full sheet of at least two rows malformed, in one of the four ways.
+fn spoil(random: &mut Random, sheet: &mut RunSheet, way: u64) {
+    let used = sheet.counts.used;
+    let at = random.below(used - 1);
+    match way {
+        0 if used == MOST_ROWS => {
+            // A row more than there may be, all in order.
+            sheet.sequences = (0..=used as u64).collect();
+            sheet.send_times.resize(used + 1, 0);
+            sheet.latencies.resize(used + 1, 0);
+            sheet.marks = vec![0; used + 1];
+            sheet.counts.used = used + 1;
+        }
+        0 => sheet.counts.used = [used + 1, usize::MAX][random.below(2)],
+        1 => sheet.sequences[at + 1] = sheet.sequences[at],
+        2 => sheet.sequences.swap(at, at + 1),
+        _ => sheet.marks[at + random.below(2)] = 2 + random.below(254) as u8,
+    }
+}

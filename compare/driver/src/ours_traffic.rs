@@ -1,0 +1,322 @@
+//! Our generator, run sheet, report and element walk, as C has them, and a safe function for each
+//! of these calls.
+
+use testkit_open::evidence::PacketContinuityBudget;
+
+use crate::ours::Values;
+
+unsafe extern "C" {
+    fn testkit_generate(
+        version: u8,
+        src: *const [u8; 16],
+        dst: *const [u8; 16],
+        src_port: u16,
+        dst_port: u16,
+        packet_count: u64,
+        target_rate_pps: u64,
+        first_send_timestamp_ns: u64,
+        next_sequence: u64,
+        out: *mut u8,
+        out_length: usize,
+    ) -> Generated;
+    fn testkit_validate_elements(payload: *const u8, length: usize) -> u8;
+    fn testkit_record_sent(
+        sequences: *mut u64,
+        sequences_length: usize,
+        send_timestamps: *mut u64,
+        send_timestamps_length: usize,
+        latencies: *mut u64,
+        latencies_length: usize,
+        marks: *mut u8,
+        marks_length: usize,
+        counts: Counts,
+        sequence: u64,
+        send_timestamp_ns: u64,
+    ) -> TestkitRecorded;
+    fn testkit_record_received_tpdu(
+        sequences: *const u64,
+        sequences_length: usize,
+        send_timestamps: *const u64,
+        send_timestamps_length: usize,
+        latencies: *mut u64,
+        latencies_length: usize,
+        marks: *mut u8,
+        marks_length: usize,
+        counts: Counts,
+        return_timestamp_ns: u64,
+        tpdu: *const u8,
+        length: usize,
+    ) -> TestkitRecorded;
+    fn testkit_record_return_gtpu_datagram(
+        sequences: *const u64,
+        sequences_length: usize,
+        send_timestamps: *const u64,
+        send_timestamps_length: usize,
+        latencies: *mut u64,
+        latencies_length: usize,
+        marks: *mut u8,
+        marks_length: usize,
+        counts: Counts,
+        return_timestamp_ns: u64,
+        message_type: u8,
+        payload: *const u8,
+        length: usize,
+    ) -> TestkitMessage;
+    fn testkit_report(
+        sequences: *const u64,
+        sequences_length: usize,
+        send_timestamps: *const u64,
+        send_timestamps_length: usize,
+        latencies: *const u64,
+        latencies_length: usize,
+        marks: *const u8,
+        marks_length: usize,
+        counts: Counts,
+        window_start_ns: u64,
+        window_end_ns: u64,
+        max_lost_packets: u64,
+        max_consecutive_lost_packets: u64,
+        outage_budget_ns: u64,
+    ) -> Report;
+}
+
+/// C's `TestkitGenerated`: 0 and how many bytes were written, or the number of a refusal and 0;
+/// and the next sequence afterwards, on refusals too.
+#[repr(C)]
+#[derive(Debug, Clone, Copy, PartialEq, Eq)]
+pub struct Generated {
+    pub number: u8,
+    pub bytes: usize,
+    pub next_sequence: u64,
+}
+
+/// C's `TestkitCounts`: what stands beside the columns of a run sheet.
+#[repr(C)]
+#[derive(Debug, Clone, Copy, Default, PartialEq, Eq)]
+pub struct Counts {
+    pub used: usize,
+    pub duplicate_packets: u64,
+    pub out_of_order_packets: u64,
+    pub gtpu_error_indications: u64,
+}
+
+/// 0 or the number of a refusal, and the counts afterwards, on refusals too.
+#[repr(C)]
+struct TestkitRecorded {
+    number: u8,
+    used: usize,
+    duplicate_packets: u64,
+    out_of_order_packets: u64,
+    gtpu_error_indications: u64,
+}
+
+/// As `TestkitRecorded`, with what the message was.
+#[repr(C)]
+struct TestkitMessage {
+    number: u8,
+    kind: u8,
+    message_type: u8,
+    used: usize,
+    duplicate_packets: u64,
+    out_of_order_packets: u64,
+    gtpu_error_indications: u64,
+}
+
+/// C's `TestkitReport`: 0 and the report, or the number of a refusal and nothing but zeros.
+#[repr(C)]
+#[derive(Debug, Clone, Copy, Default, PartialEq, Eq)]
+pub struct Report {
+    pub number: u8,
+    pub window_start_ns: u64,
+    pub window_end_ns: u64,
+    pub sent_packets: u64,
+    pub received_packets: u64,
+    pub lost_packets: u64,
+    pub duplicate_packets: u64,
+    pub out_of_order_packets: u64,
+    pub gtpu_error_indications: u64,
+    pub max_consecutive_lost_packets: u64,
+    pub max_gap_duration_ns: u64,
+    pub has_latency: bool,
+    pub min_ns: u64,
+    pub max_ns: u64,
+    pub avg_ns: u64,
+    pub max_lost: u64,
+    pub max_consecutive: u64,
+    pub outage_budget_ns: u64,
+    pub forwarding_proven: bool,
+    pub packet_continuity_proven: bool,
+}
+
+/// What a call on a run sheet answers: 0 or the number of a refusal. A message that is not
+/// refused has a kind: 1 measurement, 2 error indication, 3 echo response, 4 ignored, and then
+/// its type.
+#[derive(Debug, Clone, Copy, Default, PartialEq, Eq)]
+pub struct Noted {
+    pub number: u8,
+    pub kind: u8,
+    pub message_type: u8,
+}
+
+/// A run sheet: the columns, which may differ in length, and the counts.
+#[derive(Debug, Clone, PartialEq, Eq)]
+pub struct RunSheet {
+    pub sequences: Vec<u64>,
+    pub send_times: Vec<u64>,
+    pub latencies: Vec<u64>,
+    pub marks: Vec<u8>,
+    pub counts: Counts,
+}
+
+/// Writes the packets of a plan, end to end. `first` is what the first of them says.
+pub fn generate(
+    first: &Values,
+    packet_count: u64,
+    target_rate_pps: u64,
+    out: &mut [u8],
+) -> Generated {
+    // SAFETY: the call reads two addresses and writes at most `out_length` bytes to `out`; all
+    // are lent for as long as it runs, and `out` to it alone.
+    unsafe {
+        testkit_generate(
+            first.version,
+            &first.src,
+            &first.dst,
+            first.src_port,
+            first.dst_port,
+            packet_count,
+            target_rate_pps,
+            first.send_time,
+            first.sequence,
+            out.as_mut_ptr(),
+            out.len(),
+        )
+    }
+}
+
+/// The walk over the elements of an Error Indication: 0, or the number of a refusal.
+pub fn validate_elements(payload: &[u8]) -> u8 {
+    // SAFETY: the call reads `length` bytes from `payload`, which are lent for as long as it runs.
+    unsafe { testkit_validate_elements(payload.as_ptr(), payload.len()) }
+}
+
+impl RunSheet {
+    pub fn record_sent(&mut self, sequence: u64, send_time: u64) -> Noted {
+        // SAFETY: each column is lent with its length for as long as the call runs, and to it
+        // alone.
+        let recorded = unsafe {
+            testkit_record_sent(
+                self.sequences.as_mut_ptr(),
+                self.sequences.len(),
+                self.send_times.as_mut_ptr(),
+                self.send_times.len(),
+                self.latencies.as_mut_ptr(),
+                self.latencies.len(),
+                self.marks.as_mut_ptr(),
+                self.marks.len(),
+                self.counts,
+                sequence,
+                send_time,
+            )
+        };
+        self.recorded(recorded)
+    }
+
+    pub fn record_received_tpdu(&mut self, return_time: u64, tpdu: &[u8]) -> Noted {
+        // SAFETY: as in `record_sent`; the call reads `length` bytes from `tpdu`.
+        let recorded = unsafe {
+            testkit_record_received_tpdu(
+                self.sequences.as_ptr(),
+                self.sequences.len(),
+                self.send_times.as_ptr(),
+                self.send_times.len(),
+                self.latencies.as_mut_ptr(),
+                self.latencies.len(),
+                self.marks.as_mut_ptr(),
+                self.marks.len(),
+                self.counts,
+                return_time,
+                tpdu.as_ptr(),
+                tpdu.len(),
+            )
+        };
+        self.recorded(recorded)
+    }
+
+    pub fn record_return_gtpu_datagram(
+        &mut self,
+        return_time: u64,
+        message_type: u8,
+        payload: &[u8],
+    ) -> Noted {
+        // SAFETY: as in `record_sent`; the call reads `length` bytes from `payload`.
+        let message = unsafe {
+            testkit_record_return_gtpu_datagram(
+                self.sequences.as_ptr(),
+                self.sequences.len(),
+                self.send_times.as_ptr(),
+                self.send_times.len(),
+                self.latencies.as_mut_ptr(),
+                self.latencies.len(),
+                self.marks.as_mut_ptr(),
+                self.marks.len(),
+                self.counts,
+                return_time,
+                message_type,
+                payload.as_ptr(),
+                payload.len(),
+            )
+        };
+        self.counts = Counts {
+            used: message.used,
+            duplicate_packets: message.duplicate_packets,
+            out_of_order_packets: message.out_of_order_packets,
+            gtpu_error_indications: message.gtpu_error_indications,
+        };
+        Noted {
+            number: message.number,
+            kind: message.kind,
+            message_type: message.message_type,
+        }
+    }
+
+    pub fn report(
+        &self,
+        window_start: u64,
+        window_end: u64,
+        budget: PacketContinuityBudget,
+    ) -> Report {
+        // SAFETY: each column is lent with its length for as long as the call runs, which reads.
+        unsafe {
+            testkit_report(
+                self.sequences.as_ptr(),
+                self.sequences.len(),
+                self.send_times.as_ptr(),
+                self.send_times.len(),
+                self.latencies.as_ptr(),
+                self.latencies.len(),
+                self.marks.as_ptr(),
+                self.marks.len(),
+                self.counts,
+                window_start,
+                window_end,
+                budget.max_lost_packets,
+                budget.max_consecutive_lost_packets,
+                budget.outage_budget_ns,
+            )
+        }
+    }
+
+    fn recorded(&mut self, recorded: TestkitRecorded) -> Noted {
+        self.counts = Counts {
+            used: recorded.used,
+            duplicate_packets: recorded.duplicate_packets,
+            out_of_order_packets: recorded.out_of_order_packets,
+            gtpu_error_indications: recorded.gtpu_error_indications,
+        };
+        Noted {
+            number: recorded.number,
+            ..Noted::default()
+        }
+    }
+}

@@ -1,0 +1,171 @@
+//! How long the generator, the run sheet, the report and the element walk take, ours and the
+//! unchanged Rust's, for the table of `speed`.
+//!
+//! Both sides do the same work in the same process and take turns, each round in the other order.
+//! A time is the median of the rounds. The Rust allocates what it makes, and that is timed; ours
+//! writes into columns and a buffer that are made beforehand.
+
+use std::hint::black_box;
+use std::time::Instant;
+
+use opc_dataplane_testkit::evidence::PacketContinuityBudget;
+use opc_dataplane_testkit::gtpu::validate_error_indication_ies;
+use opc_dataplane_testkit::measurement::InnerIpFlow;
+use opc_dataplane_testkit::traffic::{
+    ContinuityObserver, GeneratedPacket, TrafficEngine, TrafficPlan,
+};
+
+use crate::cases::ipv4_probe;
+use crate::ours::Values;
+use crate::ours_traffic::{generate, validate_elements, Counts, RunSheet};
+use crate::sheets::MOST_ROWS;
+
+const ROUNDS: usize = 201;
+
+/// Calls that are too short to be timed alone are made so often in a round.
+const REPEATS: usize = 4_096;
+
+/// What is timed, and the nanoseconds that ours and the Rust's take for it.
+pub type Timing = (String, f64, f64);
+
+pub fn speed() -> Vec<Timing> {
+    let mut timings: Vec<Timing> = [16, 256, 2_048].map(pairs).into();
+    timings.extend([report(), walk(), generator()]);
+    timings
+}
+
+/// A fresh sheet takes `rows` pairs of a sending and its return: the time of a pair.
+fn pairs(rows: usize) -> Timing {
+    let packets = packets(rows);
+    let mut sheet = sheet(rows);
+    let (ours, rust) = take_turns(
+        || {
+            sheet.counts = Counts::default();
+            for packet in &packets {
+                let sent_at = packet.send_timestamp_ns;
+                black_box(sheet.record_sent(packet.sequence, sent_at));
+                black_box(sheet.record_received_tpdu(sent_at + 7, &packet.tpdu));
+            }
+        },
+        || {
+            let mut observer = ContinuityObserver::default();
+            for packet in &packets {
+                observer.record_sent(packet);
+                let returned_at = packet.send_timestamp_ns + 7;
+                black_box(observer.record_received_tpdu(returned_at, &packet.tpdu)).unwrap();
+            }
+            observer
+        },
+    );
+    let name = format!("sending and its return, in a run of {rows}");
+    (name, ours / rows as f64, rust / rows as f64)
+}
+
+/// The report of 2,048 rows, every third of them lost.
+fn report() -> Timing {
+    let mut sheet = sheet(MOST_ROWS);
+    let mut observer = ContinuityObserver::default();
+    for (index, packet) in packets(MOST_ROWS).iter().enumerate() {
+        let sent_at = packet.send_timestamp_ns;
+        sheet.record_sent(packet.sequence, sent_at);
+        observer.record_sent(packet);
+        if index % 3 > 0 {
+            sheet.record_received_tpdu(sent_at + 7, &packet.tpdu);
+            observer
+                .record_received_tpdu(sent_at + 7, &packet.tpdu)
+                .expect("a packet that was sent returns");
+        }
+    }
+    let budget = PacketContinuityBudget::zero_loss();
+    let our_budget = testkit_open::evidence::PacketContinuityBudget::zero_loss();
+    let (ours, rust) = take_turns(
+        || sheet.report(0, black_box(9_000), our_budget),
+        || observer.report("", 0, black_box(9_000), budget),
+    );
+    ("report of 2,048 rows".to_string(), ours, rust)
+}
+
+/// The walk over the 12 bytes of an Error Indication.
+fn walk() -> Timing {
+    let elements = [16, 0, 0, 0, 9, 133, 0, 4, 10, 0, 0, 9];
+    let (ours, rust) = take_turns(
+        || {
+            for _ in 0..REPEATS {
+                black_box(validate_elements(black_box(&elements)));
+            }
+        },
+        || {
+            for _ in 0..REPEATS {
+                black_box(validate_error_indication_ies(black_box(&elements))).unwrap();
+            }
+        },
+    );
+    let repeats = REPEATS as f64;
+    let name = "element walk of 12 bytes".to_string();
+    (name, ours / repeats, rust / repeats)
+}
+
+/// A plan of 2,048 IPv4 packets.
+fn generator() -> Timing {
+    let first = Values::from(ipv4_probe(0));
+    let mut out = vec![0; 52 * MOST_ROWS];
+    let (ours, rust) = take_turns(
+        || generate(black_box(&first), MOST_ROWS as u64, 1_000, &mut out),
+        || packets(black_box(MOST_ROWS)),
+    );
+    ("generate, 2,048 IPv4 packets".to_string(), ours, rust)
+}
+
+/// IPv4 packets, one each millisecond.
+fn packets(count: usize) -> Vec<GeneratedPacket> {
+    let flow = InnerIpFlow::Ipv4 {
+        src: [10, 0, 0, 1].into(),
+        dst: [10, 0, 0, 2].into(),
+        src_port: 1000,
+        dst_port: 2000,
+    };
+    let plan = TrafficPlan {
+        packet_count: count as u64,
+        target_rate_pps: 1_000,
+        first_send_timestamp_ns: 0,
+    };
+    TrafficEngine::with_first_sequence(1)
+        .generate(flow, plan)
+        .expect("a plan that is in order")
+}
+
+fn sheet(rows: usize) -> RunSheet {
+    RunSheet {
+        sequences: vec![0; rows],
+        send_times: vec![0; rows],
+        latencies: vec![0; rows],
+        marks: vec![0; rows],
+        counts: Counts::default(),
+    }
+}
+
+/// The medians of both, in nanoseconds.
+fn take_turns<A, B>(mut ours: impl FnMut() -> A, mut rust: impl FnMut() -> B) -> (f64, f64) {
+    let (mut our_times, mut rust_times) = (Vec::new(), Vec::new());
+    for round in 0..ROUNDS {
+        if round % 2 == 0 {
+            our_times.push(nanoseconds(&mut ours));
+            rust_times.push(nanoseconds(&mut rust));
+        } else {
+            rust_times.push(nanoseconds(&mut rust));
+            our_times.push(nanoseconds(&mut ours));
+        }
+    }
+    (median(our_times), median(rust_times))
+}
+
+fn nanoseconds<T>(call: &mut impl FnMut() -> T) -> f64 {
+    let start = Instant::now();
+    black_box(call());
+    start.elapsed().as_nanos() as f64
+}
+
+fn median(mut times: Vec<f64>) -> f64 {
+    times.sort_by(f64::total_cmp);
+    times[times.len() / 2]
+}

@@ -1,0 +1,354 @@
+//! Document 01's tally, written from its text, against our run sheet: whole lists of returns.
+//!
+//! The tally takes a return's row from its packet, not from the bytes that arrived. So that it
+//! agrees with the sheet says that no damage within 16 neighbouring bits on each leg, however
+//! often a packet was echoed, makes a loss look like an arrival or one packet like another.
+
+use testkit_open::evidence::PacketContinuityBudget;
+
+use crate::damage::{excluded, turn, window_starts};
+use crate::ours::{self, Values};
+use crate::ours_traffic::{self, Report, RunSheet};
+use crate::packet::{part_at, word};
+use crate::part::{grouped, Part};
+use crate::random::Random;
+use crate::rust_side::measurement::decode;
+use crate::rust_side::traffic::{Row, Sheet};
+use crate::sheets::{difference, fresh, holding, questions, Question, MOST_ROWS};
+use crate::traffic::any_plan;
+
+const G_PDU: u8 = 255;
+
+/// The tally: in plan order, a row for each packet, and the sheet's counters.
+struct Tally(Sheet);
+
+impl Tally {
+    /// Takes the packets, each with its sequence and send time.
+    fn new(packets: impl Iterator<Item = (u64, u64)>) -> Self {
+        let row = |(sequence, send_time)| Row {
+            sequence,
+            send_time,
+            latency: 0,
+            returned: false,
+        };
+        Self(Sheet {
+            rows: packets.map(row).collect(),
+            ..Sheet::default()
+        })
+    }
+
+    /// Takes a return: its packet, by place in the plan, its time and the bytes that arrived. Of
+    /// the reader, only whether it refuses is asked.
+    fn take(&mut self, packet: usize, time: u64, arrived: &[u8]) {
+        let sheet = &mut self.0;
+        let row = sheet.rows[packet];
+        if decode(arrived).is_err() || time < row.send_time {
+            return;
+        }
+        if row.returned {
+            sheet.duplicates = sheet.duplicates.saturating_add(1);
+            return;
+        }
+        let is_higher = |other: &Row| other.returned && other.sequence > row.sequence;
+        if sheet.rows.iter().any(is_higher) {
+            sheet.out_of_order = sheet.out_of_order.saturating_add(1);
+        }
+        sheet.rows[packet].returned = true;
+        sheet.rows[packet].latency = time - row.send_time;
+    }
+
+    /// Leaf 7 on the tally.
+    fn report(&self, (window_start, window_end, budget): Question) -> Report {
+        let Sheet {
+            rows,
+            duplicates,
+            out_of_order,
+            error_indications,
+        } = &self.0;
+        let latencies: Vec<u64> = rows
+            .iter()
+            .filter(|row| row.returned)
+            .map(|row| row.latency)
+            .collect();
+        let sum: u128 = latencies.iter().copied().map(u128::from).sum();
+        let mean = sum.checked_div(latencies.len() as u128).unwrap_or(0);
+        let sent = rows.len() as u64;
+        let received = latencies.len() as u64;
+        let lost = sent - received;
+        let (longest_run, longest_outage) = longest(rows, window_end);
+        let PacketContinuityBudget {
+            max_lost_packets,
+            max_consecutive_lost_packets,
+            outage_budget_ns,
+        } = budget;
+        Report {
+            number: 0,
+            window_start_ns: window_start,
+            window_end_ns: window_end,
+            sent_packets: sent,
+            received_packets: received,
+            lost_packets: lost,
+            duplicate_packets: *duplicates,
+            out_of_order_packets: *out_of_order,
+            gtpu_error_indications: *error_indications,
+            max_consecutive_lost_packets: longest_run,
+            max_gap_duration_ns: longest_outage,
+            has_latency: received > 0,
+            min_ns: latencies.iter().min().copied().unwrap_or(0),
+            max_ns: latencies.iter().max().copied().unwrap_or(0),
+            avg_ns: mean as u64,
+            max_lost: max_lost_packets,
+            max_consecutive: max_consecutive_lost_packets,
+            outage_budget_ns,
+            forwarding_proven: received > 0,
+            packet_continuity_proven: lost <= max_lost_packets
+                && longest_run <= max_consecutive_lost_packets
+                && longest_outage <= outage_budget_ns
+                && *error_indications == 0,
+        }
+    }
+}
+
+/// The longest run of unmarked rows and the longest time that such a run lasts, which may be of
+/// different runs.
+fn longest(rows: &[Row], window_end: u64) -> (u64, u64) {
+    let (mut count, mut duration) = (0, 0);
+    for first in 0..rows.len() {
+        let starts = !rows[first].returned && (first == 0 || rows[first - 1].returned);
+        if !starts {
+            continue;
+        }
+        let run = rows[first..].iter().take_while(|row| !row.returned).count();
+        let end = rows
+            .get(first + run)
+            .map_or(window_end, |row| row.send_time);
+        count = count.max(run as u64);
+        duration = duration.max(end.saturating_sub(rows[first].send_time));
+    }
+    (count, duration)
+}
+
+/// A return: its packet, by place in the plan, a time, what arrived, and by which call.
+#[derive(Clone)]
+struct Return {
+    packet: usize,
+    time: u64,
+    arrived: Vec<u8>,
+    /// The packet echoed as often, no bit turned.
+    whole: Vec<u8>,
+    /// Whether a bit was turned on some leg.
+    damaged: bool,
+    as_message: bool,
+}
+
+impl Return {
+    fn on(&self, sheet: &mut RunSheet) -> u8 {
+        if self.as_message {
+            sheet.record_return_gtpu_datagram(self.time, G_PDU, &self.arrived)
+        } else {
+            sheet.record_received_tpdu(self.time, &self.arrived)
+        }
+        .number
+    }
+}
+
+/// What a list of returns had in it.
+#[derive(Default)]
+struct Met {
+    lists: u64,
+    returns: u64,
+    echo_refused: u64,
+    damaged_refused: u64,
+    damaged_taken: u64,
+    too_early: u64,
+    duplicates: u64,
+    out_of_order: u64,
+}
+
+/// Lists of returns on random accepted plans: after each return our sheet must be the tally's, and
+/// in the end the reports, and a second sheet, from which damage is kept away.
+pub fn tallies(seed: u64, rounds: u64) -> Part {
+    let mut part = Part::new("tally", "returns, sheets and reports");
+    let mut random = Random::new(seed);
+    let mut met = Met::default();
+    for round in 0..rounds {
+        let most = match round % 1_024 {
+            0 => MOST_ROWS,
+            _ => 40,
+        };
+        if let Some(packets) = any_packets(&mut random, most) {
+            list(&mut part, &mut random, &mut met, &packets);
+        }
+    }
+    let counts = [
+        ("lists", met.lists),
+        ("returns", met.returns),
+        ("never came, an echo refused", met.echo_refused),
+        ("damaged and refused", met.damaged_refused),
+        ("damaged and taken", met.damaged_taken),
+        ("too early", met.too_early),
+        ("duplicates", met.duplicates),
+        ("out of order", met.out_of_order),
+    ];
+    let missing: Vec<&str> = counts
+        .iter()
+        .filter(|(_, count)| *count == 0)
+        .map(|(name, _)| *name)
+        .collect();
+    part.case(&[], missing, vec![]);
+    let counts = counts.map(|(name, count)| format!("{name}: {}", grouped(count)));
+    part.note(counts.join(", "));
+    part
+}
+
+/// The sequence, send time and bytes of each packet of a random plan, by our generator; none if it
+/// refuses.
+fn any_packets(random: &mut Random, most: usize) -> Option<Vec<(u64, u64, Vec<u8>)>> {
+    let (first, count, rate) = any_plan(random);
+    let count = if most == MOST_ROWS {
+        MOST_ROWS as u64
+    } else {
+        count % (most as u64 + 1)
+    };
+    let mut out = vec![0; 72 * MOST_ROWS];
+    let generated = ours_traffic::generate(&Values::from(first), count, rate, &mut out);
+    let size = generated.bytes / count.max(1) as usize;
+    (generated.number == 0).then(|| {
+        let interval = 1_000_000_000 / rate;
+        (0..count)
+            .map(|index| {
+                let at = index as usize * size;
+                let tpdu = out[at..at + size].to_vec();
+                let send_time = first.send_time + index * interval;
+                (first.sequence + index, send_time, tpdu)
+            })
+            .collect()
+    })
+}
+
+/// One list of returns of these packets.
+fn list(part: &mut Part, random: &mut Random, met: &mut Met, packets: &[(u64, u64, Vec<u8>)]) {
+    let mut tally = Tally::new(packets.iter().map(|packet| (packet.0, packet.1)));
+    let mut sheet = entered(part, random, packets);
+    let mut second = entered(part, random, packets);
+    let returns: Vec<Return> = match packets.len() {
+        0 => vec![],
+        length => (0..random.below(2 * length + 4))
+            .filter_map(|step| any_return(random, met, packets, step))
+            .collect(),
+    };
+    for each in &returns {
+        let before = sheet.clone();
+        let number = each.on(&mut sheet);
+        tally.take(each.packet, each.time, &each.arrived);
+        let due = holding(&before, &tally.0);
+        part.case(&each.arrived, difference(&sheet, &due), None);
+
+        met.returns += 1;
+        met.too_early += u64::from(number == 24);
+        met.damaged_refused += u64::from(each.damaged && number != 0);
+        met.damaged_taken += u64::from(each.damaged && number == 0);
+        if number == 0 || !each.damaged {
+            let mended = Return {
+                arrived: each.whole.clone(),
+                ..each.clone()
+            };
+            mended.on(&mut second);
+        }
+    }
+    met.lists += 1;
+    met.duplicates += tally.0.duplicates;
+    met.out_of_order += tally.0.out_of_order;
+
+    let due = holding(&second, &tally.0);
+    part.case(&[], difference(&second, &due), None);
+    for question in questions(random, &tally.0, |question| tally.report(question)) {
+        let (start, end, budget) = question;
+        let due = tally.report(question);
+        part.case(&[], sheet.report(start, end, budget), due);
+        part.case(&[], second.report(start, end, budget), due);
+    }
+}
+
+/// A fresh sheet of ours with all packets entered as sent, none refused.
+fn entered(part: &mut Part, random: &mut Random, packets: &[(u64, u64, Vec<u8>)]) -> RunSheet {
+    let room = (packets.len() + random.length(8)).min(MOST_ROWS);
+    let mut sheet = fresh(random, room);
+    for (sequence, send_time, tpdu) in packets {
+        let noted = sheet.record_sent(*sequence, *send_time);
+        part.case(tpdu, noted.number, 0);
+    }
+    sheet
+}
+
+/// A packet, echoed up to 3 times, each leg damaged or not; none if an echo refused.
+fn any_return(
+    random: &mut Random,
+    met: &mut Met,
+    packets: &[(u64, u64, Vec<u8>)],
+    step: usize,
+) -> Option<Return> {
+    let packet = match random.below(4) {
+        0 => random.below(packets.len()),
+        _ => step % packets.len(),
+    };
+    let (_, send_time, tpdu) = &packets[packet];
+    let (mut arrived, mut whole) = (tpdu.clone(), tpdu.clone());
+    let mut damaged = false;
+    for leg in 0..=random.below(4) {
+        if leg > 0 {
+            whole = echoed(&whole).expect("an undamaged T-PDU is echoed");
+            let Some(answer) = echoed(&arrived) else {
+                met.echo_refused += 1;
+                return None;
+            };
+            arrived = answer;
+        }
+        if random.below(4) == 0 {
+            damaged |= damage(random, &mut arrived);
+        }
+    }
+    let time = match random.below(8) {
+        0 => random.number(),
+        1 => send_time.saturating_sub(1),
+        2 => [0, u64::MAX][random.below(2)],
+        _ => send_time.saturating_add(random.length(1 << 20) as u64),
+    };
+    Some(Return {
+        packet,
+        time,
+        arrived,
+        whole,
+        damaged,
+        as_message: random.below(2) == 0,
+    })
+}
+
+/// Our echo of a T-PDU, unless it refuses.
+fn echoed(tpdu: &[u8]) -> Option<Vec<u8>> {
+    let mut out = vec![0; 72];
+    let written = ours::echo(tpdu, &mut out);
+    out.truncate(written.bytes);
+    (written.number == 0).then_some(out)
+}
+
+/// Turns some of 16 neighbouring bits: any, or those that make the UDP checksum 0, which in IPv4
+/// is then not verified. None if it were 16 equal bits, all turned.
+fn damage(random: &mut Random, tpdu: &mut [u8]) -> bool {
+    let (start, mask) = match random.below(4) {
+        0 => {
+            let at = part_at(tpdu) + 6;
+            (8 * at, word(tpdu, at))
+        }
+        _ => {
+            let starts = window_starts(0, tpdu.len());
+            let mask = 1 + random.below(0xffff) as u16;
+            (random.below(starts.end() + 1), mask)
+        }
+    };
+    let turned = mask != 0 && !excluded(tpdu, start, mask);
+    if turned {
+        turn(tpdu, start, mask);
+    }
+    turned
+}

@@ -1,0 +1,2 @@
+-- What the two return calls make of what was read and walked.
+pub mod Laws

@@ -1,0 +1,3 @@
+-- The two return calls, and what their answers mean.
+pub mod Returns
+pub mod Answer

@@ -1,0 +1,197 @@
+// The observer's two return calls (leaf 6; the Rust's traffic.rs): a T-PDU that came back, and a parsed GTP-U message. What each makes of
+// an observer is defined in specs/Returns.antt, and its contract is that one equation: answer, counts and every column at exit, on
+// refusals too.
+use gtpu::ElementsChecked;
+use measurement::Decoding;
+use observer::ObserverCounts;
+use observer::Recorded;
+use observer::Recording;
+use observer::Returned;
+use observer::Walked;
+ghost use mathlib.Core.Path.{_≡_};
+ghost use Rattle.gtpu.specs.Element.{elementsOf};
+ghost use Rattle.observer.specs.Answer.{observerOf, recorded, returnedMeans, walkedMeans};
+ghost use Rattle.continuity.specs.Returns.{sequenceRead, recordReceivedTpdu, unchanged, recordReturnMessage};
+ghost use Rattle.continuity.specs.Answer.{messageMeans, messageRecorded, messageOfKind, noticed};
+
+// What a returned message was.
+pub enum GtpuReturnDatagramOutcome {
+    MeasurementTpdu,
+    ErrorIndication,
+    EchoResponse,
+    Ignored(u8),
+}
+
+// Whether a message was taken, and as what.
+pub enum ReturnRecording {
+    Accepted(GtpuReturnDatagramOutcome),
+    Refused(u8),
+}
+
+// What a call answers to a message, and the counts as it leaves them.
+pub struct MessageRecorded {
+    pub answer: ReturnRecording,
+    pub counts: ObserverCounts,
+}
+
+// What reading a T-PDU comes to for the observer: its sequence, or the reader's refusal.
+fn read_sequence(tpdu: &[u8]) -> Returned
+    ensures { λ r. ⌜ returnedMeans r ≡ sequenceRead (now (tpdu .entry)) ⌝ }
+{
+    let read = measurement_decode::decode_measurement_tpdu(tpdu);
+    let decoding = read.decoding;
+    match decoding {
+        Decoding::Refused(number) => Returned::Refused(number),
+        Decoding::Accepted => {
+            let decoded = read.tpdu;
+            let header = decoded.measurement;
+            Returned::Sequence(header.sequence)
+        }
+    }
+}
+
+// Records a T-PDU that came back. It is read first, which changes nothing; what it reads as goes to the observer, which judges 21 before
+// the reader's refusal. Refuses by 21, 1 to 14, 23, 24.
+pub fn record_received_tpdu(
+    sequences: &[u64],
+    send_timestamps: &[u64],
+    latencies: &mut [u64],
+    marks: &mut [u8],
+    counts: ObserverCounts,
+    return_timestamp_ns: u64,
+    tpdu: &[u8],
+) -> Recorded
+    ensures { λ r. ⌜ recorded r (now (sequences .entry)) (now («send_timestamps» .entry)) (now (latencies .exit)) (now (marks .exit))
+        ≡ recordReceivedTpdu (observerOf (now (sequences .entry)) (now («send_timestamps» .entry)) (now (latencies .entry)) (now (marks .entry)) counts)
+        «return_timestamp_ns» (now (tpdu .entry)) ⌝ }
+{
+    let returned = read_sequence(tpdu);
+    observer::record_return(
+        sequences,
+        send_timestamps,
+        latencies,
+        marks,
+        counts,
+        return_timestamp_ns,
+        returned,
+    )
+}
+
+// What walking the elements of an Error Indication comes to for the observer.
+fn walk(payload: &[u8]) -> Walked
+    ensures { λ r. ⌜ walkedMeans r ≡ elementsOf (now (payload .entry)) ⌝ }
+{
+    match gtpu::validate_error_indication_ies(payload) {
+        ElementsChecked::Refused(number) => Walked::Refused(number),
+        ElementsChecked::Accepted => Walked::Accepted,
+    }
+}
+
+// The observer's answer, as the answer to a message of this kind.
+fn message_of_kind(kind: GtpuReturnDatagramOutcome, step: Recorded) -> MessageRecorded
+    ensures { λ r. ⌜ r ≡ messageOfKind kind step ⌝ }
+{
+    let answer = step.answer;
+    let counts = step.counts;
+    match answer {
+        Recording::Refused(number) => MessageRecorded {
+            answer: ReturnRecording::Refused(number),
+            counts: counts,
+        },
+        Recording::Accepted => MessageRecorded {
+            answer: ReturnRecording::Accepted(kind),
+            counts: counts,
+        },
+    }
+}
+
+// The answer to a message of another type than 255 and 26, behind 21.
+fn notice(message_type: u8) -> ReturnRecording
+    ensures { λ r. ⌜ messageMeans r ≡ noticed «message_type» ⌝ }
+{
+    match message_type {
+        gtpu::GTPU_MSG_ECHO_RESPONSE => ReturnRecording::Accepted(
+            GtpuReturnDatagramOutcome::EchoResponse,
+        ),
+        gtpu::GTPU_MSG_END_MARKER | gtpu::GTPU_MSG_SUPPORTED_EXTENSION_HEADERS_NOTIFICATION =>
+            ReturnRecording::Accepted(GtpuReturnDatagramOutcome::Ignored(message_type)),
+        _ => ReturnRecording::Refused(error::UNSUPPORTED_MESSAGE_TYPE),
+    }
+}
+
+// A message that changes nothing: 21, then this answer.
+fn leave_unchanged(
+    sequences: &[u64],
+    send_timestamps: &[u64],
+    latencies: &[u64],
+    marks: &[u8],
+    counts: ObserverCounts,
+    answer: ReturnRecording,
+) -> MessageRecorded
+    ensures { λ r. ⌜ messageRecorded r (now (sequences .entry)) (now («send_timestamps» .entry)) (now (latencies .entry)) (now (marks .entry))
+        ≡ unchanged (observerOf (now (sequences .entry)) (now («send_timestamps» .entry)) (now (latencies .entry)) (now (marks .entry)) counts)
+        (messageMeans answer) ⌝ }
+{
+    if !observer::well_formed(sequences, send_timestamps, latencies, marks, counts) {
+        return MessageRecorded {
+            answer: ReturnRecording::Refused(error::MALFORMED_OBSERVER),
+            counts: counts,
+        };
+    }
+    MessageRecorded {
+        answer: answer,
+        counts: counts,
+    }
+}
+
+// Records a GTP-U message that came back, after its header is parsed. Its TEID and sequence are no parameters: the observer does not look at
+// them. Refuses by 21; 255 then as `record_received_tpdu` does, 26 as the walk over its elements does, and unknown types by 37.
+pub fn record_return_gtpu_datagram(
+    sequences: &[u64],
+    send_timestamps: &[u64],
+    latencies: &mut [u64],
+    marks: &mut [u8],
+    counts: ObserverCounts,
+    return_timestamp_ns: u64,
+    message_type: u8,
+    payload: &[u8],
+) -> MessageRecorded
+    ensures { λ r. ⌜ messageRecorded r (now (sequences .entry)) (now («send_timestamps» .entry)) (now (latencies .exit)) (now (marks .exit))
+        ≡ recordReturnMessage (observerOf (now (sequences .entry)) (now («send_timestamps» .entry)) (now (latencies .entry)) (now (marks .entry)) counts)
+        «return_timestamp_ns» «message_type» (now (payload .entry)) ⌝ }
+{
+    match message_type {
+        gtpu::GTPU_MSG_GPDU => {
+            let step = record_received_tpdu(
+                sequences,
+                send_timestamps,
+                latencies,
+                marks,
+                counts,
+                return_timestamp_ns,
+                payload,
+            );
+            message_of_kind(GtpuReturnDatagramOutcome::MeasurementTpdu, step)
+        }
+        gtpu::GTPU_MSG_ERROR_INDICATION => {
+            let walked = walk(payload);
+            let step = observer::record_error_indication(
+                sequences,
+                send_timestamps,
+                latencies,
+                marks,
+                counts,
+                walked,
+            );
+            message_of_kind(GtpuReturnDatagramOutcome::ErrorIndication, step)
+        }
+        _ => leave_unchanged(
+            sequences,
+            send_timestamps,
+            latencies,
+            marks,
+            counts,
+            notice(message_type),
+        ),
+    }
+}

@@ -1,0 +1,22 @@
+-- `exports::latency_numbers` meets its contract.
+-- Assumes nothing.
+use mathlib.Core.Path.{sym, ap}
+use Rattle.exports.specs.Interface.{latencyNumbers}
+use borrow.Author.Needs.{needs}
+use Rattle.exports.proofs.latency_numbers.Statement.{statement}
+use Rattle.exports.proofs.latency_numbers.Tie as tie
+
+enum-told : tie.Need-enum-told
+enum-told c = search needs
+
+enum-known-latency : tie.Need-enum-known-latency
+enum-known-latency c = search needs
+
+returns : tie.Need-returns
+returns c = ap latencyNumbers (sym (c .enum-told .given .1))
+
+returns-2 : tie.Need-returns-2
+returns-2 c = ap latencyNumbers (sym (c .before .latency .given .1))
+
+pub latency-numbers-spec : {M : Type 1} → statement M
+latency-numbers-spec = tie.close (tie.spec enum-told enum-known-latency returns returns-2)

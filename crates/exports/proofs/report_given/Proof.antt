@@ -1,0 +1,15 @@
+-- `exports::report_given` meets its contract.
+-- Assumes nothing.
+use Rattle.exports.proofs.Calls.{with-latency}
+use borrow.Author.Needs.{needs}
+use Rattle.exports.proofs.report_given.Statement.{statement}
+use Rattle.exports.proofs.report_given.Tie as tie
+
+latency-numbers-requires : tie.Need-latency-numbers-requires
+latency-numbers-requires c κs = search needs
+
+returns : tie.Need-returns
+returns c = with-latency (c .before .before .before .args .report) (c .before .latency-numbers .ensures)
+
+pub report-given-spec : {M : Type 1} → statement M
+report-given-spec = tie.close (tie.spec latency-numbers-requires returns)

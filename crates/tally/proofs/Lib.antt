@@ -1,0 +1,9 @@
+-- Why demand 3 holds.
+pub mod Rows
+pub mod Steps
+pub mod Entry
+pub mod Returns
+pub mod Demand
+pub mod Generated
+pub mod Attained
+pub mod Cases

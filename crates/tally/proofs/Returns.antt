@@ -1,0 +1,116 @@
+-- What a return of an accepted plan reads as: its own sequence, or a refusal; and made whole, its own sequence.
+-- Assumes nothing.
+use Prim.Native.Nat.{ℕ, zero, suc, _+_, _<_}
+use native.Mathlib.Omega.{arith}
+use mathlib.Core.Path.{_≡_, refl, sym, ap, _∙_}
+use mathlib.Core.List.{List, [], append-nil}
+use Rattle.error.specs.Outcome.{Outcome, refused, gives}
+use Rattle.measurement.specs.Packet.{buildOf}
+use Rattle.measurement.specs.Read.{readOf}
+use Rattle.measurement.specs.Echo.{reversedOf, echoOf}
+use Rattle.measurement.specs.Claims.{InRange, tpduBuilt, built, RefusesOr, echoesOf}
+use Rattle.measurement.specs.declared.DecodedTpdu.{DecodedTpdu}
+use Rattle.measurement.specs.declared.InnerIpFlow.{InnerIpFlow}
+use Rattle.measurement.proofs.Claims.{reads-back, echo-is-reversed, damage-found, legs-chained}
+use Rattle.traffic.specs.Plan.{timeAt, packetsOf, Judged}
+use Rattle.traffic.specs.Claims.{Acceptable}
+use Rattle.traffic.specs.declared.TrafficPlan.{TrafficPlan}
+use Rattle.traffic.proofs.Claims.{success-is-complete, acceptable-if-accepted}
+use Rattle.tally.specs.Demand.{Accepted, packet, Return, bytesGiven, wholeBytes}
+use Rattle.tally.proofs.Steps.{Reads}
+
+pub reversed-in-range : {f : InnerIpFlow} {s t : ℕ} → InRange f s t → InRange (reversedOf f) s t
+reversed-in-range g = record {
+  source = g .destination;
+  destination = g .source;
+  source-length = g .destination-length;
+  destination-length = g .source-length;
+  source-port = g .destination-port;
+  destination-port = g .source-port;
+  sequence = g .sequence;
+  time = g .time;
+}
+
+-- an undamaged echo, of any number of echoes, is the build of a flow, with the same sequence and time
+pub record Whole (f : InnerIpFlow) (s t n : ℕ) : Type 0 where
+  pub flow : InnerIpFlow
+  pub in-range : InRange flow s t
+  pub echoed : echoesOf n (buildOf f s t) ≡ gives (buildOf flow s t)
+
+pub echo-step : (n : ℕ) (x y : List ℕ) → echoOf x ≡ gives y → echoesOf (suc n) x ≡ echoesOf n y
+unfolding echoesOf
+echo-step n x y e = rw (e, echoesOf)
+
+pub echo-alone : (f : InnerIpFlow) (s t : ℕ) → InRange f s t → echoOf (buildOf f s t) ≡ gives (buildOf (reversedOf f) s t)
+echo-alone f s t g = ap echoOf (sym (append-nil (buildOf f s t))) ∙ echo-is-reversed f s t g []
+
+pub read-alone : (f : InnerIpFlow) (s t : ℕ) → InRange f s t → readOf (buildOf f s t) ≡ gives (tpduBuilt f s t)
+read-alone f s t g = ap readOf (sym (append-nil (buildOf f s t))) ∙ reads-back f s t g []
+
+pub whole : (n : ℕ) (f : InnerIpFlow) (s t : ℕ) → InRange f s t → Whole f s t n
+unfolding echoesOf
+whole zero f s t g = record { flow = f; in-range = g; echoed = refl }
+whole (suc n) f s t g =
+    let w = whole n (reversedOf f) s t (reversed-in-range g) in
+    record { flow = w .flow; in-range = w .in-range; echoed = echo-step n (buildOf f s t) (buildOf (reversedOf f) s t) (echo-alone f s t g) ∙ w .echoed }
+
+-- what refuses or is the one expected, whose sequence is s
+reads-or : (x : Outcome DecodedTpdu) (d : DecodedTpdu) (s : ℕ) → d .measurement .sequence ≡ s → RefusesOr x (gives d) → Reads s x
+reads-or (refused m) d s e h = tt
+reads-or (gives c) d s e h = let same : c ≡ d = cc in ap (λ (x : DecodedTpdu). x .measurement .sequence) same ∙ e
+
+given : {x y : List ℕ} → gives x ≡ gives y → x ≡ y
+given e = cc
+
+module _ {flow : InnerIpFlow} {plan : TrafficPlan} {next : ℕ} (a : Accepted flow plan next) where
+  acceptable : Acceptable plan next
+  acceptable =
+      acceptable-if-accepted plan next (packetsOf plan next)
+      (ap (λ (j : Judged). j .outcome) (success-is-complete flow plan next (a .buffer) (a .bytes) (a .generated) .judged)) .0
+
+  pub packet-in-range : (k : ℕ) → k < plan .«packet_count» → InRange flow (next + k) (timeAt plan k)
+  packet-in-range k h =
+      let g = a .in-range in
+      record {
+        source = g .source;
+        destination = g .destination;
+        source-length = g .source-length;
+        destination-length = g .destination-length;
+        source-port = g .source-port;
+        destination-port = g .destination-port;
+        sequence = omega (arith, acceptable .sequences k h);
+        time = omega (arith, acceptable .times k h);
+      }
+
+  module _ (r : Return flow plan next) where
+    abbrev k : ℕ
+    k = r .packet-index
+
+    abbrev s : ℕ
+    s = next + k
+
+    abbrev t : ℕ
+    t = timeAt plan k
+
+    pub undamaged : Whole flow s t (r .echo-count)
+    undamaged = whole (r .echo-count) flow s t (packet-in-range k (r .planned))
+
+    abbrev wholeTpdu : DecodedTpdu
+    wholeTpdu = tpduBuilt (undamaged .flow) s t
+
+    whole-bytes : wholeBytes r ≡ buildOf (undamaged .flow) s t
+    whole-bytes = ap bytesGiven (undamaged .echoed)
+
+    pub whole-read : readOf (wholeBytes r) ≡ gives wholeTpdu
+    whole-read = ap readOf whole-bytes ∙ read-alone (undamaged .flow) s t (undamaged .in-range)
+
+    pub whole-reads : Reads s (readOf (wholeBytes r))
+    whole-reads = rw whole-read refl
+
+    -- demand 3's first sentence, leg after leg
+    pub arrived-reads : Reads s (readOf (r .arrived))
+    arrived-reads =
+        let c = legs-chained (packet flow plan next k) (r .arrived) (r .echo-count) (built flow s t (packet-in-range k (r .planned))) (r .travelled) in
+        let same : c .whole ≡ buildOf (undamaged .flow) s t = given (sym (c .echoed) ∙ undamaged .echoed) in
+        let read : readOf (c .whole) ≡ gives wholeTpdu = ap readOf same ∙ read-alone (undamaged .flow) s t (undamaged .in-range) in
+        reads-or (readOf (r .arrived)) wholeTpdu s refl (rw read at (damage-found (c .whole) (r .arrived) (c .is-sent) (c .turned) .reading))
