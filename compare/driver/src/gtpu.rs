@@ -43,6 +43,23 @@ pub fn elements(seed: u64, rounds: u64) -> Part {
     part
 }
 
+/// The stack that a walk is given: its use is bounded, whatever the list's length.
+const STACK: usize = 256 << 10;
+
+/// The most elements that 65,535 bytes and 64 MiB can hold, walked on a stack of 256 KiB.
+pub fn deep_lists() -> Part {
+    let mut part = Part::new("element walk, 256 KiB of stack", "lists");
+    for length in [65_535, 64 << 20] {
+        let list: Vec<u8> = [128, 0, 0].into_iter().cycle().take(length).collect();
+        let due = validate_error_indication_ies(&list).err().unwrap_or(0);
+        let walk = move || (validate_elements(&list), list);
+        let thread = std::thread::Builder::new().stack_size(STACK).spawn(walk);
+        let (answer, list) = thread.expect("a thread").join().expect("an answer");
+        part.case(&list[..3], answer, due);
+    }
+    part
+}
+
 /// The elements that are needed, more often than not, and others until the list has `length` bytes;
 /// it may then be cut or damaged.
 pub fn any_elements(random: &mut Random, length: usize) -> Vec<u8> {

@@ -96,6 +96,7 @@ fn main() -> ExitCode {
     total.add(measurement::damaged_random_packets(seed, rounds));
     total.add(traffic::generating(seed, rounds));
     total.add(gtpu::elements(seed, rounds));
+    total.add(gtpu::deep_lists());
     total.add(observer::runs(seed, rounds));
     total.add(observer::states(seed, rounds));
     total.add(observer::malformed(seed, rounds));
