@@ -31,7 +31,7 @@ unfolding buildOf address
 reads-back f s t g behind =
     packet-reads-back (f .src) (f .dst) (f .«src_port») (f .«dst_port») s t (g .source-port) (g .destination-port) (g .sequence) (g .time) behind (f .version)
 
-reads-back-alone : (f : InnerIpFlow) (s t : ℕ) → InRange f s t → readOf (buildOf f s t) ≡ gives (tpduBuilt f s t)
+pub reads-back-alone : (f : InnerIpFlow) (s t : ℕ) → InRange f s t → readOf (buildOf f s t) ≡ gives (tpduBuilt f s t)
 reads-back-alone f s t g = ap readOf (sym (append-nil (buildOf f s t))) ∙ reads-back f s t g []
 
 -- building looks at no more of a flow than reading gives back
@@ -54,7 +54,7 @@ pub echo-is-reversed : EchoIsReversed
 echo-is-reversed f s t g behind =
     echo-given (buildOf f s t ++ behind) (tpduBuilt f s t) (reads-back f s t g behind) ∙ ap gives (build-canonical (reversedOf f) s t)
 
-reversed-in-range : {f : InnerIpFlow} {s t : ℕ} → InRange f s t → InRange (reversedOf f) s t
+pub reversed-in-range : {f : InnerIpFlow} {s t : ℕ} → InRange f s t → InRange (reversedOf f) s t
 reversed-in-range g = record {
   source = g .destination;
   destination = g .source;
@@ -66,7 +66,7 @@ reversed-in-range g = record {
   time = g .time;
 }
 
-echo-alone : (f : InnerIpFlow) (s t : ℕ) → InRange f s t → echoOf (buildOf f s t) ≡ gives (buildOf (reversedOf f) s t)
+pub echo-alone : (f : InnerIpFlow) (s t : ℕ) → InRange f s t → echoOf (buildOf f s t) ≡ gives (buildOf (reversedOf f) s t)
 echo-alone f s t g = ap echoOf (sym (append-nil (buildOf f s t))) ∙ echo-is-reversed f s t g []
 
 echo-refused : (b : List ℕ) (n : ℕ) → readOf b ≡ refused n → echoOf b ≡ refused n
@@ -119,7 +119,7 @@ field-16 at u b = number-below (bytesAt 2 at u) (bytes-at 2 at u b)
 field-64 : (at : ℕ) (u : List ℕ) → Bytes u → field 8 at u < 2 ^ 64
 field-64 at u b = number-below (bytesAt 8 at u) (bytes-at 8 at u b)
 
-zeros-are-bytes : (n : ℕ) → Bytes (replicate n 0)
+pub zeros-are-bytes : (n : ℕ) → Bytes (replicate n 0)
 zeros-are-bytes zero = tt
 zeros-are-bytes (suc n) = (omega arith, zeros-are-bytes n)
 

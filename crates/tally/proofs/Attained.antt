@@ -36,7 +36,8 @@ use Rattle.tally.specs.Cases.{ipv6Flow}
 use Rattle.tally.specs.Attained.{PlansAccepted, RoomTakes, UndamagedComes, examplePlan, exampleObserver, DamagedReturn, Attained}
 use Rattle.tally.proofs.Entry.{entered, takes-all, needs-room}
 use Rattle.tally.proofs.Generated.{packets-generated}
-use Rattle.tally.proofs.Returns.{reversed-in-range, echo-alone, echo-step, packet-in-range}
+use Rattle.measurement.proofs.Claims.{echo-alone, reversed-in-range, zeros-are-bytes}
+use Rattle.tally.proofs.Returns.{echo-step, packet-in-range}
 
 plans-accepted : PlansAccepted
 plans-accepted flow plan next g h =
@@ -103,10 +104,6 @@ undamaged-comes flow plan next a k n time h call =
     }
 
 -- ---- examples
-
-zeros-are-bytes : (n : ℕ) → Bytes (replicate n 0)
-zeros-are-bytes zero = tt
-zeros-are-bytes (suc n) = (omega arith, zeros-are-bytes n)
 
 example-range : InRange ipv6Flow 1 0
 example-range = record {

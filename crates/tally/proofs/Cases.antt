@@ -23,7 +23,7 @@ use Rattle.observer.specs.Answer.{observerOf}
 use Rattle.continuity.specs.Returns.{sequenceRead, recordReceivedTpdu}
 use Rattle.report.specs.Report.{reportOf, reporting}
 use Rattle.tally.specs.Cases.{Figure, number, figures, ipv4Flow, sends, freshObserver, sentFive, returns, longest, EightCases}
-use Rattle.tally.proofs.Returns.{read-alone}
+use Rattle.measurement.proofs.Claims.{reads-back-alone}
 
 -- ---- what is sent, built and read
 
@@ -101,7 +101,7 @@ read-as : (o : Observer) (q sentAt time : ℕ) → q < 2 ^ 64 → sentAt < 2 ^ 6
 unfolding recordReceivedTpdu sequenceRead
 read-as o q sentAt time g h =
     ap (λ (x : Outcome DecodedTpdu). recordReturn o time (elim x [ refused n ↦ refused n | gives t ↦ gives (t .measurement .sequence) ]) .observer)
-    (read-alone ipv4Flow q sentAt (range4 q sentAt g h))
+    (reads-back-alone ipv4Flow q sentAt (range4 q sentAt g h))
 
 return-2 : recordReturn sent 50 (gives 2) .observer ≡ with2
 unfolding firstCause capacity rows withRows wellFormed judged holds arrivalCauses arrived arrival recordReturn

@@ -3,7 +3,7 @@
 use Prim.Native.Nat.{ℕ, zero, suc, _+_, _<_}
 use native.Mathlib.Omega.{arith}
 use mathlib.Core.Path.{_≡_, refl, sym, ap, _∙_}
-use mathlib.Core.List.{List, [], append-nil}
+use mathlib.Core.List.{List}
 use Rattle.error.specs.Outcome.{Outcome, refused, gives}
 use Rattle.measurement.specs.Packet.{buildOf}
 use Rattle.measurement.specs.Read.{readOf}
@@ -11,25 +11,13 @@ use Rattle.measurement.specs.Echo.{reversedOf, echoOf}
 use Rattle.measurement.specs.Claims.{InRange, tpduBuilt, built, RefusesOr, echoesOf}
 use Rattle.measurement.specs.declared.DecodedTpdu.{DecodedTpdu}
 use Rattle.measurement.specs.declared.InnerIpFlow.{InnerIpFlow}
-use Rattle.measurement.proofs.Claims.{reads-back, echo-is-reversed, damage-found, legs-chained}
+use Rattle.measurement.proofs.Claims.{reads-back-alone, echo-alone, reversed-in-range, damage-found, legs-chained}
 use Rattle.traffic.specs.Plan.{timeAt, packetsOf, Judged}
 use Rattle.traffic.specs.Claims.{Acceptable}
 use Rattle.traffic.specs.declared.TrafficPlan.{TrafficPlan}
 use Rattle.traffic.proofs.Claims.{success-is-complete, acceptable-if-accepted}
 use Rattle.tally.specs.Demand.{Accepted, packet, Return, bytesGiven, wholeBytes}
 use Rattle.tally.proofs.Steps.{Reads}
-
-pub reversed-in-range : {f : InnerIpFlow} {s t : ℕ} → InRange f s t → InRange (reversedOf f) s t
-reversed-in-range g = record {
-  source = g .destination;
-  destination = g .source;
-  source-length = g .destination-length;
-  destination-length = g .source-length;
-  source-port = g .destination-port;
-  destination-port = g .source-port;
-  sequence = g .sequence;
-  time = g .time;
-}
 
 -- an undamaged echo, of any number of echoes, is the build of a flow, with the same sequence and time
 pub record Whole (f : InnerIpFlow) (s t n : ℕ) : Type 0 where
@@ -40,12 +28,6 @@ pub record Whole (f : InnerIpFlow) (s t n : ℕ) : Type 0 where
 pub echo-step : (n : ℕ) (x y : List ℕ) → echoOf x ≡ gives y → echoesOf (suc n) x ≡ echoesOf n y
 unfolding echoesOf
 echo-step n x y e = rw (e, echoesOf)
-
-pub echo-alone : (f : InnerIpFlow) (s t : ℕ) → InRange f s t → echoOf (buildOf f s t) ≡ gives (buildOf (reversedOf f) s t)
-echo-alone f s t g = ap echoOf (sym (append-nil (buildOf f s t))) ∙ echo-is-reversed f s t g []
-
-pub read-alone : (f : InnerIpFlow) (s t : ℕ) → InRange f s t → readOf (buildOf f s t) ≡ gives (tpduBuilt f s t)
-read-alone f s t g = ap readOf (sym (append-nil (buildOf f s t))) ∙ reads-back f s t g []
 
 pub whole : (n : ℕ) (f : InnerIpFlow) (s t : ℕ) → InRange f s t → Whole f s t n
 unfolding echoesOf
@@ -102,7 +84,7 @@ module _ {flow : InnerIpFlow} {plan : TrafficPlan} {next : ℕ} (a : Accepted fl
     whole-bytes = ap bytesGiven (undamaged .echoed)
 
     pub whole-read : readOf (wholeBytes r) ≡ gives wholeTpdu
-    whole-read = ap readOf whole-bytes ∙ read-alone (undamaged .flow) s t (undamaged .in-range)
+    whole-read = ap readOf whole-bytes ∙ reads-back-alone (undamaged .flow) s t (undamaged .in-range)
 
     pub whole-reads : Reads s (readOf (wholeBytes r))
     whole-reads = rw whole-read refl
@@ -112,5 +94,5 @@ module _ {flow : InnerIpFlow} {plan : TrafficPlan} {next : ℕ} (a : Accepted fl
     arrived-reads =
         let c = legs-chained (packet flow plan next k) (r .arrived) (r .echo-count) (built flow s t (packet-in-range k (r .planned))) (r .travelled) in
         let same : c .whole ≡ buildOf (undamaged .flow) s t = given (sym (c .echoed) ∙ undamaged .echoed) in
-        let read : readOf (c .whole) ≡ gives wholeTpdu = ap readOf same ∙ read-alone (undamaged .flow) s t (undamaged .in-range) in
+        let read : readOf (c .whole) ≡ gives wholeTpdu = ap readOf same ∙ reads-back-alone (undamaged .flow) s t (undamaged .in-range) in
         reads-or (readOf (r .arrived)) wholeTpdu s refl (rw read at (damage-found (c .whole) (r .arrived) (c .is-sent) (c .turned) .reading))
