@@ -47,10 +47,7 @@ pub fn runs(seed: u64, rounds: u64) -> Part {
     let mut seen = Seen::default();
     let mut random = Random::new(seed);
     for round in 0..rounds / 8 {
-        let rows = match round % 512 {
-            0 => MOST_ROWS,
-            _ => random.length(48),
-        };
+        let rows = any_rows(&mut random, round);
         let mut pair = Pair::new(fresh(&mut random, rows), Sheet::default());
         run(&mut part, &mut seen, &mut random, &mut pair, 4 * rows + 20);
         fill(&mut part, &mut seen, &mut random, &mut pair);
@@ -58,8 +55,7 @@ pub fn runs(seed: u64, rounds: u64) -> Part {
             each_type(&mut part, &mut seen, &mut random, &mut pair);
         }
     }
-    let met = (0..=14).chain([SHEET_FULL]).chain(23..=29).chain([37]);
-    seen.require(&mut part, met);
+    seen.require(&mut part, due());
     part
 }
 
@@ -70,10 +66,7 @@ pub fn states(seed: u64, rounds: u64) -> Part {
     let mut seen = Seen::default();
     let mut random = Random::new(seed);
     for round in 0..rounds / 10 {
-        let rows = match round % 512 {
-            0 => MOST_ROWS,
-            _ => random.length(48),
-        };
+        let rows = any_rows(&mut random, round);
         let contents = any_contents(&mut random, rows);
         let room = (rows + random.below(4)).min(MOST_ROWS);
         let mut pair = Pair::new(fresh(&mut random, room), contents);
@@ -81,9 +74,21 @@ pub fn states(seed: u64, rounds: u64) -> Part {
         pair.reports(&mut part, &mut random);
         run(&mut part, &mut seen, &mut random, &mut pair, 20);
     }
-    let met = (0..=14).chain([SHEET_FULL]).chain(23..=29).chain([37]);
-    seen.require(&mut part, met);
+    seen.require(&mut part, due());
     part
+}
+
+/// A sheet of few rows; every 512th has 2,048.
+fn any_rows(random: &mut Random, round: u64) -> usize {
+    match round % 512 {
+        0 => MOST_ROWS,
+        _ => random.length(48),
+    }
+}
+
+/// The numbers that the calls of runs on well-formed sheets answer.
+fn due() -> impl Iterator<Item = u8> {
+    (0..=14).chain([SHEET_FULL]).chain(23..=29).chain([37])
 }
 
 /// Malformed sheets: every call refuses by 21 and leaves all, before it looks at anything else.

@@ -100,14 +100,12 @@ pub struct Counts {
     pub gtpu_error_indications: u64,
 }
 
-/// 0 or the number of a refusal, and the counts afterwards, on refusals too.
+/// 0 or the number of a refusal, and the counts afterwards, on refusals too. C has the counts as
+/// fields of its own, which lie in the same places.
 #[repr(C)]
 struct TestkitRecorded {
     number: u8,
-    used: usize,
-    duplicate_packets: u64,
-    out_of_order_packets: u64,
-    gtpu_error_indications: u64,
+    counts: Counts,
 }
 
 /// As `TestkitRecorded`, with what the message was.
@@ -116,10 +114,7 @@ struct TestkitMessage {
     number: u8,
     kind: u8,
     message_type: u8,
-    used: usize,
-    duplicate_packets: u64,
-    out_of_order_packets: u64,
-    gtpu_error_indications: u64,
+    counts: Counts,
 }
 
 /// C's `TestkitReport`: 0 and the report, or the number of a refusal and nothing but zeros.
@@ -200,44 +195,41 @@ pub fn validate_elements(payload: &[u8]) -> u8 {
     unsafe { testkit_validate_elements(payload.as_ptr(), payload.len()) }
 }
 
+/// A call that writes to a run sheet: the columns with their lengths and the counts, then the rest.
+macro_rules! on_sheet {
+    ($call:ident, $sheet:expr, $($rest:expr),+) => {
+        $call(
+            $sheet.sequences.as_mut_ptr(),
+            $sheet.sequences.len(),
+            $sheet.send_times.as_mut_ptr(),
+            $sheet.send_times.len(),
+            $sheet.latencies.as_mut_ptr(),
+            $sheet.latencies.len(),
+            $sheet.marks.as_mut_ptr(),
+            $sheet.marks.len(),
+            $sheet.counts,
+            $($rest),+
+        )
+    };
+}
+
 impl RunSheet {
     pub fn record_sent(&mut self, sequence: u64, send_time: u64) -> Noted {
         // SAFETY: each column is lent with its length for as long as the call runs, and to it
         // alone.
-        let recorded = unsafe {
-            testkit_record_sent(
-                self.sequences.as_mut_ptr(),
-                self.sequences.len(),
-                self.send_times.as_mut_ptr(),
-                self.send_times.len(),
-                self.latencies.as_mut_ptr(),
-                self.latencies.len(),
-                self.marks.as_mut_ptr(),
-                self.marks.len(),
-                self.counts,
-                sequence,
-                send_time,
-            )
-        };
+        let recorded = unsafe { on_sheet!(testkit_record_sent, self, sequence, send_time) };
         self.recorded(recorded)
     }
 
     pub fn record_received_tpdu(&mut self, return_time: u64, tpdu: &[u8]) -> Noted {
         // SAFETY: as in `record_sent`; the call reads `length` bytes from `tpdu`.
         let recorded = unsafe {
-            testkit_record_received_tpdu(
-                self.sequences.as_ptr(),
-                self.sequences.len(),
-                self.send_times.as_ptr(),
-                self.send_times.len(),
-                self.latencies.as_mut_ptr(),
-                self.latencies.len(),
-                self.marks.as_mut_ptr(),
-                self.marks.len(),
-                self.counts,
+            on_sheet!(
+                testkit_record_received_tpdu,
+                self,
                 return_time,
                 tpdu.as_ptr(),
-                tpdu.len(),
+                tpdu.len()
             )
         };
         self.recorded(recorded)
@@ -251,28 +243,16 @@ impl RunSheet {
     ) -> Noted {
         // SAFETY: as in `record_sent`; the call reads `length` bytes from `payload`.
         let message = unsafe {
-            testkit_record_return_gtpu_datagram(
-                self.sequences.as_ptr(),
-                self.sequences.len(),
-                self.send_times.as_ptr(),
-                self.send_times.len(),
-                self.latencies.as_mut_ptr(),
-                self.latencies.len(),
-                self.marks.as_mut_ptr(),
-                self.marks.len(),
-                self.counts,
+            on_sheet!(
+                testkit_record_return_gtpu_datagram,
+                self,
                 return_time,
                 message_type,
                 payload.as_ptr(),
-                payload.len(),
+                payload.len()
             )
         };
-        self.counts = Counts {
-            used: message.used,
-            duplicate_packets: message.duplicate_packets,
-            out_of_order_packets: message.out_of_order_packets,
-            gtpu_error_indications: message.gtpu_error_indications,
-        };
+        self.counts = message.counts;
         Noted {
             number: message.number,
             kind: message.kind,
@@ -308,12 +288,7 @@ impl RunSheet {
     }
 
     fn recorded(&mut self, recorded: TestkitRecorded) -> Noted {
-        self.counts = Counts {
-            used: recorded.used,
-            duplicate_packets: recorded.duplicate_packets,
-            out_of_order_packets: recorded.out_of_order_packets,
-            gtpu_error_indications: recorded.gtpu_error_indications,
-        };
+        self.counts = recorded.counts;
         Noted {
             number: recorded.number,
             ..Noted::default()
