@@ -1,0 +1,68 @@
+# The C declarations that the exports call for, one to a line: each `#[repr(C)]` struct and each `#[no_mangle]` function of
+# crates/exports/src/lib.rt. A slice is a pointer and a length; a reference to an array or a struct is a pointer.
+
+# C's name of a struct: TestkitWritten is `struct testkit_written`.
+function tag(name,    k, letter, out) {
+    for (k = 1; k <= length(name); k++) {
+        letter = substr(name, k, 1)
+        out = out (k > 1 && letter ~ /[A-Z]/ ? "_" : "") tolower(letter)
+    }
+    return "struct " out
+}
+
+function type(name) {
+    if (name == "usize") return "size_t"
+    if (name == "bool") return "bool"
+    if (name ~ /^[ui](8|16|32|64)$/) return (name ~ /^u/ ? "uint" : "int") substr(name, 2) "_t"
+    return tag(name)
+}
+
+function declare(name, form,    const, count) {
+    if (form !~ /^&/) return type(form) " " name
+    const = (form ~ /^&mut /) ? "" : "const "
+    sub(/^&(mut )?/, "", form)
+    if (form ~ /^\[.*;/) {
+        count = form
+        sub(/^.*; */, "", count)
+        sub(/ *;.*$/, "", form)
+        return const type(substr(form, 2)) " " name "[" count
+    }
+    if (form ~ /^\[/) return const type(substr(form, 2, length(form) - 2)) " *" name ", size_t " name "_length"
+    return const type(form) " *" name
+}
+
+# Adds the parameters or fields of "name: form, .." to a list.
+function declare_all(text, separator,    parts, count, k, at, out) {
+    count = split(text, parts, ",")
+    for (k = 1; k <= count; k++) {
+        gsub(/^ +| +$/, "", parts[k])
+        sub(/^pub /, "", parts[k])
+        at = index(parts[k], ": ")
+        if (at) out = out (out == "" ? "" : separator) declare(substr(parts[k], 1, at - 1), substr(parts[k], at + 2))
+    }
+    return out
+}
+
+function finish(    head, result) {
+    gsub(/[ \t]+/, " ", item)
+    if (item ~ /^pub struct/) {
+        match(item, /\{.*\}/)
+        head = substr(item, 12, RSTART - 13)
+        print tag(head) " { " declare_all(substr(item, RSTART + 1, RLENGTH - 2), "; ") "; };"
+    } else {
+        match(item, /\(.*\)/)
+        head = substr(item, 1, RSTART - 1)
+        result = substr(item, RSTART + RLENGTH)
+        sub(/^.* /, "", head)
+        sub(/^ -> /, "", result)
+        sub(/ +$/, "", result)
+        print type(result) " " head "(" declare_all(substr(item, index(item, "(") + 1, RSTART + RLENGTH - index(item, "(") - 2), ", ") ");"
+    }
+    item = ""
+}
+
+{ sub(/^ *\/\/.*$/, "") }
+/^#\[(repr\(C\)|no_mangle)\]$/ { open = 1; item = ""; next }
+open && item ~ /^pub extern/ && /^ +(ensures|requires)/ { open = 0; finish(); next }
+open { item = item " " $0; sub(/^ +/, "", item) }
+open && item ~ /^pub struct/ && /^}$/ { open = 0; finish() }

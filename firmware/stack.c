@@ -1,0 +1,294 @@
+/*
+ * How much stack each call uses. A call is run on a stack of its own that was filled with a pattern, once with 0xA5 and once with 0x5A;
+ * the lowest byte that changed says how deep it went, counted from the end of the return address. (Arguments on the stack lie above that
+ * and are the caller's.) For each call the largest depth over the inputs named below is held to its number in testkit.h: exit status 1
+ * where a call uses more.
+ *
+ * Inputs. Packets, of both versions: built ones; cut at every length; each single bit turned; for IPv4 with options, of every IHL. Plans:
+ * of 0, 1 and 2048 packets, and each refusal. Element lists: up to 4096 elements, each cut. Run sheets: empty, of 1 row and of 2048 rows,
+ * none, one, all or every other returned; a new row at the front, in the middle and at the end; and malformed.
+ *
+ * For x86-64 and GNU C. Linked with -z now, so that finding memcpy is not counted.
+ */
+#define _GNU_SOURCE
+#include "testkit.h"
+
+#include <stdio.h>
+#include <stdlib.h>
+#include <string.h>
+#include <ucontext.h>
+
+enum { STACK = 65536, ABOVE = 4096, ROWS = TESTKIT_MAXIMUM_ROWS, OUT = ROWS * TESTKIT_IPV6_TPDU_BYTES, LIST = 4096 * 3 + 12 };
+
+static uint8_t stack[STACK] __attribute__((aligned(64)));
+static void (*volatile body)(void);
+static ucontext_t here, there;
+
+/* Every call goes by way of `enter`, which notes where its return address lies and jumps to it, with the arguments in their places. */
+uint8_t *volatile entry_stack_pointer;
+void (*volatile entry_target)(void);
+void enter(void);
+__asm__(".text\n"
+        "enter:\n"
+        "    movq %rsp, entry_stack_pointer(%rip)\n"
+        "    jmp *entry_target(%rip)\n");
+
+#define ENTER(call) (entry_target = (void (*)(void))(call), (__typeof__(&(call)))enter)
+
+/* What a call is run on. */
+static uint8_t src[16] = {10, 0, 0, 1}, dst[16] = {10, 0, 0, 2};
+static uint8_t version;
+static uint8_t in[LIST], out[OUT];
+static size_t in_length, out_length;
+static uint64_t plan_count, plan_rate, plan_time, plan_sequence;
+static uint64_t sequences[ROWS], times[ROWS], latencies[ROWS];
+static uint8_t marks[ROWS];
+static struct testkit_counts counts;
+static uint64_t sequence;
+static uint8_t message_type;
+static volatile uint64_t kept; /* so that no answer is thrown away */
+
+#define SHEET sequences, ROWS, times, ROWS, latencies, ROWS, marks, ROWS, counts
+
+static void call_sum(void) { kept = ENTER(testkit_sum)(1, in, in_length); }
+static void call_checksum(void) { kept = ENTER(testkit_checksum)(in, in_length); }
+static void call_verify(void) { kept = ENTER(testkit_verify)(in, in_length); }
+static void call_build(void) { kept = ENTER(testkit_build)(version, src, dst, 1, 2, 3, 4, out, out_length).number; }
+static void call_decode(void) { uint8_t s[16], d[16]; kept = ENTER(testkit_decode)(in, in_length, s, d).number; }
+static void call_echo(void) { kept = ENTER(testkit_echo)(in, in_length, out, out_length).number; }
+static void call_generate(void)
+{
+    kept = ENTER(testkit_generate)(version, src, dst, 1, 2, plan_count, plan_rate, plan_time, plan_sequence, out, out_length).number;
+}
+static void call_elements(void) { kept = ENTER(testkit_validate_elements)(in, in_length); }
+static void call_sent(void) { kept = ENTER(testkit_record_sent)(SHEET, sequence, 7).number; }
+static void call_received(void) { kept = ENTER(testkit_record_received_tpdu)(SHEET, 9, in, in_length).number; }
+static void call_message(void) { kept = ENTER(testkit_record_return_gtpu_datagram)(SHEET, 9, message_type, in, in_length).number; }
+static void call_report(void) { kept = ENTER(testkit_report)(SHEET, 1, 2, 3, 4, 5).number; }
+
+/* The calls, and the most that each has used so far. */
+static struct row {
+    const char *name;
+    void (*call)(void);
+    size_t said, used;
+} rows[] = {
+    {"testkit_sum", call_sum, TESTKIT_STACK_SUM, 0},
+    {"testkit_checksum", call_checksum, TESTKIT_STACK_CHECKSUM, 0},
+    {"testkit_verify", call_verify, TESTKIT_STACK_VERIFY, 0},
+    {"testkit_build", call_build, TESTKIT_STACK_BUILD, 0},
+    {"testkit_decode", call_decode, TESTKIT_STACK_DECODE, 0},
+    {"testkit_echo", call_echo, TESTKIT_STACK_ECHO, 0},
+    {"testkit_generate", call_generate, TESTKIT_STACK_GENERATE, 0},
+    {"testkit_validate_elements", call_elements, TESTKIT_STACK_VALIDATE_ELEMENTS, 0},
+    {"testkit_record_sent", call_sent, TESTKIT_STACK_RECORD_SENT, 0},
+    {"testkit_record_received_tpdu", call_received, TESTKIT_STACK_RECORD_RECEIVED_TPDU, 0},
+    {"testkit_record_return_gtpu_datagram", call_message, TESTKIT_STACK_RECORD_RETURN_GTPU_DATAGRAM, 0},
+    {"testkit_report", call_report, TESTKIT_STACK_REPORT, 0},
+};
+enum { CALLS = sizeof rows / sizeof *rows };
+
+/* Stands between the stack's top, which entering and leaving write to, and the call. */
+static void above(void)
+{
+    volatile uint8_t room[ABOVE];
+    room[0] = 0;
+    body();
+    kept = room[0];
+}
+
+static size_t depth(void (*call)(void), uint8_t pattern)
+{
+    size_t k = 0;
+    memset(stack, pattern, sizeof stack);
+    getcontext(&there);
+    there.uc_stack.ss_sp = stack;
+    there.uc_stack.ss_size = sizeof stack;
+    there.uc_link = &here;
+    body = call;
+    makecontext(&there, above, 0);
+    swapcontext(&here, &there);
+    while (stack[k] == pattern) {
+        k++;
+    }
+    return (size_t)(entry_stack_pointer + sizeof(void *) - (stack + k));
+}
+
+/* Runs a call on what is set, and notes how deep it went. What the call changes is set anew, for the second run too. */
+static void measure(void (*call)(void))
+{
+    static uint8_t marks_before[ROWS];
+    static uint64_t sequences_before[ROWS];
+    struct row *row = rows;
+    memcpy(marks_before, marks, sizeof marks);
+    memcpy(sequences_before, sequences, sizeof sequences);
+    while (row->call != call) {
+        row++;
+    }
+    for (int turn = 0; turn < 2; turn++) {
+        size_t used = depth(call, turn ? 0x5a : 0xa5);
+        row->used = used > row->used ? used : row->used;
+        memcpy(marks, marks_before, sizeof marks);
+        memcpy(sequences, sequences_before, sizeof sequences);
+    }
+}
+
+/* Every call that reads a packet, into outputs that are long enough and too short. */
+static void measure_packet(void)
+{
+    measure(call_sum);
+    measure(call_checksum);
+    measure(call_verify);
+    measure(call_decode);
+    measure(call_received);
+    message_type = 255;
+    measure(call_message);
+    for (out_length = 51; out_length <= 72; out_length += 21) {
+        measure(call_echo);
+    }
+}
+
+/* The packet of `in` with room for options of every length: IHL and total length raised, both header sums made right. */
+static void measure_options(void)
+{
+    uint8_t packet[52];
+    memcpy(packet, in, sizeof packet);
+    for (size_t words = 0; words <= 10; words++) {
+        memset(in, 1, 20 + 4 * words);
+        memcpy(in, packet, 20);
+        memcpy(in + 20 + 4 * words, packet + 20, 32);
+        in_length = 52 + 4 * words;
+        in[0] = (uint8_t)(0x45 + words);
+        in[3] = (uint8_t)in_length;
+        in[10] = in[11] = 0;
+        uint16_t sum = testkit_checksum(in, 20 + 4 * words);
+        in[10] = (uint8_t)(sum >> 8);
+        in[11] = (uint8_t)sum;
+        measure_packet();
+    }
+}
+
+static void measure_packets(uint64_t probe)
+{
+    for (version = 4; version <= 6; version += 2) {
+        size_t length = testkit_build(version, src, dst, 1, 2, probe, 4, in, sizeof in).bytes;
+        for (in_length = 0; in_length <= length; in_length++) {
+            measure_packet();
+        }
+        in_length = length;
+        for (size_t bit = 0; bit < 8 * length; bit++) {
+            in[bit / 8] ^= (uint8_t)(1 << bit % 8);
+            measure_packet();
+            in[bit / 8] ^= (uint8_t)(1 << bit % 8);
+        }
+        if (version == 4) {
+            measure_options();
+        }
+    }
+}
+
+static void measure_writers(void)
+{
+    static const uint64_t count[] = {0, 1, ROWS, ROWS + 1}, rate[] = {0, 1, 1000000000, 1000000001};
+    for (version = 4; version <= 6; version += 2) {
+        for (out_length = 0; out_length <= 72; out_length++) {
+            measure(call_build);
+        }
+        for (int k = 0; k < 64; k++) {
+            plan_count = count[k % 4];
+            plan_rate = rate[k / 4 % 4];
+            plan_time = k / 16 % 2 ? UINT64_MAX - 1 : 0;
+            plan_sequence = k / 32 ? UINT64_MAX - 1 : 0;
+            out_length = OUT;
+            measure(call_generate);
+            out_length = 0;
+            measure(call_generate);
+        }
+    }
+}
+
+/* `count` elements without value, then what a right list ends with; at every length near both ends. */
+static void measure_elements(size_t count)
+{
+    static const uint8_t end[12] = {16, 0, 0, 0, 9, 133, 0, 4, 10, 0, 0, 2};
+    size_t length = 3 * count + sizeof end;
+    message_type = 26;
+    memset(in, 0, sizeof in);
+    for (size_t k = 0; k < count; k++) {
+        in[3 * k] = 200;
+    }
+    memcpy(in + 3 * count, end, sizeof end);
+    for (in_length = 0; in_length <= length; in_length += in_length > 60 && in_length + 60 < length ? 37 : 1) {
+        measure(call_elements);
+        measure(call_message);
+    }
+    in[3 * count + 7] = 5;
+    in_length = length;
+    measure(call_elements);
+    in[3 * count] = 17;
+    measure(call_elements);
+}
+
+/* A sheet of `used` rows with sequences 2, 4, .., every `step`-th of them returned (0: none). */
+static void set_sheet(size_t used, size_t step)
+{
+    for (size_t k = 0; k < ROWS; k++) {
+        sequences[k] = 2 * (k + 1);
+        times[k] = 5;
+        latencies[k] = UINT64_MAX;
+        marks[k] = step != 0 && k % step == 0;
+    }
+    counts = (struct testkit_counts){used, 0, 0, 0};
+}
+
+static void measure_sheet(size_t used, size_t step)
+{
+    static const uint64_t new_sequences[] = {0, 1, 2, 2049, 2050, 4095, 4096, 9999};
+    set_sheet(used, step);
+    for (size_t k = 0; k < sizeof new_sequences / sizeof *new_sequences; k++) {
+        sequence = new_sequences[k];
+        measure(call_sent);
+        in_length = testkit_build(k % 2 ? 4 : 6, src, dst, 1, 2, sequence, 4, in, sizeof in).bytes;
+        measure_packet();
+    }
+    measure(call_report);
+    for (int type = 0; type < 256; type++) {
+        message_type = (uint8_t)type;
+        measure(call_message);
+    }
+    marks[0] = 2;
+    measure(call_report);
+    measure(call_sent);
+    measure(call_received);
+}
+
+int main(void)
+{
+    int status = EXIT_SUCCESS;
+    memset(in, 0xff, sizeof in);
+    for (in_length = 0; in_length < sizeof in; in_length += 101) {
+        measure(call_sum);
+        measure(call_checksum);
+        measure(call_verify);
+    }
+    measure_writers();
+    set_sheet(4, 2);
+    measure_packets(2);
+    for (size_t count = 0; count <= 40; count++) {
+        measure_elements(count);
+    }
+    measure_elements(4096);
+    for (size_t step = 0; step <= 2; step++) {
+        measure_sheet(0, step);
+        measure_sheet(1, step);
+        measure_sheet(ROWS - 1, step);
+        measure_sheet(ROWS, step);
+        measure_sheet(ROWS + 1, step);
+    }
+    for (size_t k = 0; k < CALLS; k++) {
+        printf("%-36s %5zu bytes of stack, %5zu said\n", rows[k].name, rows[k].used, rows[k].said);
+        if (rows[k].used > rows[k].said) {
+            status = EXIT_FAILURE;
+        }
+    }
+    return status;
+}

@@ -1,0 +1,356 @@
+/*
+ * The packet probe's calls for C.
+ *
+ * Build and link, from the repository's root (x86-64 Linux; `rt staticlib exports` writes the archive):
+ *
+ *     cc -std=c11 -Iinclude program.c target/staticlib/libexports.a -o program
+ *
+ * Nothing else is linked: of the C library the archive asks for memory functions (memcpy, memmove, memset, memcmp) and no more.
+ *
+ * Lending. Every buffer is the caller's, before, during and after a call; nothing is allocated, and no call keeps a pointer. A buffer
+ * is lent as a pointer and a length, where the length counts elements. The caller sees to it that
+ *   - a pointer is not null, also where the length is 0, and is aligned for its type;
+ *   - all the elements that the length counts may be read and, where the pointer is not to const, written, and have a value;
+ *   - a buffer that a call may write overlaps no other buffer of that call, and nobody else touches a lent buffer meanwhile.
+ * Everything else is the call's to judge: no value, length or content is forbidden. A call reads and writes only what it is lent.
+ *
+ * State. A call has no state of its own: what it is to remember stands in the caller's buffers, and in records that go in by value and
+ * come back changed. So calls on different buffers may run at the same time.
+ *
+ * Answers. `number` is 0 (TESTKIT_ACCEPTED) or says why the call refused: the enum below, and docs/CARD.md for what to do about it. Of
+ * several causes it names the first in the order that is given at the call. A refusal leaves every lent byte and every count as it was;
+ * the two exceptions are said at their calls, testkit_decode and testkit_generate. On success, output bytes past the answer stay.
+ *
+ * Time. Every call ends. Times are in nanoseconds since whatever moment the caller chose.
+ *
+ * Each call is proved to be what document 01 and the RFCs say (crates/exports/src/lib.rt has its contract). What is said here in words
+ * is not proved; firmware/run checks that names, types, numbers and layouts are those of the proved source.
+ */
+#ifndef TESTKIT_H
+#define TESTKIT_H
+
+#include <stdbool.h>
+#include <stddef.h>
+#include <stdint.h>
+
+#ifdef __cplusplus
+extern "C" {
+#endif
+
+/* Bytes that a buffer needs. */
+enum {
+    TESTKIT_ADDRESS_BYTES = 16,   /* an address; of an IPv4 address the first 4 count, and the rest of one that is given are 0 */
+    TESTKIT_IPV4_TPDU_BYTES = 52, /* a built or echoed T-PDU */
+    TESTKIT_IPV6_TPDU_BYTES = 72,
+    TESTKIT_MAXIMUM_PACKETS = 2048, /* packets in a plan */
+    TESTKIT_MAXIMUM_ROWS = 2048     /* rows of a run sheet: elements past these are never used */
+};
+
+/* The refusals. docs/CARD.md has each with its cause and what to do. */
+enum testkit_number {
+    TESTKIT_ACCEPTED = 0,
+    TESTKIT_TRUNCATED_IP_HEADER = 1,
+    TESTKIT_UNSUPPORTED_IP_VERSION = 2,
+    TESTKIT_TRUNCATED_IPV4_HEADER = 3,
+    TESTKIT_INVALID_IPV4_IHL = 4,
+    TESTKIT_INVALID_IPV4_TOTAL_LENGTH = 5,
+    TESTKIT_PAYLOAD_IS_NOT_UDP = 6,
+    TESTKIT_INVALID_IPV4_HEADER_CHECKSUM = 7,
+    TESTKIT_TRUNCATED_IPV6_UDP_PACKET = 8,
+    TESTKIT_INVALID_IPV6_PAYLOAD_LENGTH = 9,
+    TESTKIT_INVALID_UDP_LENGTH = 10,
+    TESTKIT_IPV6_UDP_CHECKSUM_IS_ZERO = 11,
+    TESTKIT_INVALID_UDP_CHECKSUM = 12,
+    TESTKIT_TRUNCATED_MEASUREMENT_HEADER = 13,
+    TESTKIT_MEASUREMENT_MAGIC_MISMATCH = 14,
+    TESTKIT_OUTPUT_TOO_SHORT = 15,
+    TESTKIT_TARGET_RATE_IS_ZERO = 16,
+    TESTKIT_TARGET_RATE_EXCEEDS_RESOLUTION = 17,
+    TESTKIT_TOO_MANY_PACKETS = 18,
+    TESTKIT_SEQUENCE_OVERFLOW = 19,
+    TESTKIT_SEND_TIMESTAMP_OVERFLOW = 20,
+    TESTKIT_MALFORMED_OBSERVER = 21,
+    TESTKIT_OBSERVER_FULL = 22,
+    TESTKIT_SEQUENCE_WAS_NOT_SENT = 23,
+    TESTKIT_TIMESTAMP_REVERSED = 24,
+    TESTKIT_TRUNCATED_ELEMENT = 25,
+    TESTKIT_INVALID_PEER_ADDRESS_LENGTH = 26,
+    TESTKIT_UNSUPPORTED_FIXED_LENGTH_ELEMENT = 27,
+    TESTKIT_MISSING_TEID_DATA_I = 28,
+    TESTKIT_MISSING_PEER_ADDRESS = 29,
+    TESTKIT_INVALID_REFLECTOR_CAPACITY = 30,
+    TESTKIT_MALFORMED_REFLECTOR_TABLE = 31,
+    TESTKIT_INVALID_REFLECTOR_SESSION = 32,
+    TESTKIT_REFLECTOR_SESSION_CONFLICT = 33,
+    TESTKIT_REFLECTOR_SESSION_CAPACITY_EXCEEDED = 34,
+    TESTKIT_ECHO_REQUEST_TEID_NOT_ZERO = 35,
+    TESTKIT_ECHO_REQUEST_MISSING_SEQUENCE = 36,
+    TESTKIT_UNSUPPORTED_MESSAGE_TYPE = 37
+};
+
+/*
+ * The most stack that each call was seen to use, in bytes: its return address, and below that all that it and what it calls (memcpy too)
+ * write. What the caller itself puts on its stack, arguments among it, comes on top. Measured by firmware/stack.c, which names its
+ * inputs; firmware/run measures again and fails where a call uses more.
+ */
+enum testkit_stack {
+    TESTKIT_STACK_SUM = 8,
+    TESTKIT_STACK_CHECKSUM = 24,
+    TESTKIT_STACK_VERIFY = 24,
+    TESTKIT_STACK_BUILD = 248,
+    TESTKIT_STACK_DECODE = 560,
+    TESTKIT_STACK_ECHO = 704,
+    TESTKIT_STACK_GENERATE = 360,
+    TESTKIT_STACK_VALIDATE_ELEMENTS = 856,
+    TESTKIT_STACK_RECORD_SENT = 56,
+    TESTKIT_STACK_RECORD_RECEIVED_TPDU = 848,
+    TESTKIT_STACK_RECORD_RETURN_GTPU_DATAGRAM = 1048,
+    TESTKIT_STACK_REPORT = 128
+};
+
+/* ---- Checksum (RFC 1071) ---- */
+
+/*
+ * The ones' complement sum of `start` and the big-endian 16-bit words of the bytes, an odd last byte being the high half of a word. Of
+ * any length. A sum may be taken in parts: the sum of one part is the start of the next, where each part but the last has an even
+ * length.
+ */
+uint16_t testkit_sum(uint16_t start, const uint8_t *bytes, size_t bytes_length);
+
+/* The checksum: the complement of the sum from 0. To be written big-endian. */
+uint16_t testkit_checksum(const uint8_t *bytes, size_t bytes_length);
+
+/* Whether bytes with their checksum among them add up, that is, their sum from 0 is 0xFFFF. */
+bool testkit_verify(const uint8_t *bytes, size_t bytes_length);
+
+/* ---- Packets: T-PDUs that carry a probe ---- */
+
+/* 0 and how many bytes were written; or a refusal's number and 0. */
+struct testkit_written {
+    uint8_t number;
+    size_t bytes;
+};
+
+/*
+ * Writes the T-PDU of a probe.
+ *   version            4 is IPv4; every other number is taken for IPv6
+ *   src, dst           addresses, TESTKIT_ADDRESS_BYTES each, in the order they have in a packet
+ *   src_port, dst_port UDP ports
+ *   sequence           what the probe carries: its sequence and its send time
+ *   send_timestamp_ns
+ *   out                gets TESTKIT_IPV4_TPDU_BYTES or TESTKIT_IPV6_TPDU_BYTES at its front
+ * Refuses by 15.
+ */
+struct testkit_written testkit_build(
+    uint8_t version,
+    const uint8_t src[16],
+    const uint8_t dst[16],
+    uint16_t src_port,
+    uint16_t dst_port,
+    uint64_t sequence,
+    uint64_t send_timestamp_ns,
+    uint8_t *out, size_t out_length);
+
+/*
+ * Writes the echo of a T-PDU: source and destination exchanged, address and port, the probe kept, IPv4 options and payload past the
+ * probe left out. `tpdu` is the packet as it came, from its IP header on; bytes past the length that it claims are ignored. `out` gets 52
+ * or 72 bytes; TESTKIT_IPV6_TPDU_BYTES are always enough.
+ * Refuses as testkit_decode, then by 15.
+ */
+struct testkit_written testkit_echo(const uint8_t *tpdu, size_t tpdu_length, uint8_t *out, size_t out_length);
+
+/* What was read: 0 and the values; or a refusal's number, version 4 and zeros. */
+struct testkit_tpdu {
+    uint8_t number;
+    uint8_t version; /* 4 or 6 */
+    uint16_t src_port;
+    uint16_t dst_port;
+    uint64_t sequence;
+    uint64_t send_timestamp_ns;
+};
+
+/*
+ * Reads the T-PDU of a probe. `src` and `dst` get the addresses. They are part of the answer: on a refusal they get zeros.
+ * Refuses by 1, then 2, then, of IPv4, 3, 4, 5, 6, 7, 10, 12, 13, 14, of IPv6, 8, 6, 9, 11, 12, 10, 13, 14.
+ */
+struct testkit_tpdu testkit_decode(const uint8_t *tpdu, size_t tpdu_length, uint8_t src[16], uint8_t dst[16]);
+
+/* ---- Generator ---- */
+
+/* 0 and how many bytes were written; or a refusal's number and 0. Both with the next sequence. */
+struct testkit_generated {
+    uint8_t number;
+    size_t bytes;
+    uint64_t next_sequence;
+};
+
+/*
+ * Writes the packets of a plan end to end. Packet k, from 0, has the sequence next_sequence + k and the send time
+ * first_send_timestamp_ns + k * (1000000000 / target_rate_pps).
+ *   version .. dst_port as for testkit_build
+ *   packet_count       at most TESTKIT_MAXIMUM_PACKETS; 0 writes nothing
+ *   target_rate_pps    packets per second, 1 to 1000000000
+ *   next_sequence      the sequence of the first packet; the caller keeps the answer's for the next plan. Sequence UINT64_MAX is never sent
+ *   out                packet_count * 52 bytes (IPv4) or packet_count * 72 (IPv6): for every plan, 147456
+ * Refuses by 16, 17, 18, then 19 before 20 at the first packet that either stops, then 15. After 19 at packet k the answer's next
+ * sequence is next_sequence + k, after 20 it is next_sequence + k + 1; after every other refusal it is as it was. `out` stays.
+ */
+struct testkit_generated testkit_generate(
+    uint8_t version,
+    const uint8_t src[16],
+    const uint8_t dst[16],
+    uint16_t src_port,
+    uint16_t dst_port,
+    uint64_t packet_count,
+    uint64_t target_rate_pps,
+    uint64_t first_send_timestamp_ns,
+    uint64_t next_sequence,
+    uint8_t *out, size_t out_length);
+
+/* ---- Elements of a GTP-U Error Indication ---- */
+
+/*
+ * Judges the elements of an Error Indication: the message's payload, after its GTP-U header. 0, or the number of a refusal: 25, 26 or 27
+ * at the first element that has a cause, else 28, then 29. The stack does not grow with the list.
+ */
+uint8_t testkit_validate_elements(const uint8_t *payload, size_t payload_length);
+
+/* ---- Run sheet ----
+ *
+ * A run sheet is four columns, lent to each call, and counts, which go in by value: the caller stores the answer's counts, on refusals
+ * too, and hands them to the next call. The columns may be longer than needed; the shortest decides how many rows there are, and at most
+ * TESTKIT_MAXIMUM_ROWS. Fresh: all counts 0; what the columns hold does not matter.
+ *   sequences          u64, rising strictly over the used rows
+ *   send_timestamps    u64
+ *   latencies          u64
+ *   marks              bytes: 1 returned, 0 not
+ * Each call judges the used rows first (21), in time that grows with them.
+ */
+
+struct testkit_counts {
+    size_t used; /* rows in use, from the front */
+    uint64_t duplicate_packets;
+    uint64_t out_of_order_packets;
+    uint64_t gtpu_error_indications; /* these three stay at their top once there */
+};
+
+/* 0 or a refusal's number, and the counts for the next call. */
+struct testkit_recorded {
+    uint8_t number;
+    size_t used;
+    uint64_t duplicate_packets;
+    uint64_t out_of_order_packets;
+    uint64_t gtpu_error_indications;
+};
+
+/*
+ * Enters a sent packet. A sequence that is on the sheet gets the new send time and keeps all else.
+ * Refuses by 21, then 22, which is due only where the sequence is new and no row is free.
+ */
+struct testkit_recorded testkit_record_sent(
+    uint64_t *sequences, size_t sequences_length,
+    uint64_t *send_timestamps, size_t send_timestamps_length,
+    uint64_t *latencies, size_t latencies_length,
+    uint8_t *marks, size_t marks_length,
+    struct testkit_counts counts,
+    uint64_t sequence,
+    uint64_t send_timestamp_ns);
+
+/*
+ * Enters a packet that came back as a T-PDU, at a time. A second return of a sequence is taken and only counted.
+ * Refuses by 21, then as testkit_decode, then by 23, 24.
+ */
+struct testkit_recorded testkit_record_received_tpdu(
+    const uint64_t *sequences, size_t sequences_length,
+    const uint64_t *send_timestamps, size_t send_timestamps_length,
+    uint64_t *latencies, size_t latencies_length,
+    uint8_t *marks, size_t marks_length,
+    struct testkit_counts counts,
+    uint64_t return_timestamp_ns,
+    const uint8_t *tpdu, size_t tpdu_length);
+
+/* What a message was. */
+enum testkit_kind {
+    TESTKIT_KIND_REFUSED = 0,
+    TESTKIT_KIND_MEASUREMENT_TPDU = 1,
+    TESTKIT_KIND_ERROR_INDICATION = 2,
+    TESTKIT_KIND_ECHO_RESPONSE = 3,
+    TESTKIT_KIND_IGNORED = 4
+};
+
+/* As testkit_recorded, and what the message was; of an ignored one its type, else 0. */
+struct testkit_message {
+    uint8_t number;
+    uint8_t kind; /* enum testkit_kind */
+    uint8_t message_type;
+    size_t used;
+    uint64_t duplicate_packets;
+    uint64_t out_of_order_packets;
+    uint64_t gtpu_error_indications;
+};
+
+/*
+ * Enters a GTP-U message that came back, at a time: its type, and its payload after the GTP-U header, which the caller has parsed. Type
+ * 255 is a T-PDU; 26 an Error Indication, counted if its elements are right; 2 an Echo Response; 31 and 254 are ignored.
+ * Refuses by 21; then type 255 as testkit_record_received_tpdu, type 26 as testkit_validate_elements, other types by 37.
+ */
+struct testkit_message testkit_record_return_gtpu_datagram(
+    const uint64_t *sequences, size_t sequences_length,
+    const uint64_t *send_timestamps, size_t send_timestamps_length,
+    uint64_t *latencies, size_t latencies_length,
+    uint8_t *marks, size_t marks_length,
+    struct testkit_counts counts,
+    uint64_t return_timestamp_ns,
+    uint8_t message_type,
+    const uint8_t *payload, size_t payload_length);
+
+/* ---- Report ---- */
+
+/* 0 and the report; or a refusal's number and zeros. */
+struct testkit_report {
+    uint8_t number;
+    uint64_t window_start_ns; /* as handed in */
+    uint64_t window_end_ns;
+    uint64_t sent_packets;
+    uint64_t received_packets;
+    uint64_t lost_packets; /* sent less received */
+    uint64_t duplicate_packets;
+    uint64_t out_of_order_packets;
+    uint64_t gtpu_error_indications;
+    uint64_t max_consecutive_lost_packets; /* the longest run of rows that did not return */
+    uint64_t max_gap_duration_ns;          /* the longest time that a run lasted; perhaps another run */
+    bool has_latency;                      /* false where nothing returned, and then the three are 0 */
+    uint64_t min_ns;
+    uint64_t max_ns;
+    uint64_t avg_ns; /* rounded down */
+    uint64_t max_lost; /* the budget, as handed in */
+    uint64_t max_consecutive;
+    uint64_t outage_budget_ns;
+    bool forwarding_proven;        /* something returned */
+    bool packet_continuity_proven; /* lost, longest run and longest time within budget, and no Error Indication */
+};
+
+/*
+ * The report of a run sheet.
+ *   window_start_ns    copied into the report, and used for nothing else
+ *   window_end_ns      where a run of losses ends that no return ended
+ *   the other three    the budget: how many may be lost, how many in one run, and how long a run may last
+ * Refuses by 21.
+ */
+struct testkit_report testkit_report(
+    const uint64_t *sequences, size_t sequences_length,
+    const uint64_t *send_timestamps, size_t send_timestamps_length,
+    const uint64_t *latencies, size_t latencies_length,
+    const uint8_t *marks, size_t marks_length,
+    struct testkit_counts counts,
+    uint64_t window_start_ns,
+    uint64_t window_end_ns,
+    uint64_t max_lost_packets,
+    uint64_t max_consecutive_lost_packets,
+    uint64_t outage_budget_ns);
+
+#ifdef __cplusplus
+}
+#endif
+
+#endif
