@@ -1,5 +1,6 @@
 //! The comparison of our library with the original Rust, one idea to a module. The binary
-//! `compare` (main.rs) runs its parts; `speed` (speed.rs) measures.
+//! `compare` (main.rs) runs its parts; `speed` (speed.rs) measures; `sample` (write_sample.rs)
+//! writes answers of the Rust's for `crates/replay`.
 
 #![deny(unsafe_code)]
 
@@ -20,6 +21,7 @@ pub mod packet;
 pub mod part;
 pub mod random;
 pub mod rust_side;
+pub mod sample;
 pub mod seen;
 pub mod sheets;
 pub mod speed_traffic;

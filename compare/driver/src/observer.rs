@@ -25,7 +25,7 @@ const SHEET_FULL: u8 = 22;
 const G_PDU: u8 = 255;
 
 /// One call on a run sheet.
-enum Call {
+pub(crate) enum Call {
     Sent {
         sequence: u64,
         send_time: u64,
@@ -159,7 +159,7 @@ impl Call {
         }
     }
 
-    fn on_rust(&self, observer: &mut Observer) -> Noted {
+    pub(crate) fn on_rust(&self, observer: &mut Observer) -> Noted {
         use GtpuReturnDatagramOutcome as Outcome;
         let outcome = match self {
             Call::Sent {
@@ -346,7 +346,7 @@ fn each_type(part: &mut Part, seen: &mut Seen, random: &mut Random, pair: &mut P
 }
 
 /// A call on a sheet with these rows, on sequences from `base` on.
-fn any_call(random: &mut Random, rows: &[Row], base: u64, capacity: usize) -> Call {
+pub(crate) fn any_call(random: &mut Random, rows: &[Row], base: u64, capacity: usize) -> Call {
     let any_sequence = base.wrapping_add(random.below(2 * capacity + 2) as u64);
     let row = match rows.len() {
         0 => None,
@@ -439,7 +439,7 @@ fn spoil_tpdu(random: &mut Random, tpdu: &mut Vec<u8>) {
 
 /// What a sheet may hold: rows with sequences near each other or far apart, any times and
 /// latencies, any counters.
-fn any_contents(random: &mut Random, rows: usize) -> Sheet {
+pub(crate) fn any_contents(random: &mut Random, rows: usize) -> Sheet {
     let gap = [1, 3, u64::MAX / (rows as u64 + 1)][random.below(3)];
     let most = u64::MAX - gap * (rows as u64).saturating_sub(1);
     let mut sequence = [0, most, random.number() % most.max(1)][random.below(3)];

@@ -130,7 +130,7 @@ fn each_two_lengths(packet: &[u8], each: &mut impl FnMut(&[u8])) {
 }
 
 /// A right packet with anything extra, changed in up to two ways.
-fn any_packet(random: &mut Random) -> Vec<u8> {
+pub(crate) fn any_packet(random: &mut Random) -> Vec<u8> {
     let version = [4, 6][random.below(2)];
     let options = match version {
         4 => random.below(11),

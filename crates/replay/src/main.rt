@@ -1,0 +1,107 @@
+// Replays a sample of the Rust's answers, without the Rust: each record of standard input is a call and what the Rust made of it, and the
+// proved call must do the same, in number, values and every byte lent. README.md says how the sample was made and what is in a record.
+mod data;
+mod packets;
+mod sheets;
+mod summary;
+
+ghost use mathlib.Core.Path.{_≡_};
+ghost use Prim.Native.Nat.{_≤_};
+ghost use lib.ListN.{length};
+
+// Whether the call of this kind agrees with the rest of its record. Kinds from 10 on are kept for the reflector.
+fn agrees(kind: u8, number: u8, s: &[u8]) -> bool {
+    match kind {
+        0 => packets::checksum(number, s),
+        1 => packets::build(number, s),
+        2 => packets::decode(number, s),
+        3 => packets::echo(number, s),
+        4 => packets::generate(number, s),
+        5 => packets::elements(number, s),
+        6 => sheets::record_sent(number, s),
+        7 => sheets::record_received_tpdu(number, s),
+        8 => sheets::record_return_gtpu_datagram(number, s),
+        9 => sheets::report(number, s),
+        _ => false,
+    }
+}
+
+// A record begins with its kind, the length of what follows the first 4 bytes (2 bytes), and the number that the Rust refuses by, or 0.
+fn record_length(s: &[u8], at: usize) -> usize
+    ensures { λ r. ⌜ 4 ≤ r ⌝ }
+{
+    4 + data::word(s, data::after(at, 1)) as usize
+}
+
+fn replay_record(record: &[u8], at: usize, counts: &mut [u64]) {
+    let kind = data::byte(record, 0);
+    let number = data::byte(record, 3);
+    let agreed = agrees(kind, number, data::rest(record, 4));
+    summary::note(counts, kind, number, agreed);
+    if !agreed {
+        io::write_all(1, b"differs: the record at byte ");
+        io::print_decimal(1, at as u64);
+        io::write_all(1, b"\n");
+    }
+}
+
+// Replays every record, and answers where it stopped: at the end, or where a record is cut.
+fn replay(s: &[u8], counts: &mut [u64]) -> usize {
+    let mut at = 0;
+    while at < s.len() {
+        let n = record_length(s, at);
+        if s.len() - at < n {
+            return at;
+        }
+        replay_record(data::first(data::rest(s, at), n), at, counts);
+        at += n;
+    }
+    at
+}
+
+fn print_line(counts: &[u64], kind: u8, name: &[u8]) {
+    summary::print_row(counts, kind, name);
+    io::write_all(1, b"\n");
+}
+
+fn print_lines(counts: &[u64]) {
+    print_line(counts, 0, b"checksum");
+    print_line(counts, 1, b"build_measurement_tpdu");
+    print_line(counts, 2, b"decode_measurement_tpdu");
+    print_line(counts, 3, b"echo_tpdu");
+    print_line(counts, 4, b"generate");
+    print_line(counts, 5, b"validate_error_indication_ies");
+    print_line(counts, 6, b"record_sent");
+    print_line(counts, 7, b"record_received_tpdu");
+    print_line(counts, 8, b"record_return_gtpu_datagram");
+    print_line(counts, 9, b"report");
+}
+
+// The last line has the data's checksum too, which no change of 16 neighbouring bits or fewer leaves as it is.
+fn replay_and_print(s: &[u8], counts: &mut [u64]) {
+    let end = replay(s, counts);
+    if end < s.len() {
+        io::write_all(1, b"cut: the record at byte ");
+        io::print_decimal(1, end as u64);
+        io::write_all(1, b"\n");
+    }
+    print_lines(counts);
+    summary::print_row(counts, summary::ALL, b"all");
+    io::write_all(1, b", checksum of the data 0x");
+    io::print_hex(1, exports::testkit_checksum(s) as u64, 4);
+    io::write_all(1, b"\n");
+}
+
+// Room for the data, and for more than twice as much.
+fn room() -> [u8; 1048576]
+    ensures { λ r. ⌜ 1048576 ≡ length r ⌝ }
+{
+    [0; 1048576]
+}
+
+fn main() {
+    let mut space = room();
+    let n = io::read_full(0, &mut space);
+    let mut counts = summary::fresh();
+    replay_and_print(&space[..n], &mut counts);
+}
