@@ -56,20 +56,35 @@ pub struct Values {
     pub send_time: u64,
 }
 
+/// What a call is lent to read. With the feature `exact` it is a copy on the heap that ends where
+/// the list ends, so that memcheck sees a call that reads past what it was lent.
+#[cfg(not(feature = "exact"))]
+pub(crate) fn lent(list: &[u8]) -> &[u8] {
+    list
+}
+
+#[cfg(feature = "exact")]
+pub(crate) fn lent(list: &[u8]) -> Vec<u8> {
+    list.to_vec()
+}
+
 /// RFC 1071's checksum: the complement of the sum, an odd last byte being a high half.
 pub fn checksum(bytes: &[u8]) -> u16 {
+    let bytes = lent(bytes);
     // SAFETY: the call reads `length` bytes from `bytes`, which are lent for as long as it runs.
     unsafe { testkit_checksum(bytes.as_ptr(), bytes.len()) }
 }
 
 /// The ones' complement sum of `start` and the 16-bit words of the bytes: 0 only if all are 0.
 pub fn sum(start: u16, bytes: &[u8]) -> u16 {
+    let bytes = lent(bytes);
     // SAFETY: as in `checksum`.
     unsafe { testkit_sum(start, bytes.as_ptr(), bytes.len()) }
 }
 
 /// Whether the sum of the bytes, their checksum among them, is 0xffff.
 pub fn verify(bytes: &[u8]) -> bool {
+    let bytes = lent(bytes);
     // SAFETY: as in `checksum`.
     unsafe { testkit_verify(bytes.as_ptr(), bytes.len()) }
 }
@@ -96,6 +111,7 @@ pub fn build(values: &Values, out: &mut [u8]) -> Written {
 /// What is read from a T-PDU: 0 and the values, or the number of a refusal and no values
 /// (version 4, all else 0). The addresses that are lent are dirty.
 pub fn decode(tpdu: &[u8]) -> (u8, Values) {
+    let tpdu = lent(tpdu);
     let [mut src, mut dst] = [[0xa5; 16]; 2];
     // SAFETY: the call reads `length` bytes from `tpdu` and writes two addresses; all are lent
     // for as long as it runs, and the addresses to it alone.
@@ -114,6 +130,7 @@ pub fn decode(tpdu: &[u8]) -> (u8, Values) {
 
 /// Writes the echo of a T-PDU.
 pub fn echo(tpdu: &[u8], out: &mut [u8]) -> Written {
+    let tpdu = lent(tpdu);
     // SAFETY: the call reads `length` bytes from `tpdu` and writes at most `out_length` bytes to
     // `out`; both are lent for as long as it runs, and `out` to it alone.
     unsafe { testkit_echo(tpdu.as_ptr(), tpdu.len(), out.as_mut_ptr(), out.len()) }

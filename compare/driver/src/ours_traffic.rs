@@ -3,7 +3,7 @@
 
 use testkit_open::evidence::PacketContinuityBudget;
 
-use crate::ours::Values;
+use crate::ours::{lent, Values};
 
 unsafe extern "C" {
     fn testkit_generate(
@@ -191,6 +191,7 @@ pub fn generate(
 
 /// The walk over the elements of an Error Indication: 0, or the number of a refusal.
 pub fn validate_elements(payload: &[u8]) -> u8 {
+    let payload = lent(payload);
     // SAFETY: the call reads `length` bytes from `payload`, which are lent for as long as it runs.
     unsafe { testkit_validate_elements(payload.as_ptr(), payload.len()) }
 }
@@ -222,6 +223,7 @@ impl RunSheet {
     }
 
     pub fn record_received_tpdu(&mut self, return_time: u64, tpdu: &[u8]) -> Noted {
+        let tpdu = lent(tpdu);
         // SAFETY: as in `record_sent`; the call reads `length` bytes from `tpdu`.
         let recorded = unsafe {
             on_sheet!(
@@ -241,6 +243,7 @@ impl RunSheet {
         message_type: u8,
         payload: &[u8],
     ) -> Noted {
+        let payload = lent(payload);
         // SAFETY: as in `record_sent`; the call reads `length` bytes from `payload`.
         let message = unsafe {
             on_sheet!(
