@@ -1,0 +1,7 @@
+-- The claims of specs/Claims.antt, together.
+-- Assumes nothing.
+use Rattle.rust_reference.specs.Claims.{EqualsTheRust}
+use Rattle.rust_reference.proofs.Elements.{validate}
+
+pub equals-the-rust : EqualsTheRust
+equals-the-rust = record { «validate_error_indication_ies» = validate }

@@ -1,0 +1,4 @@
+-- Why the Rust's results are document 01's.
+pub mod Branches
+pub mod Elements
+pub mod Claims
