@@ -4,16 +4,11 @@ use mathlib.Core.Path.{_≡_, refl}
 use mathlib.Core.Bool.{Bool, true, false}
 use Rattle.error.specs.Outcome.{Outcome, refused}
 use Rattle.rust_reference.specs.Error.{DataplaneTestkitError, Result, returnIf, _>>_}
-use Rattle.rust_reference.specs.Number.{errorNumber, outcomeOf}
-
--- `if test { x } else { y }`
-pub either : {A : Type 0} (test : Bool) (x y : Result A) (o : Outcome A) → (test ≡ true → outcomeOf x ≡ o) → (test ≡ false → outcomeOf y ≡ o)
-    → outcomeOf (elim test [ true ↦ x | false ↦ y ]) ≡ o
-either true x y o f g = f refl
-either false x y o f g = g refl
+use Rattle.rust_reference.specs.Number.{errorNumber, outcomeBy}
 
 -- `if test { return Err(error); } rest`
-pub unless : {A : Type 0} (test : Bool) (error : DataplaneTestkitError) (rest : Result A) (o : Outcome A)
-    → (test ≡ true → refused (errorNumber error) ≡ o) → (test ≡ false → outcomeOf rest ≡ o) → outcomeOf (_>>_ (returnIf test error) rest) ≡ o
-unless true error rest o f g = f refl
-unless false error rest o f g = g refl
+pub unless : {A B : Type 0} (value : A → B) (test : Bool) (error : DataplaneTestkitError) (rest : Result A) (o : Outcome B)
+    → (test ≡ true → refused (errorNumber error) ≡ o) → (test ≡ false → outcomeBy value rest ≡ o)
+    → outcomeBy value (_>>_ (returnIf test error) rest) ≡ o
+unless value true error rest o f g = f refl
+unless value false error rest o f g = g refl

@@ -15,9 +15,10 @@ use Rattle.gtpu.specs.Element.{elementType, valueLength, otherLength, elementOf
 use Rattle.gtpu.proofs.Rows.{refuses-27, teid-cut, teid-sound, length-cut, length-other, value-cut, value-sound}
 use Rattle.gtpu.proofs.Walk.{at-end, teidAfter, peerAfter, refuses-list, follows}
 use Rattle.rust_reference.specs.Number.{outcomeOf}
-use Rattle.rust_reference.specs.Gtpu.{index, «u16_at», «required_ies», «while_ies», «validate_error_indication_ies»}
+use Rattle.rust_reference.specs.Values.{index, «u16_at»}
+use Rattle.rust_reference.specs.Gtpu.{«required_ies», «while_ies», «validate_error_indication_ies»}
 use Rattle.rust_reference.specs.Claims.{ValidateErrorIndicationIes}
-use Rattle.rust_reference.proofs.Branches.{either, unless}
+use Rattle.rust_reference.proofs.Branches.{unless}
 
 -- behind the loop
 required : (t p : Bool) → outcomeOf («required_ies» t p) ≡ endOf t p
@@ -97,7 +98,7 @@ module _ (payload : List ℕ) (offset : ℕ) (inside : offset < length payload) 
     unfolding «while_ies»
     fixed e =
         rw (lt-ltb offset (length payload) inside, eq-eqb (index payload offset) 16 e, «while_ies»)
-        (unless (ltb (length payload) (offset + 1 + 4)) _ _ _
+        (unless (λ x. x) (ltb (length payload) (offset + 1 + 4)) _ _ _
         (λ c. stops t p 25 (teid-cut rest (type-is ∙ e) (omega (arith, ltb-true (length payload) (offset + 1 + 4) c, rest-length))))
         (λ c. next (offset + 1 + 4) true p (omega arith)
         ∙ goes-on t p true p 5 (offset + 1 + 4) (teid-sound rest (type-is ∙ e) (omega (arith, ltb-false (length payload) (offset + 1 + 4) c, rest-length)))
@@ -134,10 +135,10 @@ module _ (payload : List ℕ) (offset : ℕ) (inside : offset < length payload) 
         let e' : elementType rest ≡ 133 = type-is ∙ e in
         let high : 128 ≤ elementType rest = omega arith in
         rw (lt-ltb offset (length payload) inside, ne-eqb (index payload offset) 16 (λ f. omega arith), eq-eqb (index payload offset) 133 e, «while_ies»)
-        (unless (ltb (length payload) (offset + 1 + 2)) _ _ _ (cut-length high)
-        (λ c. unless (not (eqb n 4) && not (eqb n 16)) _ _ _ (λ w. wrong-length high c (rw (other-length n e') at w))
+        (unless (λ x. x) (ltb (length payload) (offset + 1 + 2)) _ _ _ (cut-length high)
+        (λ c. unless (λ x. x) (not (eqb n 4) && not (eqb n 16)) _ _ _ (λ w. wrong-length high c (rw (other-length n e') at w))
         (λ w. let right : otherLength (elementType rest) n ≡ false = rw (other-length n e') at w in
-        unless (ltb (length payload) (offset + 1 + 2 + n)) _ _ _ (cut-value high c right)
+        unless (λ x. x) (ltb (length payload) (offset + 1 + 2 + n)) _ _ _ (cut-value high c right)
         (whole-value high c right t true (no-16 t (λ f. omega arith)) (flag-133 p e')))))
 
     module _ (not-16 : index payload offset ≡ 16 → ⊥) (not-133 : index payload offset ≡ 133 → ⊥) where
@@ -147,8 +148,8 @@ module _ (payload : List ℕ) (offset : ℕ) (inside : offset < length payload) 
           let high : 128 ≤ elementType rest = omega (arith, type-is) in
           let right : otherLength (elementType rest) n ≡ false = no-length-asked n (λ f. not-133 (sym type-is ∙ f)) in
           rw (lt-ltb offset (length payload) inside, ne-eqb (index payload offset) 16 not-16, ne-eqb (index payload offset) 133 not-133, le-leb 128 (index payload offset) h, «while_ies»)
-          (unless (ltb (length payload) (offset + 1 + 2)) _ _ _ (cut-length high)
-          (λ c. unless (ltb (length payload) (offset + 1 + 2 + n)) _ _ _ (cut-value high c right)
+          (unless (λ x. x) (ltb (length payload) (offset + 1 + 2)) _ _ _ (cut-length high)
+          (λ c. unless (λ x. x) (ltb (length payload) (offset + 1 + 2 + n)) _ _ _ (cut-value high c right)
           (whole-value high c right t p (no-16 t (λ f. omega arith)) (no-133 p (λ f. not-133 (sym type-is ∙ f))))))
 
       unsupported : index payload offset < 128 → outcomeOf («while_ies» (suc turns) payload offset t p) ≡ elementsFrom t p rest

@@ -2,20 +2,13 @@
 -- Offsets are `usize` there, and every `checked_add` succeeds: an offset is at most the payload's length when 65,538 at most is added to it,
 -- and a slice of bytes has fewer than 2^63.
 -- Assumes nothing.
-use Prim.Native.Nat.{ℕ, zero, suc, _+_, _*_}
+use Prim.Native.Nat.{ℕ, zero, suc, _+_}
 use mathlib.Core.List.{List}
 use mathlib.Core.Bool.{Bool, true, false, not, _&&_}
 use lib.Dec.{eqb, ltb, leb}
-use lib.ListN.{length, getD}
+use lib.ListN.{length}
+use Rattle.rust_reference.specs.Values.{index, «u16_at»}
 use Rattle.rust_reference.specs.Error.{Result, Ok, Truncated, InvalidPacket, Err, returnIf, _>>_, TEID-Data-I-IE, GTP-U-Peer-Address-IE, GTP-U-TLV-IE, GTP-U-Peer-Address-IE-length-must-be-IPv4-or-IPv6, unsupported-fixed-length-GTP-U-IE, Error-Indication-missing-TEID-Data-I-IE, Error-Indication-missing-GTP-U-Peer-Address-IE}
-
--- `payload[offset]`. The Rust panics past the end; every index here is tested first.
-abbrev pub index : List ℕ → ℕ → ℕ
-index payload offset = getD payload offset 0
-
--- `u16::from_be_bytes([payload[offset], payload[offset + 1]])`
-abbrev pub «u16_at» : List ℕ → ℕ → ℕ
-«u16_at» payload offset = index payload offset * 256 + index payload (offset + 1)
 
 -- lines 178 to 188: behind the loop
 unfoldable pub «required_ies» : Bool → Bool → Result (Unit {0})

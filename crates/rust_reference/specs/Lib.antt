@@ -1,5 +1,8 @@
 -- The Rust, a file for each of its files; its errors as document 01's numbers; and what is claimed.
 pub mod Error
+pub mod Values
 pub mod Number
 pub mod Gtpu
+pub mod Measurement
+pub mod Answers
 pub mod Claims

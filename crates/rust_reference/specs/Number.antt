@@ -54,7 +54,11 @@ errorNumber (InvalidPacket reason) = invalidNumber reason
 errorNumber (Overflow field) = overflowNumber field
 errorNumber TimestampReversed = timestampReversed
 
--- A result of the Rust as an outcome.
+-- A result of the Rust as an outcome, its value in document 01's terms.
+abbrev pub outcomeBy : {A B : Type 0} → (A → B) → Result A → Outcome B
+outcomeBy value (Ok x) = gives (value x)
+outcomeBy value (Err error) = refused (errorNumber error)
+
+-- the same where the value is document 01's already
 abbrev pub outcomeOf : {A : Type 0} → Result A → Outcome A
-outcomeOf (Ok value) = gives value
-outcomeOf (Err error) = refused (errorNumber error)
+outcomeOf result = outcomeBy (λ x. x) result

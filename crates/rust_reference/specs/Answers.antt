@@ -1,0 +1,41 @@
+-- The Rust's values as the port has them ("What must change shape", document 01): flows and T-PDUs; a `Vec` in a lent buffer.
+-- Assumes nothing.
+use Prim.Native.Nat.{ℕ, _≤_}
+use mathlib.Core.List.{List, _++_}
+use lib.ListN.{length, drop}
+use Rattle.error.specs.Outcome.{refused, gives}
+use Rattle.measurement.specs.Answer.{Writing}
+use Rattle.measurement.specs.Packet.{address, padded}
+use Rattle.measurement.specs.declared.DecodedTpdu.{DecodedTpdu}
+use Rattle.measurement.specs.declared.InnerIpFlow.{InnerIpFlow}
+use Rattle.measurement.specs.declared.IpVersion.{IpVersion}
+use Rattle.measurement.specs.declared.IpVersion.the-variants.{V4, V6}
+use Rattle.rust_reference.specs.Error.{Result, Ok, Err}
+use Rattle.rust_reference.specs.Number.{errorNumber}
+use Rattle.rust_reference.specs.Measurement as rust
+
+-- A flow of the port, handed to the Rust: "of an IPv4 address only the first 4 bytes count".
+abbrev pub rustFlowOf : IpVersion → List ℕ → List ℕ → ℕ → ℕ → rust.InnerIpFlow
+rustFlowOf V4 src dst src-port dst-port = rust.Ipv4 (address V4 src) (address V4 dst) src-port dst-port
+rustFlowOf V6 src dst src-port dst-port = rust.Ipv6 (address V6 src) (address V6 dst) src-port dst-port
+
+abbrev pub rustFlow : InnerIpFlow → rust.InnerIpFlow
+rustFlow flow = rustFlowOf (flow .version) (flow .src) (flow .dst) (flow .«src_port») (flow .«dst_port»)
+
+-- A flow that the Rust answers: "what makes one leaves the rest 0".
+abbrev pub flowOf : rust.InnerIpFlow → InnerIpFlow
+flowOf (rust.Ipv4 src dst src-port dst-port) = record { version = V4; src = padded src; dst = padded dst; «src_port» = src-port; «dst_port» = dst-port }
+flowOf (rust.Ipv6 src dst src-port dst-port) = record { version = V6; src = padded src; dst = padded dst; «src_port» = src-port; «dst_port» = dst-port }
+
+abbrev pub tpduOf : rust.DecodedTpdu → DecodedTpdu
+tpduOf decoded = record { flow = flowOf (decoded .flow); measurement = decoded .measurement }
+
+-- 15 is not due: the lent buffer holds the Rust's `Vec`.
+abbrev pub Room : Result (List ℕ) → List ℕ → Type 0
+Room (Ok vec) buffer = length vec ≤ length buffer
+Room (Err error) buffer = Unit {0}
+
+-- The Rust's `Vec` at the front of the lent buffer, what lies past it kept; an error, as its number, leaves every byte.
+abbrev pub inBuffer : Result (List ℕ) → List ℕ → Writing
+inBuffer (Ok vec) buffer = record { outcome = gives (length vec); buffer = vec ++ drop (length vec) buffer }
+inBuffer (Err error) buffer = record { outcome = refused (errorNumber error); buffer = buffer }
