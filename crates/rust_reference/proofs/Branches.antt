@@ -2,7 +2,8 @@
 -- Assumes nothing.
 use mathlib.Core.Path.{_≡_, refl}
 use mathlib.Core.Bool.{Bool, true, false}
-use Rattle.error.specs.Outcome.{Outcome, refused}
+use mathlib.Core.List.{List, [], _∷_, _++_}
+use Rattle.error.specs.Outcome.{Outcome, refused, Cause, _⇒_, firstCause}
 use Rattle.rust_reference.specs.Error.{DataplaneTestkitError, Result, returnIf, _>>_}
 use Rattle.rust_reference.specs.Number.{errorNumber, outcomeBy}
 
@@ -12,3 +13,18 @@ pub unless : {A B : Type 0} (value : A → B) (test : Bool) (error : DataplaneTe
     → outcomeBy value (_>>_ (returnIf test error) rest) ≡ o
 unless value true error rest o f g = f refl
 unless value false error rest o f g = g refl
+
+-- the same beside a row of causes: the Rust's test is the row's, and what follows it is what follows the row
+pub row : {A B : Type 0} (value : A → B) (test : Bool) {c : Bool} (error : DataplaneTestkitError) (rest : Result A) (rows : List Cause) (onward : Outcome B)
+    → test ≡ c → (c ≡ false → outcomeBy value rest ≡ firstCause rows onward)
+    → outcomeBy value (_>>_ (returnIf test error) rest) ≡ firstCause ((c ⇒ errorNumber error) ∷ rows) onward
+unfolding firstCause
+row value test {c = true} error rest rows onward e g = rw e
+row value test {c = false} error rest rows onward e g = rw e (g refl)
+
+-- two lists of rows, one after the other
+pub rows-append : {A : Type 0} (first second : List Cause) (onward : Outcome A) → firstCause first (firstCause second onward) ≡ firstCause (first ++ second) onward
+unfolding firstCause
+rows-append [] second onward = refl
+rows-append ((true ⇒ n) ∷ rows) second onward = refl
+rows-append ((false ⇒ n) ∷ rows) second onward = rows-append rows second onward

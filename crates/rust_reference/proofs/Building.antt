@@ -89,14 +89,14 @@ module _ (S D : List ℕ) (sport dport s t : ℕ) where
     unfolding pseudoHeader udpSegment probe measurementMagic
     udp6-checksum = nonzero-of-two pseudo6 blank pseudo6-bytes blank-bytes refl (omega arith)
 
-    built4 : rust.«build_ipv4_udp» src4 dst4 sport dport (rust.encode (record { sequence = s; «send_timestamp_ns» = t }))
+    pub built4 : rust.«build_ipv4_udp» src4 dst4 sport dport (rust.encode (record { sequence = s; «send_timestamp_ns» = t }))
         ≡ Ok (ipHeader V4 src4 dst4 ++ udp pseudo4 sport dport s t)
     unfolding ipHeader ipv4 udp
     built4 =
         ipv4-shape
         ∙ ap₂ (λ (c d : ℕ). Ok (ipv4Header c src4 dst4 ++ udpSegment d sport dport s t)) header-checksum udp4-checksum
 
-    built6 : rust.«build_ipv6_udp» src6 dst6 sport dport (rust.encode (record { sequence = s; «send_timestamp_ns» = t }))
+    pub built6 : rust.«build_ipv6_udp» src6 dst6 sport dport (rust.encode (record { sequence = s; «send_timestamp_ns» = t }))
         ≡ Ok (ipHeader V6 src6 dst6 ++ udp pseudo6 sport dport s t)
     unfolding ipHeader udp
     built6 = ipv6-shape ∙ ap (λ (d : ℕ). Ok (ipv6 src6 dst6 ++ udpSegment d sport dport s t)) udp6-checksum
@@ -122,6 +122,5 @@ laid r bytes buffer e room =
     rw e (rw (le-ltb (length buffer) (length bytes) fits, writing))
 
 pub build : BuildMeasurementTpdu
-unfolding BuildMeasurementTpdu
 build flow s t range buffer room =
     laid (rust.«build_measurement_tpdu» (rustFlow flow) s t) (buildOf flow s t) buffer (vec-is flow s t (range .source) (range .destination)) room

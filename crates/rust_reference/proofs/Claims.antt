@@ -2,7 +2,14 @@
 -- Assumes nothing.
 use Rattle.rust_reference.specs.Claims.{EqualsTheRust}
 use Rattle.rust_reference.proofs.Building.{build}
+use Rattle.rust_reference.proofs.Decoding.{decoded}
+use Rattle.rust_reference.proofs.Echoing.{echoed}
 use Rattle.rust_reference.proofs.Elements.{validate}
 
 pub equals-the-rust : EqualsTheRust
-equals-the-rust = record { «build_measurement_tpdu» = build; «validate_error_indication_ies» = validate }
+equals-the-rust = record {
+  «build_measurement_tpdu» = build;
+  «decode_measurement_tpdu» = decoded;
+  «echo_tpdu» = echoed;
+  «validate_error_indication_ies» = validate;
+}

@@ -193,5 +193,5 @@ loop (suc turns) payload offset t p h =
     by (no i) next = ended (suc turns) payload offset t p (omega arith)
 
 pub validate : ValidateErrorIndicationIes
-unfolding ValidateErrorIndicationIes «validate_error_indication_ies» elementsOf
+unfolding «validate_error_indication_ies» elementsOf
 validate payload = loop (length payload) payload 0 false false (omega arith)

@@ -3,4 +3,6 @@ pub mod Branches
 pub mod Elements
 pub mod Checksums
 pub mod Building
+pub mod Decoding
+pub mod Echoing
 pub mod Claims
