@@ -4,7 +4,7 @@ use mathlib.Core.Path.{_≡_, refl}
 use mathlib.Core.Bool.{Bool, true, false}
 use mathlib.Core.List.{List, [], _∷_, _++_}
 use Rattle.error.specs.Outcome.{Outcome, refused, Cause, _⇒_, firstCause}
-use Rattle.rust_reference.specs.Error.{DataplaneTestkitError, Result, returnIf, _>>_}
+use Rattle.rust_reference.specs.Error.{DataplaneTestkitError, Result, Ok, Err, returnIf, _>>_}
 use Rattle.rust_reference.specs.Number.{errorNumber, outcomeBy}
 
 -- `if test { return Err(error); } rest`
@@ -28,3 +28,8 @@ unfolding firstCause
 rows-append [] second onward = refl
 rows-append ((true ⇒ n) ∷ rows) second onward = refl
 rows-append ((false ⇒ n) ∷ rows) second onward = rows-append rows second onward
+
+-- what holds of a value, if there is one
+pub data AllOk {A : Type 0} (P : A → Type 0) : Result A → Type 0 where
+  all : {x : A} → P x → AllOk P (Ok x)
+  none : {e : DataplaneTestkitError} → AllOk P (Err e)

@@ -4,10 +4,10 @@ use Prim.Native.Nat.{ℕ, _+_, _%_, _<_, _≤_}
 use native.Mathlib.Omega.{arith}
 use mathlib.Core.Path.{_≡_, refl, sym, ap, ap₂, _∙_}
 use mathlib.Core.List.{List, [], _∷_, _++_}
-use mathlib.Core.Bool.{true, false}
+use mathlib.Core.Logic.{inl, inr}
+use mathlib.Core.Bool.{Bool, true, false}
 use lib.Dec.{ltb}
 use lib.ListN.{length}
-use borrow.Author.Tests.{le-ltb}
 use Rattle.field.specs.Field.{Bytes, bigEndian, bytesAt}
 use Rattle.field.proofs.Fields.{bytes-append, bytes-at, bytes-big-endian, length-bytesAt}
 use Rattle.checksum.specs.Sum.{checksumOf}
@@ -19,8 +19,8 @@ use Rattle.measurement.specs.declared.IpVersion.{IpVersion}
 use Rattle.measurement.specs.declared.IpVersion.the-variants.{V4, V6}
 use Rattle.measurement.proofs.Pseudo.{pseudo-even}
 use Rattle.rust_reference.specs.Error.{Result, Ok}
-use Rattle.rust_reference.specs.Answers.{rustFlowOf, rustFlow, Room, inBuffer}
-use Rattle.rust_reference.specs.Claims.{BuildMeasurementTpdu}
+use Rattle.rust_reference.specs.Answers.{rustFlowOf, rustFlow, inBuffer}
+use Rattle.rust_reference.specs.Claims.{NoneAdded, BuildMeasurementTpdu}
 use Rattle.rust_reference.specs.Measurement as rust
 use Rattle.rust_reference.proofs.Checksums.{of-one, of-two, nonzero-of-two}
 
@@ -114,13 +114,15 @@ vec-is flow s t p q = of (flow .version)
     of V4 = built4 (flow .src) (flow .dst) (flow .«src_port») (flow .«dst_port») s t p q
     of V6 = built6 (flow .src) (flow .dst) (flow .«src_port») (flow .«dst_port») s t p q
 
--- bytes that fit are laid into the buffer
-pub laid : (r : Result (List ℕ)) (bytes buffer : List ℕ) → r ≡ Ok bytes → Room r buffer → inBuffer r buffer ≡ writing bytes buffer
+-- bytes that fit are laid into the buffer; where 15 is not due, they fit
+pub laid : (r : Result (List ℕ)) (bytes buffer : List ℕ) → r ≡ Ok bytes → NoneAdded (writing bytes buffer .outcome) → inBuffer r buffer ≡ writing bytes buffer
 unfolding writing
-laid r bytes buffer e room =
-    let fits : length bytes ≤ length buffer = rw e at room in
-    rw e (rw (le-ltb (length buffer) (length bytes) fits, writing))
+laid r bytes buffer e added = rw e (by (ltb (length buffer) (length bytes)) refl)
+  where
+    by : (t : Bool) → ltb (length buffer) (length bytes) ≡ t → inBuffer (Ok bytes) buffer ≡ writing bytes buffer
+    by true f = absurd (added 15 (inl refl) (rw (f, writing)))
+    by false f = rw (f, writing)
 
 pub build : BuildMeasurementTpdu
-build flow s t range buffer room =
-    laid (rust.«build_measurement_tpdu» (rustFlow flow) s t) (buildOf flow s t) buffer (vec-is flow s t (range .source) (range .destination)) room
+build flow s t range buffer added =
+    laid (rust.«build_measurement_tpdu» (rustFlow flow) s t) (buildOf flow s t) buffer (vec-is flow s t (range .source) (range .destination)) added

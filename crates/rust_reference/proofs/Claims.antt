@@ -5,6 +5,7 @@ use Rattle.rust_reference.proofs.Building.{build}
 use Rattle.rust_reference.proofs.Decoding.{decoded}
 use Rattle.rust_reference.proofs.Echoing.{echoed}
 use Rattle.rust_reference.proofs.Elements.{validate}
+use Rattle.rust_reference.proofs.Generating.{interval-ns, generated}
 
 pub equals-the-rust : EqualsTheRust
 equals-the-rust = record {
@@ -12,4 +13,6 @@ equals-the-rust = record {
   «decode_measurement_tpdu» = decoded;
   «echo_tpdu» = echoed;
   «validate_error_indication_ies» = validate;
+  «interval_ns» = interval-ns;
+  generate = generated;
 }

@@ -18,20 +18,17 @@ use Rattle.measurement.specs.Read.{readOf}
 use Rattle.measurement.specs.declared.DecodedTpdu.{DecodedTpdu}
 use Rattle.measurement.specs.declared.MeasurementHeader.{MeasurementHeader}
 use Rattle.measurement.specs.declared.IpVersion.the-variants.{V4, V6}
-use Rattle.rust_reference.specs.Claims.{EchoTpdu}
+use Rattle.rust_reference.specs.Claims.{NoneAdded, EchoTpdu}
 use Rattle.rust_reference.specs.Error.{DataplaneTestkitError, Result, Ok, Err, UnsupportedIpVersion, returnIf, _>>=_, _>>_}
 use Rattle.rust_reference.specs.Number.{errorNumber, outcomeBy}
 use Rattle.rust_reference.specs.Values.{index, range, «u16_at»}
-use Rattle.rust_reference.specs.Answers.{flowOf, tpduOf, Room, inBuffer}
+use Rattle.rust_reference.specs.Answers.{flowOf, tpduOf, inBuffer}
 use Rattle.rust_reference.specs.Measurement as rust
+use Rattle.rust_reference.proofs.Branches.{AllOk, all, none}
 use Rattle.rust_reference.proofs.Building.{built4, built6, laid}
 use Rattle.rust_reference.proofs.Decoding.{decoded}
 
--- what holds of a value, if there is one
-data AllOk {A : Type 0} (P : A → Type 0) : Result A → Type 0 where
-  all : {x : A} → P x → AllOk P (Ok x)
-  none : {e : DataplaneTestkitError} → AllOk P (Err e)
-
+-- what holds of a value behind a test, and behind another result
 after-test : {A : Type 0} (P : A → Type 0) (test : Bool) (error : DataplaneTestkitError) (rest : Result A) → (test ≡ false → AllOk P rest)
     → AllOk P (_>>_ (returnIf test error) rest)
 after-test P true error rest f = none
@@ -142,11 +139,14 @@ built d w = of (d .flow) w
 
 pub echoed : EchoTpdu
 unfolding rust.«echo_tpdu» echoOf writingOf
-echoed p b buffer room = of (rust.«decode_measurement_tpdu» p) (whole p b) (readOf p) (decoded p b) room
+echoed p b buffer added = of (rust.«decode_measurement_tpdu» p) (whole p b) (readOf p) (decoded p b) added
   where
-    of : (r : Result rust.DecodedTpdu) → AllOk WholeTpdu r → (o : Outcome DecodedTpdu) → outcomeBy tpduOf r ≡ o
-        → Room (_>>=_ r (λ d. rust.«build_udp_tpdu» (rust.reversed (d .flow)) (rust.encode (d .measurement)))) buffer
-        → inBuffer (_>>=_ r (λ d. rust.«build_udp_tpdu» (rust.reversed (d .flow)) (rust.encode (d .measurement)))) buffer
-        ≡ writingOf (elim o [ refused n ↦ refused n | gives t ↦ gives (echoOfTpdu t) ]) buffer
-    of (Ok d) (all w) o e room = rw (← e) (laid (rust.«build_udp_tpdu» (rust.reversed (d .flow)) (rust.encode (d .measurement))) (echoOfTpdu (tpduOf d)) buffer (built d w) room)
-    of (Err x) none o e room = rw (← e)
+    echoing : Outcome DecodedTpdu → Outcome (List ℕ)
+    echoing o = elim o [ refused n ↦ refused n | gives t ↦ gives (echoOfTpdu t) ]
+
+    of : (r : Result rust.DecodedTpdu) → AllOk WholeTpdu r → (o : Outcome DecodedTpdu) → outcomeBy tpduOf r ≡ o → NoneAdded (writingOf (echoing o) buffer .outcome)
+        → inBuffer (_>>=_ r (λ d. rust.«build_udp_tpdu» (rust.reversed (d .flow)) (rust.encode (d .measurement)))) buffer ≡ writingOf (echoing o) buffer
+    of (Ok d) (all w) o e added =
+        rw (← e)
+        (laid (rust.«build_udp_tpdu» (rust.reversed (d .flow)) (rust.encode (d .measurement))) (echoOfTpdu (tpduOf d)) buffer (built d w) (rw (← e) at added))
+    of (Err x) none o e added = rw (← e)

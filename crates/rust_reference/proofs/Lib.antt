@@ -5,4 +5,5 @@ pub mod Checksums
 pub mod Building
 pub mod Decoding
 pub mod Echoing
+pub mod Generating
 pub mod Claims

@@ -1,7 +1,7 @@
--- The Rust's values as the port has them ("What must change shape", document 01): flows and T-PDUs; a `Vec` in a lent buffer.
+-- The Rust's values as the port has them ("What must change shape", document 01): flows and T-PDUs; `Vec`s in a lent buffer.
 -- Assumes nothing.
-use Prim.Native.Nat.{ℕ, _≤_}
-use mathlib.Core.List.{List, _++_}
+use Prim.Native.Nat.{ℕ}
+use mathlib.Core.List.{List, [], _∷_, _++_}
 use lib.ListN.{length, drop}
 use Rattle.error.specs.Outcome.{refused, gives}
 use Rattle.measurement.specs.Answer.{Writing}
@@ -13,6 +13,8 @@ use Rattle.measurement.specs.declared.IpVersion.the-variants.{V4, V6}
 use Rattle.rust_reference.specs.Error.{Result, Ok, Err}
 use Rattle.rust_reference.specs.Number.{errorNumber}
 use Rattle.rust_reference.specs.Measurement as rust
+use Rattle.rust_reference.specs.Traffic.{GeneratedPacket}
+use Rattle.traffic.specs.Generate.{Generating}
 
 -- A flow of the port, handed to the Rust: "of an IPv4 address only the first 4 bytes count".
 abbrev pub rustFlowOf : IpVersion → List ℕ → List ℕ → ℕ → ℕ → rust.InnerIpFlow
@@ -30,12 +32,17 @@ flowOf (rust.Ipv6 src dst src-port dst-port) = record { version = V6; src = padd
 abbrev pub tpduOf : rust.DecodedTpdu → DecodedTpdu
 tpduOf decoded = record { flow = flowOf (decoded .flow); measurement = decoded .measurement }
 
--- 15 is not due: the lent buffer holds the Rust's `Vec`.
-abbrev pub Room : Result (List ℕ) → List ℕ → Type 0
-Room (Ok vec) buffer = length vec ≤ length buffer
-Room (Err error) buffer = Unit {0}
-
 -- The Rust's `Vec` at the front of the lent buffer, what lies past it kept; an error, as its number, leaves every byte.
 abbrev pub inBuffer : Result (List ℕ) → List ℕ → Writing
 inBuffer (Ok vec) buffer = record { outcome = gives (length vec); buffer = vec ++ drop (length vec) buffer }
 inBuffer (Err error) buffer = record { outcome = refused (errorNumber error); buffer = buffer }
+
+-- The Rust's packets, one behind the other.
+abbrev pub vecs : List GeneratedPacket → List ℕ
+vecs [] = []
+vecs (p ∷ packets) = p .tpdu ++ vecs packets
+
+-- Likewise of the Rust's packets: end to end at the front of the lent buffer. The engine's next sequence is the Rust's, after an error too.
+abbrev pub packetsInBuffer : Result (List GeneratedPacket) → ℕ → List ℕ → Generating
+packetsInBuffer (Ok packets) next buffer = record { outcome = gives (length (vecs packets)); next = next; buffer = vecs packets ++ drop (length (vecs packets)) buffer }
+packetsInBuffer (Err error) next buffer = record { outcome = refused (errorNumber error); next = next; buffer = buffer }

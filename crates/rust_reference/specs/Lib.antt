@@ -4,5 +4,6 @@ pub mod Values
 pub mod Number
 pub mod Gtpu
 pub mod Measurement
+pub mod Traffic
 pub mod Answers
 pub mod Claims
