@@ -6,6 +6,7 @@ use Rattle.rust_reference.proofs.Decoding.{decoded}
 use Rattle.rust_reference.proofs.Echoing.{echoed}
 use Rattle.rust_reference.proofs.Elements.{validate}
 use Rattle.rust_reference.proofs.Generating.{interval-ns, generated}
+use Rattle.rust_reference.proofs.Observing.{new-same, sending-same, received-same, message-same}
 
 pub equals-the-rust : EqualsTheRust
 equals-the-rust = record {
@@ -15,4 +16,8 @@ equals-the-rust = record {
   «validate_error_indication_ies» = validate;
   «interval_ns» = interval-ns;
   generate = generated;
+  new = new-same;
+  «record_sent» = sending-same;
+  «record_received_tpdu» = received-same;
+  «record_return_gtpu_datagram» = message-same;
 }

@@ -6,4 +6,6 @@ pub mod Building
 pub mod Decoding
 pub mod Echoing
 pub mod Generating
+pub mod Maps
+pub mod Observing
 pub mod Claims

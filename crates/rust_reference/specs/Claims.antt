@@ -1,12 +1,12 @@
 -- Demand 2: "where no refusal marked added is due, the results equal the Rust's". For each ported function of the Rust, by its name, what it
 -- comes to, its errors as numbers, beside document 01's definition, which is the one on the contract of the call. proofs/ proves each claim.
 -- Assumes nothing.
-use Prim.Native.Nat.{ℕ}
+use Prim.Native.Nat.{ℕ, _≤_}
 use mathlib.Core.Path.{_≡_}
 use mathlib.Core.List.{List}
 use mathlib.Core.Logic.{_⊎_}
 use Rattle.error.specs.Number.{outputTooShort, tooManyPackets, malformedObserver, observerFull}
-use Rattle.error.specs.Outcome.{Outcome, refused}
+use Rattle.error.specs.Outcome.{Outcome, refused, gives}
 use Rattle.gtpu.specs.Element.{elementsOf}
 use Rattle.field.specs.Field.{Bytes}
 use Rattle.measurement.specs.Packet.{buildOf}
@@ -18,6 +18,14 @@ use Rattle.measurement.specs.declared.InnerIpFlow.{InnerIpFlow}
 use Rattle.traffic.specs.Plan.{intervalOf}
 use Rattle.traffic.specs.Generate.{generateOf}
 use Rattle.traffic.specs.declared.TrafficPlan.{TrafficPlan}
+use Rattle.observer.specs.Answer.{observerOf}
+use Rattle.observer.specs.Counts.{fresh}
+use Rattle.observer.specs.Observer.{Observer}
+use Rattle.observer.specs.Sending.{recordSent}
+use Rattle.continuity.specs.Returns.{recordReceivedTpdu, recordReturnMessage}
+use Rattle.continuity.specs.declared.GtpuReturnDatagramOutcome.{GtpuReturnDatagramOutcome}
+use Rattle.rust_reference.specs.Values.{«u64_max»}
+use Rattle.rust_reference.specs.Sheet.{Same}
 use Rattle.rust_reference.specs.Number.{outcomeBy, outcomeOf}
 use Rattle.rust_reference.specs.Answers.{rustFlow, tpduOf, inBuffer, packetsInBuffer}
 use Rattle.rust_reference.specs.Gtpu as gtpu
@@ -67,6 +75,29 @@ Generate = (flow : InnerIpFlow) (plan : TrafficPlan) (next : ℕ) → InRange fl
     → let rust : traffic.Generated = traffic.generate next (rustFlow flow) plan in
     packetsInBuffer (rust .result) (rust .«next_sequence») buffer ≡ generateOf flow plan next buffer
 
+-- The observer. `Same` relates the Rust's maps and the sheet; a fresh sheet of any columns is the Rust's new observer, and each call on
+-- related ones has the same answer and leaves related ones.
+abbrev pub New : Type 0
+New = (qs ts ls ms : List ℕ) → Same traffic.new (observerOf qs ts ls ms fresh)
+
+-- The Rust's `record_sent` answers nothing.
+abbrev pub RecordSent : Type 0
+RecordSent = (rust : traffic.ContinuityObserver) (o : Observer) → Same rust o → (sequence time : ℕ)
+    → NoneAdded (recordSent o sequence time .outcome)
+    → (gives tt ≡ recordSent o sequence time .outcome) × Same (traffic.«record_sent» rust sequence time) (recordSent o sequence time .observer)
+
+-- Neither return call has an added refusal: 21 is not due on a related sheet.
+abbrev pub RecordReceivedTpdu : Type 0
+RecordReceivedTpdu = (rust : traffic.ContinuityObserver) (o : Observer) → Same rust o → (time : ℕ) → time ≤ «u64_max» → (tpdu : List ℕ) → Bytes tpdu
+    → let after : traffic.Recorded (Unit {0}) = traffic.«record_received_tpdu» rust time tpdu in
+    (outcomeOf (after .result) ≡ recordReceivedTpdu o time tpdu .outcome) × Same (after .observer) (recordReceivedTpdu o time tpdu .observer)
+
+abbrev pub RecordReturnGtpuDatagram : Type 0
+RecordReturnGtpuDatagram = (rust : traffic.ContinuityObserver) (o : Observer) → Same rust o → (time : ℕ) → time ≤ «u64_max»
+    → (messageType : ℕ) (payload : List ℕ) → Bytes payload
+    → let after : traffic.Recorded GtpuReturnDatagramOutcome = traffic.«record_return_gtpu_datagram» rust time messageType payload in
+    (outcomeOf (after .result) ≡ recordReturnMessage o time messageType payload .outcome) × Same (after .observer) (recordReturnMessage o time messageType payload .observer)
+
 -- All of it, by the Rust's names.
 pub record EqualsTheRust : Type 0 where
   pub «build_measurement_tpdu» : BuildMeasurementTpdu
@@ -75,3 +106,7 @@ pub record EqualsTheRust : Type 0 where
   pub «validate_error_indication_ies» : ValidateErrorIndicationIes
   pub «interval_ns» : IntervalNs
   pub generate : Generate
+  pub new : New
+  pub «record_sent» : RecordSent
+  pub «record_received_tpdu» : RecordReceivedTpdu
+  pub «record_return_gtpu_datagram» : RecordReturnGtpuDatagram

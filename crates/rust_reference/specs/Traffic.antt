@@ -1,14 +1,23 @@
--- The Rust's traffic.rs: plans and the generator, lines 18 to 115.
+-- The Rust's traffic.rs: plans and the generator, lines 18 to 115; the observer, lines 141 to 232; its report, lines 235 to 332.
 -- Assumes nothing.
-use Prim.Native.Nat.{ℕ, zero, suc, _+_, _*_, _/_}
+use Prim.Native.Nat.{ℕ, zero, suc, _+_, _-_, _*_, _/_, _%_, min, max}
 use mathlib.Core.List.{List, [], _∷_, _++_}
-use mathlib.Core.Bool.{true, false}
-use lib.Dec.{eqb, leb}
+use mathlib.Core.Bool.{Bool, true, false, _||_, _&&_}
+use lib.Dec.{eqb, leb, ltb}
+use lib.ListN.{length}
+use Rattle.evidence.specs.declared.LatencySummary.{LatencySummary}
+use Rattle.evidence.specs.declared.PacketContinuityBudget.{PacketContinuityBudget}
+use Rattle.continuity.specs.declared.GtpuReturnDatagramOutcome.{GtpuReturnDatagramOutcome}
+use Rattle.continuity.specs.declared.GtpuReturnDatagramOutcome.the-variants.{MeasurementTpdu, ErrorIndication, EchoResponse, Ignored}
 use Rattle.traffic.specs.declared.TrafficPlan.{TrafficPlan}
 use Rattle.rust_reference.specs.Error as error
-use Rattle.rust_reference.specs.Error.{DataplaneTestkitError, Result, Ok, Err, InvalidPacket, Overflow, returnIf, _>>_}
-use Rattle.rust_reference.specs.Values.{«u64_max»}
-use Rattle.rust_reference.specs.Measurement.{InnerIpFlow, «build_measurement_tpdu»}
+use Rattle.rust_reference.specs.Error.{DataplaneTestkitError, Result, Ok, Err, InvalidPacket, Overflow, TimestampReversed, returnIf, _>>_}
+use Rattle.rust_reference.specs.Values.{«u64_max», «saturating_add»}
+use Rattle.rust_reference.specs.Map.{Option, None, Some, «is_some_and», «map_or», Entry, get, «contains_key», insert, keys, values, contains}
+use Rattle.rust_reference.specs.Measurement.{InnerIpFlow, «build_measurement_tpdu», «decode_measurement_tpdu»}
+use Rattle.rust_reference.specs.Gtpu.{«validate_error_indication_ies»}
+
+-- ---- the generator
 
 -- lines 18 to 25, `TrafficPlan`: the port's struct has the same three fields. Lines 29 to 42:
 unfoldable pub «interval_ns» : TrafficPlan → Result ℕ
@@ -56,3 +65,120 @@ unfoldable pub generate : ℕ → InnerIpFlow → TrafficPlan → Generated
 generate next-sequence flow plan =
     attempted («interval_ns» plan) next-sequence λ interval-ns.
     «for_offset» (plan .«packet_count») 0 flow plan interval-ns next-sequence []
+
+-- ---- the observer
+
+-- lines 140 to 147. A `ReceivedPacket` (lines 118 to 120) is its latency.
+pub record ContinuityObserver : Type 0 where
+  pub sent : List Entry
+  pub received : List Entry
+  pub «duplicate_packets» : ℕ
+  pub «out_of_order_packets» : ℕ
+  pub «gtpu_error_indications» : ℕ
+  pub «highest_received_sequence» : Option ℕ
+
+-- lines 152 to 161
+abbrev pub new : ContinuityObserver
+new = record {
+  sent = [];
+  received = [];
+  «duplicate_packets» = 0;
+  «out_of_order_packets» = 0;
+  «gtpu_error_indications» = 0;
+  «highest_received_sequence» = None;
+}
+
+-- What a call answers, and the observer as it leaves it.
+pub record Recorded (A : Type 0) : Type 0 where
+  pub result : Result A
+  pub observer : ContinuityObserver
+
+-- `let x = attempt?;`, as above, with an observer
+abbrev pub tried : {A B : Type 0} → Result A → ContinuityObserver → (A → Recorded B) → Recorded B
+tried (Ok x) o rest = rest x
+tried (Err e) o rest = record { result = Err e; observer = o }
+
+abbrev pub «ok_or» : {A : Type 0} → Option A → DataplaneTestkitError → Result A
+«ok_or» None e = Err e
+«ok_or» (Some x) e = Ok x
+
+-- `u64::checked_sub`
+unfoldable pub «checked_sub» : ℕ → ℕ → Option ℕ
+«checked_sub» a b = elim (ltb a b) [ true ↦ None | false ↦ Some (a - b) ]
+
+-- lines 164 to 166, of a packet's sequence and time
+unfoldable pub «record_sent» : ContinuityObserver → ℕ → ℕ → ContinuityObserver
+«record_sent» o sequence send-timestamp-ns = record {
+  sent = insert sequence send-timestamp-ns (o .sent);
+  received = o .received;
+  «duplicate_packets» = o .«duplicate_packets»;
+  «out_of_order_packets» = o .«out_of_order_packets»;
+  «gtpu_error_indications» = o .«gtpu_error_indications»;
+  «highest_received_sequence» = o .«highest_received_sequence»;
+}
+
+-- line 186
+unfoldable pub duplicate : ContinuityObserver → ContinuityObserver
+duplicate o = record {
+  sent = o .sent;
+  received = o .received;
+  «duplicate_packets» = «saturating_add» (o .«duplicate_packets») 1;
+  «out_of_order_packets» = o .«out_of_order_packets»;
+  «gtpu_error_indications» = o .«gtpu_error_indications»;
+  «highest_received_sequence» = o .«highest_received_sequence»;
+}
+
+-- lines 190 to 201
+unfoldable pub «first_return» : ContinuityObserver → ℕ → ℕ → ContinuityObserver
+«first_return» o sequence latency-ns = record {
+  sent = o .sent;
+  received = insert sequence latency-ns (o .received);
+  «duplicate_packets» = o .«duplicate_packets»;
+  «out_of_order_packets» = elim («is_some_and» (o .«highest_received_sequence») (λ highest. ltb sequence highest)) [
+    | true ↦ «saturating_add» (o .«out_of_order_packets») 1
+    | false ↦ o .«out_of_order_packets»
+  ];
+  «gtpu_error_indications» = o .«gtpu_error_indications»;
+  «highest_received_sequence» = Some («map_or» (o .«highest_received_sequence») sequence (λ highest. max highest sequence));
+}
+
+-- lines 169 to 203
+unfoldable pub «record_received_tpdu» : ContinuityObserver → ℕ → List ℕ → Recorded (Unit {0})
+«record_received_tpdu» o return-timestamp-ns tpdu =
+    tried («decode_measurement_tpdu» tpdu) o λ decoded.
+    tried («ok_or» (get (decoded .measurement .sequence) (o .sent)) (InvalidPacket error.received-sequence-was-not-sent)) o λ send-timestamp-ns.
+    tried («ok_or» («checked_sub» return-timestamp-ns send-timestamp-ns) TimestampReversed) o λ latency-ns.
+    elim («contains_key» (decoded .measurement .sequence) (o .received)) [
+      | true ↦ record { result = Ok tt; observer = duplicate o }
+      | false ↦ record { result = Ok tt; observer = «first_return» o (decoded .measurement .sequence) latency-ns }
+    ]
+
+-- line 219
+unfoldable pub «error_indication» : ContinuityObserver → ContinuityObserver
+«error_indication» o = record {
+  sent = o .sent;
+  received = o .received;
+  «duplicate_packets» = o .«duplicate_packets»;
+  «out_of_order_packets» = o .«out_of_order_packets»;
+  «gtpu_error_indications» = «saturating_add» (o .«gtpu_error_indications») 1;
+  «highest_received_sequence» = o .«highest_received_sequence»;
+}
+
+-- lines 212 to 231, behind `decode_gtpu`: the match on the type of the message, with the numbers of gtpu.rs, lines 15 to 26
+unfoldable pub «record_return_gtpu_datagram» : ContinuityObserver → ℕ → ℕ → List ℕ → Recorded GtpuReturnDatagramOutcome
+«record_return_gtpu_datagram» o return-timestamp-ns message-type payload =
+    elim (eqb message-type 255) [
+      | true ↦
+          let recorded : Recorded (Unit {0}) = «record_received_tpdu» o return-timestamp-ns payload in
+          tried (recorded .result) (recorded .observer) λ u. record { result = Ok MeasurementTpdu; observer = recorded .observer }
+      | false ↦ elim (eqb message-type 26) [
+        | true ↦ tried («validate_error_indication_ies» payload) o λ u. record { result = Ok ErrorIndication; observer = «error_indication» o }
+        | false ↦ elim (eqb message-type 2) [
+          | true ↦ record { result = Ok EchoResponse; observer = o }
+          | false ↦ elim (eqb message-type 254 || eqb message-type 31) [
+            | true ↦ record { result = Ok (Ignored message-type); observer = o }
+            | false ↦ record { result = Err (InvalidPacket error.unsupported-GTP-U-return-message-type); observer = o }
+          ]
+        ]
+      ]
+    ]
