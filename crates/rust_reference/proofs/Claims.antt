@@ -7,6 +7,8 @@ use Rattle.rust_reference.proofs.Echoing.{echoed}
 use Rattle.rust_reference.proofs.Elements.{validate}
 use Rattle.rust_reference.proofs.Generating.{interval-ns, generated}
 use Rattle.rust_reference.proofs.Observing.{new-same, sending-same, received-same, message-same}
+use Rattle.rust_reference.proofs.Reporting.{report-same}
+use Rattle.rust_reference.proofs.Running.{runs-same}
 
 pub equals-the-rust : EqualsTheRust
 equals-the-rust = record {
@@ -20,4 +22,6 @@ equals-the-rust = record {
   «record_sent» = sending-same;
   «record_received_tpdu» = received-same;
   «record_return_gtpu_datagram» = message-same;
+  report = report-same;
+  runs = runs-same;
 }

@@ -8,4 +8,6 @@ pub mod Echoing
 pub mod Generating
 pub mod Maps
 pub mod Observing
+pub mod Reporting
+pub mod Running
 pub mod Claims

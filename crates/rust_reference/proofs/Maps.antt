@@ -42,7 +42,7 @@ above-lower : (p q : ℕ) (rs : List Row) → p ≤ q → Above q rs → Above p
 above-lower p q [] h a = tt
 above-lower p q (r ∷ rs) h a = (omega (arith, a .0), above-lower p q rs h (a .1))
 
-rising-above : (x : ℕ) (rs : List Row) → rising (x ∷ sequencesOf rs) ≡ true → Above x rs
+pub rising-above : (x : ℕ) (rs : List Row) → rising (x ∷ sequencesOf rs) ≡ true → Above x rs
 rising-above x [] e = tt
 rising-above x (r ∷ rs) e =
     let h : x < r .sequence = ltb-true x (r .sequence) (both-left (ltb x (r .sequence)) (rising (r .sequence ∷ sequencesOf rs)) e) in

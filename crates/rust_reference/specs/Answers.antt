@@ -1,4 +1,5 @@
--- The Rust's values as the port has them ("What must change shape", document 01): flows and T-PDUs; `Vec`s in a lent buffer.
+-- The Rust's values as the port has them ("What must change shape", document 01): flows and T-PDUs; `Vec`s in a lent buffer;
+-- the report.
 -- Assumes nothing.
 use Prim.Native.Nat.{ℕ}
 use mathlib.Core.List.{List, [], _∷_, _++_}
@@ -10,8 +11,14 @@ use Rattle.measurement.specs.declared.DecodedTpdu.{DecodedTpdu}
 use Rattle.measurement.specs.declared.InnerIpFlow.{InnerIpFlow}
 use Rattle.measurement.specs.declared.IpVersion.{IpVersion}
 use Rattle.measurement.specs.declared.IpVersion.the-variants.{V4, V6}
+use Rattle.evidence.specs.declared.Latency.{Latency}
+use Rattle.evidence.specs.declared.Latency.the-variants.{Absent, Summary}
+use Rattle.evidence.specs.declared.LatencySummary.{LatencySummary}
+use Rattle.evidence.specs.declared.PacketContinuityReport.{PacketContinuityReport}
 use Rattle.rust_reference.specs.Error.{Result, Ok, Err}
 use Rattle.rust_reference.specs.Number.{errorNumber}
+use Rattle.rust_reference.specs.Evidence as evidence
+use Rattle.rust_reference.specs.Map.{Option, None, Some}
 use Rattle.rust_reference.specs.Measurement as rust
 use Rattle.rust_reference.specs.Traffic.{GeneratedPacket}
 use Rattle.traffic.specs.Generate.{Generating}
@@ -46,3 +53,26 @@ vecs (p ∷ packets) = p .tpdu ++ vecs packets
 abbrev pub packetsInBuffer : Result (List GeneratedPacket) → ℕ → List ℕ → Generating
 packetsInBuffer (Ok packets) next buffer = record { outcome = gives (length (vecs packets)); next = next; buffer = vecs packets ++ drop (length (vecs packets)) buffer }
 packetsInBuffer (Err error) next buffer = record { outcome = refused (errorNumber error); next = next; buffer = buffer }
+
+-- The Rust's report as the port's: `Option` is an enum there ("`Option` becomes an enum").
+abbrev pub latencyOf : Option LatencySummary → Latency
+latencyOf None = Absent
+latencyOf (Some summary) = Summary summary
+
+abbrev pub reportOf : evidence.PacketContinuityReport → PacketContinuityReport
+reportOf rust = record {
+  «window_start_ns» = rust .«window_start_ns»;
+  «window_end_ns» = rust .«window_end_ns»;
+  «sent_packets» = rust .«sent_packets»;
+  «received_packets» = rust .«received_packets»;
+  «lost_packets» = rust .«lost_packets»;
+  «duplicate_packets» = rust .«duplicate_packets»;
+  «out_of_order_packets» = rust .«out_of_order_packets»;
+  «gtpu_error_indications» = rust .«gtpu_error_indications»;
+  «max_consecutive_lost_packets» = rust .«max_consecutive_lost_packets»;
+  «max_gap_duration_ns» = rust .«max_gap_duration_ns»;
+  latency = latencyOf (rust .latency);
+  budget = rust .budget;
+  «forwarding_proven» = rust .«forwarding_proven»;
+  «packet_continuity_proven» = rust .«packet_continuity_proven»;
+}

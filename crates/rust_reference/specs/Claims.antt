@@ -3,7 +3,7 @@
 -- Assumes nothing.
 use Prim.Native.Nat.{ℕ, _≤_}
 use mathlib.Core.Path.{_≡_}
-use mathlib.Core.List.{List}
+use mathlib.Core.List.{List, [], _∷_}
 use mathlib.Core.Logic.{_⊎_}
 use Rattle.error.specs.Number.{outputTooShort, tooManyPackets, malformedObserver, observerFull}
 use Rattle.error.specs.Outcome.{Outcome, refused, gives}
@@ -24,10 +24,13 @@ use Rattle.observer.specs.Observer.{Observer}
 use Rattle.observer.specs.Sending.{recordSent}
 use Rattle.continuity.specs.Returns.{recordReceivedTpdu, recordReturnMessage}
 use Rattle.continuity.specs.declared.GtpuReturnDatagramOutcome.{GtpuReturnDatagramOutcome}
+use Rattle.report.specs.Report.{reporting}
+use Rattle.evidence.specs.declared.PacketContinuityBudget.{PacketContinuityBudget}
 use Rattle.rust_reference.specs.Values.{«u64_max»}
 use Rattle.rust_reference.specs.Sheet.{Same}
+use Rattle.rust_reference.specs.Runs.{Call, Typed, answerTo, afterCall, answersTo, rustAnswersTo}
 use Rattle.rust_reference.specs.Number.{outcomeBy, outcomeOf}
-use Rattle.rust_reference.specs.Answers.{rustFlow, tpduOf, inBuffer, packetsInBuffer}
+use Rattle.rust_reference.specs.Answers.{rustFlow, tpduOf, inBuffer, packetsInBuffer, reportOf}
 use Rattle.rust_reference.specs.Gtpu as gtpu
 use Rattle.rust_reference.specs.Measurement as measurement
 use Rattle.rust_reference.specs.Traffic as traffic
@@ -98,6 +101,28 @@ RecordReturnGtpuDatagram = (rust : traffic.ContinuityObserver) (o : Observer) �
     → let after : traffic.Recorded GtpuReturnDatagramOutcome = traffic.«record_return_gtpu_datagram» rust time messageType payload in
     (outcomeOf (after .result) ≡ recordReturnMessage o time messageType payload .outcome) × Same (after .observer) (recordReturnMessage o time messageType payload .observer)
 
+-- Every window and budget.
+abbrev pub Report : Type 0
+Report = (rust : traffic.ContinuityObserver) (o : Observer) → Same rust o → (windowStart windowEnd : ℕ) (budget : PacketContinuityBudget)
+    → gives (reportOf (traffic.report rust windowStart windowEnd budget)) ≡ reporting o windowStart windowEnd budget
+
+-- ---- whole runs
+
+abbrev pub AllTyped : List Call → Type 0
+AllTyped [] = Unit {0}
+AllTyped (call ∷ calls) = Typed call × AllTyped calls
+
+-- No refusal marked added is due at any call of the list.
+abbrev pub NoneAddedIn : Observer → List Call → Type 0
+NoneAddedIn o [] = Unit {0}
+NoneAddedIn o (call ∷ calls) = NoneAdded (answerTo o call) × NoneAddedIn (afterCall o call) calls
+
+-- Every list of calls on a fresh sheet of any columns, up to 2,048 sequences (a sheet of 2,048 rows says 22 no sooner): every answer, each
+-- report on the way among them, is the Rust's.
+abbrev pub Runs : Type 0
+Runs = (qs ts ls ms : List ℕ) (calls : List Call) → AllTyped calls → NoneAddedIn (observerOf qs ts ls ms fresh) calls
+    → rustAnswersTo traffic.new calls ≡ answersTo (observerOf qs ts ls ms fresh) calls
+
 -- All of it, by the Rust's names.
 pub record EqualsTheRust : Type 0 where
   pub «build_measurement_tpdu» : BuildMeasurementTpdu
@@ -110,3 +135,5 @@ pub record EqualsTheRust : Type 0 where
   pub «record_sent» : RecordSent
   pub «record_received_tpdu» : RecordReceivedTpdu
   pub «record_return_gtpu_datagram» : RecordReturnGtpuDatagram
+  pub report : Report
+  pub runs : Runs

@@ -5,7 +5,9 @@ pub mod Map
 pub mod Number
 pub mod Gtpu
 pub mod Measurement
+pub mod Evidence
 pub mod Traffic
 pub mod Sheet
 pub mod Answers
+pub mod Runs
 pub mod Claims

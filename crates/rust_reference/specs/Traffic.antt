@@ -12,7 +12,8 @@ use Rattle.continuity.specs.declared.GtpuReturnDatagramOutcome.the-variants.{Me
 use Rattle.traffic.specs.declared.TrafficPlan.{TrafficPlan}
 use Rattle.rust_reference.specs.Error as error
 use Rattle.rust_reference.specs.Error.{DataplaneTestkitError, Result, Ok, Err, InvalidPacket, Overflow, TimestampReversed, returnIf, _>>_}
-use Rattle.rust_reference.specs.Values.{«u64_max», «saturating_add»}
+use Rattle.rust_reference.specs.Values.{«u64_max», «saturating_add», «saturating_add_u128»}
+use Rattle.rust_reference.specs.Evidence.{PacketContinuityReport}
 use Rattle.rust_reference.specs.Map.{Option, None, Some, «is_some_and», «map_or», Entry, get, «contains_key», insert, keys, values, contains}
 use Rattle.rust_reference.specs.Measurement.{InnerIpFlow, «build_measurement_tpdu», «decode_measurement_tpdu»}
 use Rattle.rust_reference.specs.Gtpu.{«validate_error_indication_ies»}
@@ -182,3 +183,72 @@ unfoldable pub «record_return_gtpu_datagram» : ContinuityObserver → ℕ → 
         ]
       ]
     ]
+
+-- ---- the report
+
+-- lines 284 to 295: `for latency in values`, with what the loop carries
+unfoldable pub «for_latency» : List ℕ → ℕ → ℕ → ℕ → ℕ → LatencySummary
+«for_latency» [] min-ns max-ns sum count = record { «min_ns» = min-ns; «max_ns» = max-ns; «avg_ns» = sum / count % 18446744073709551616 }
+«for_latency» (latency ∷ latencies) min-ns max-ns sum count =
+    «for_latency» latencies (min min-ns latency) (max max-ns latency) («saturating_add_u128» sum latency) («saturating_add_u128» count 1)
+
+-- lines 272 to 296
+unfoldable pub «latency_summary» : List ℕ → Option LatencySummary
+«latency_summary» [] = None
+«latency_summary» (latency ∷ latencies) = Some («for_latency» (latency ∷ latencies) «u64_max» 0 0 0)
+
+-- the pair that `gap_summary` answers
+pub record GapSummary : Type 0 where
+  pub max-count : ℕ
+  pub max-duration : ℕ
+
+-- lines 308 to 331: `for (sequence, send_ts) in &self.sent`, with what the loop carries, and what follows it
+unfoldable pub «for_sent» : List Entry → List ℕ → ℕ → ℕ → ℕ → ℕ → ℕ → GapSummary
+«for_sent» [] received window-end-ns current-count current-start-ts max-count max-duration =
+    elim (ltb 0 current-count) [
+      | true ↦ record { max-count = max max-count current-count; max-duration = max max-duration (window-end-ns - current-start-ts) }
+      | false ↦ record { max-count = max-count; max-duration = max-duration }
+    ]
+«for_sent» (e ∷ sent) received window-end-ns current-count current-start-ts max-count max-duration =
+    elim (contains (e .key) received) [
+      | true ↦
+          elim (ltb 0 current-count) [
+            | true ↦ «for_sent» sent received window-end-ns 0 current-start-ts (max max-count current-count) (max max-duration (e .value - current-start-ts))
+            | false ↦ «for_sent» sent received window-end-ns current-count current-start-ts max-count max-duration
+          ]
+      | false ↦
+          «for_sent» sent received window-end-ns («saturating_add» current-count 1)
+          (elim (eqb current-count 0) [ true ↦ e .value | false ↦ current-start-ts ]) max-count max-duration
+    ]
+
+-- lines 298 to 332. (Of an empty map the Rust answers (0, 0) before the loop, which does so too.)
+unfoldable pub «gap_summary» : ContinuityObserver → ℕ → GapSummary
+«gap_summary» o window-end-ns = «for_sent» (o .sent) (keys (o .received)) window-end-ns 0 0 0 0
+
+-- lines 235 to 270
+unfoldable pub report : ContinuityObserver → ℕ → ℕ → PacketContinuityBudget → PacketContinuityReport
+report o window-start-ns window-end-ns budget =
+    let sent-packets : ℕ = length (o .sent) in
+    let received-packets : ℕ = length (o .received) in
+    let lost-packets : ℕ = sent-packets - received-packets in
+    let gap : GapSummary = «gap_summary» o window-end-ns in
+    record {
+      «window_start_ns» = window-start-ns;
+      «window_end_ns» = window-end-ns;
+      «sent_packets» = sent-packets;
+      «received_packets» = received-packets;
+      «lost_packets» = lost-packets;
+      «duplicate_packets» = o .«duplicate_packets»;
+      «out_of_order_packets» = o .«out_of_order_packets»;
+      «gtpu_error_indications» = o .«gtpu_error_indications»;
+      «max_consecutive_lost_packets» = gap .max-count;
+      «max_gap_duration_ns» = gap .max-duration;
+      latency = «latency_summary» (values (o .received));
+      budget = budget;
+      «forwarding_proven» = ltb 0 received-packets;
+      «packet_continuity_proven» =
+          leb lost-packets (budget .«max_lost_packets»)
+          && (leb (gap .max-count) (budget .«max_consecutive_lost_packets»)
+          && (leb (gap .max-duration) (budget .«outage_budget_ns»)
+          && eqb (o .«gtpu_error_indications») 0));
+    }

@@ -39,3 +39,7 @@ abbrev pub «u64_max» : ℕ
 
 unfoldable pub «saturating_add» : ℕ → ℕ → ℕ
 «saturating_add» a b = min (a + b) «u64_max»
+
+-- `u128::saturating_add`
+unfoldable pub «saturating_add_u128» : ℕ → ℕ → ℕ
+«saturating_add_u128» a b = min (a + b) 340282366920938463463374607431768211455
