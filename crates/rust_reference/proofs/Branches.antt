@@ -2,7 +2,7 @@
 -- Assumes nothing.
 use mathlib.Core.Path.{_≡_, refl}
 use mathlib.Core.Bool.{Bool, true, false}
-use mathlib.Core.List.{List, [], _∷_, _++_}
+use mathlib.Core.List.{List, _∷_}
 use Rattle.error.specs.Outcome.{Outcome, refused, Cause, _⇒_, firstCause}
 use Rattle.rust_reference.specs.Error.{DataplaneTestkitError, Result, Ok, Err, returnIf, _>>_}
 use Rattle.rust_reference.specs.Number.{errorNumber, outcomeBy}
@@ -21,13 +21,6 @@ pub row : {A B : Type 0} (value : A → B) (test : Bool) {c : Bool} (error : Dat
 unfolding firstCause
 row value test {c = true} error rest rows onward e g = rw e
 row value test {c = false} error rest rows onward e g = rw e (g refl)
-
--- two lists of rows, one after the other
-pub rows-append : {A : Type 0} (first second : List Cause) (onward : Outcome A) → firstCause first (firstCause second onward) ≡ firstCause (first ++ second) onward
-unfolding firstCause
-rows-append [] second onward = refl
-rows-append ((true ⇒ n) ∷ rows) second onward = refl
-rows-append ((false ⇒ n) ∷ rows) second onward = rows-append rows second onward
 
 -- what holds of a value, if there is one
 pub data AllOk {A : Type 0} (P : A → Type 0) : Result A → Type 0 where

@@ -8,7 +8,7 @@ use Rattle.rust_reference.proofs.Elements.{validate}
 use Rattle.rust_reference.proofs.Generating.{interval-ns, generated}
 use Rattle.rust_reference.proofs.Observing.{new-same, sending-same, received-same, message-same}
 use Rattle.rust_reference.proofs.Reporting.{report-same}
-use Rattle.rust_reference.proofs.Running.{runs-same}
+use Rattle.rust_reference.proofs.Running.{runs-same, runs-of-2048}
 
 pub equals-the-rust : EqualsTheRust
 equals-the-rust = record {
@@ -24,4 +24,5 @@ equals-the-rust = record {
   «record_return_gtpu_datagram» = message-same;
   report = report-same;
   runs = runs-same;
+  runs-up-to-2048 = runs-of-2048;
 }

@@ -7,7 +7,7 @@ use mathlib.Core.Logic.{inl, inr}
 use mathlib.Core.List.{List, [], _∷_, _++_}
 use mathlib.Core.Bool.{Bool, true, false, _||_}
 use lib.Dec.{eqb, ltb}
-use lib.ListN.{length, set, take, drop}
+use lib.ListN.{length, set, take, drop, length-append}
 use borrow.Author.Tests.{ltb-true, ltb-false, eqb-true, eqb-false, lt-ltb, le-ltb}
 use Rattle.error.specs.Outcome.{Outcome, refused, gives}
 use Rattle.error.proofs.Tests.{true-not-false}
@@ -26,7 +26,8 @@ use Rattle.observer.specs.Returning.{returned, recordReturn, recordErrorIndicat
 use Rattle.observer.proofs.Calls.{sent-again, sent-full, sent-new, return-refused, return-unknown, return-early, return-duplicate, return-first, indication-refused, indication-counted, judged-well}
 use Rattle.observer.proofs.Claims.{fresh-is-well, calls-keep-well}
 use Rattle.observer.proofs.Keeping.{well-rows}
-use Rattle.observer.proofs.Rows.{rows-with}
+use Rattle.observer.proofs.Rows.{rows-with, capacity-with}
+use Rattle.observer.proofs.Judging.{well}
 use Rattle.continuity.specs.Returns.{sequenceRead, recordReceivedTpdu, MessageStep, asMessage, unchanged, recordReturnMessage}
 use Rattle.continuity.specs.declared.GtpuReturnDatagramOutcome.{GtpuReturnDatagramOutcome}
 use Rattle.continuity.specs.declared.GtpuReturnDatagramOutcome.the-variants.{MeasurementTpdu, ErrorIndication, EchoResponse, Ignored}
@@ -64,10 +65,11 @@ new-same qs ts ls ms = record {
 
 module _ (rust : ContinuityObserver) (o : Observer) (same : Same rust o) (q t : ℕ) where
   -- the rows X are put back, and hold what the map then holds
-  sent-with : (X : List Row) → step o (gives (withRows X o)) ≡ recordSent o q t → insert q t (sentOf (rows o)) ≡ sentOf X → receivedOf X ≡ receivedOf (rows o)
-      → (gives tt ≡ recordSent o q t .outcome) × Same («record_sent» rust q t) (recordSent o q t .observer)
+  sent-with : (X : List Row) → length X ≤ capacity o → step o (gives (withRows X o)) ≡ recordSent o q t → insert q t (sentOf (rows o)) ≡ sentOf X
+      → receivedOf X ≡ receivedOf (rows o)
+      → (gives tt ≡ recordSent o q t .outcome) × Same («record_sent» rust q t) (recordSent o q t .observer) × (capacity (recordSent o q t .observer) ≡ capacity o)
   unfolding «record_sent» withRows
-  sent-with X e s r = (
+  sent-with X room e s r = (
     ap (λ (x : Step). x .outcome) e,
     subst (λ (x : Step). Same («record_sent» rust q t) (x .observer)) e (record {
       well = ap (λ (x : Step). wellFormed (x .observer)) e ∙ calls-keep-well o (sending q t ∷ []) (same .well);
@@ -79,38 +81,50 @@ module _ (rust : ContinuityObserver) (o : Observer) (same : Same rust o) (q t : 
       out-of-order = same .out-of-order;
       indications = same .indications;
     }),
+    ap (λ (x : Step). capacity (x .observer)) (sym e) ∙ capacity-with X o room,
   )
 
-  sending-located : NoneAdded (recordSent o q t .outcome) → Located q (rows o)
-      → (gives tt ≡ recordSent o q t .outcome) × Same («record_sent» rust q t) (recordSent o q t .observer)
-  sending-located added (found before r after e b s a p w) =
+  used-fits : length (rows o) ≤ capacity o
+  used-fits = let w = well o (same .well) in omega (arith, w .fronts .count, w .fits)
+
+  sending-located : (wasSent q (rows o) ≡ false → o .counts .used ≡ capacity o → ⊥) → Located q (rows o)
+      → (gives tt ≡ recordSent o q t .outcome) × Same («record_sent» rust q t) (recordSent o q t .observer) × (capacity (recordSent o q t .observer) ≡ capacity o)
+  sending-located free (found before r after e b s a p w) =
       let X = before ++ resent t r ∷ after in
       let put : set (rows o) (placeOf q (rows o)) (resent t (rowOf q (rows o))) ≡ X =
       ap (λ (x : Row). set (rows o) (placeOf q (rows o)) (resent t x)) (row-found q (rows o) before p r after e)
       ∙ set-found q (rows o) before p (resent t r) r after e in
-      sent-with X (ap (λ (l : List Row). step o (gives (withRows l o))) (sym put) ∙ sent-again o (same .well) q t w)
+      sent-with X (omega (arith, ap length e, length-append before (resent t r ∷ after), length-append before (r ∷ after), used-fits))
+      (ap (λ (l : List Row). step o (gives (withRows l o))) (sym put) ∙ sent-again o (same .well) q t w)
       (ap (λ (l : List Row). insert q t (sentOf l)) e ∙ insert-found q before r after b s a t)
       (received-resent q before r after b s a t ∙ ap receivedOf (sym e))
-  sending-located added (absent before after e b a p w) =
+  sending-located free (absent before after e b a p w) =
       let X = before ++ sentRow q t ∷ after in
-      sent-with X
-      (ap (λ (l : List Row). step o (gives (withRows l o))) (sym (put-absent q (rows o) before p (sentRow q t) after e))
-      ∙ sent-new o (same .well) q t w (λ full. added 22 (inr (inr (inr refl))) (ap (λ (x : Step). x .outcome) (sym (sent-full o (same .well) q t w full)))))
+      let wf = well o (same .well) in
+      let kept : o .counts .used ≡ capacity o → ⊥ = free w in
+      sent-with X (omega (arith, ap length e, length-append before (sentRow q t ∷ after), length-append before after, wf .fronts .count, wf .fits))
+      (ap (λ (l : List Row). step o (gives (withRows l o))) (sym (put-absent q (rows o) before p (sentRow q t) after e)) ∙ sent-new o (same .well) q t w kept)
       (ap (λ (l : List Row). insert q t (sentOf l)) e ∙ insert-absent q before after b a t)
       (received-entered q before after b a t ∙ ap receivedOf (sym e))
 
+pub sending-kept : (rust : ContinuityObserver) (o : Observer) → Same rust o → (q t : ℕ) → (wasSent q (rows o) ≡ false → o .counts .used ≡ capacity o → ⊥)
+    → (gives tt ≡ recordSent o q t .outcome) × Same («record_sent» rust q t) (recordSent o q t .observer) × (capacity (recordSent o q t .observer) ≡ capacity o)
+sending-kept rust o same q t free = sending-located rust o same q t free (locate q (rows o) (well-rows o (same .well) .rises))
+
+-- where 22 is not due, a row is free for a new sequence
 pub sending-same : RecordSent
-sending-same rust o same q t added = sending-located rust o same q t added (locate q (rows o) (well-rows o (same .well) .rises))
+sending-same rust o same q t added =
+    let s = sending-kept rust o same q t
+    (λ w full. added 22 (inr (inr (inr refl))) (ap (λ (x : Step). x .outcome) (sym (sent-full o (same .well) q t w full)))) in
+    (s .0, s .1)
 
 -- ---- a return
 
 -- the same answer, and what is left is related
-pub record Agree {A B : Type 0} (value : A → B) (x : Recorded A) (outcome : Outcome B) (o : Observer) : Type 0 where
-  pub answer : outcomeBy value (x .result) ≡ outcome
-  pub same : Same (x .observer) o
-
-abbrev AsStep : Recorded (Unit {0}) → Step → Type 0
-AsStep x s = Agree (λ u. u) x (s .outcome) (s .observer)
+pub record AsStep (o : Observer) (x : Recorded (Unit {0})) (s : Step) : Type 0 where
+  pub answer : outcomeOf (x .result) ≡ s .outcome
+  pub same : Same (x .observer) (s .observer)
+  pub room : capacity (s .observer) ≡ capacity o
 
 -- what the counts keep beside out-of-order returns
 duplicates-kept : (b : Bool) (c : ObserverCounts) → c .«duplicate_packets» ≡ outOfOrderIf b c .«duplicate_packets»
@@ -130,7 +144,7 @@ late-counted false true n c e f = absurd (true-not-false (sym e))
 late-counted false false n c e f = f
 
 -- what a return does once its sequence is read
-abbrev arriving : ContinuityObserver → ℕ → ℕ → Recorded (Unit {0})
+abbrev pub arriving : ContinuityObserver → ℕ → ℕ → Recorded (Unit {0})
 arriving rust t q =
     tried («ok_or» (get q (rust .sent)) (InvalidPacket error.received-sequence-was-not-sent)) rust λ send-timestamp-ns.
     tried («ok_or» («checked_sub» t send-timestamp-ns) TimestampReversed) rust λ latency-ns.
@@ -149,16 +163,20 @@ checked-fits a b h = rw (le-ltb a b h, «checked_sub»)
 
 module _ (rust : ContinuityObserver) (o : Observer) (same : Same rust o) (t : ℕ) (fits : t ≤ «u64_max») (q : ℕ) where
   -- a refusal leaves both
-  refused-as : (e : DataplaneTestkitError) (s : Step) → step o (refused (errorNumber e)) ≡ s → AsStep (record { result = Err e; observer = rust }) s
-  refused-as e s p = record { answer = ap (λ (x : Step). x .outcome) p; same = subst (λ (x : Step). Same rust (x .observer)) p same }
+  refused-as : (e : DataplaneTestkitError) (s : Step) → step o (refused (errorNumber e)) ≡ s → AsStep o (record { result = Err e; observer = rust }) s
+  refused-as e s p = record {
+    answer = ap (λ (x : Step). x .outcome) p;
+    same = subst (λ (x : Step). Same rust (x .observer)) p same;
+    room = ap (λ (x : Step). capacity (x .observer)) (sym p);
+  }
 
   kept-well : wellFormed (recordReturn o t (gives q) .observer) ≡ true
   kept-well = calls-keep-well o (returning t (gives q) ∷ []) (same .well)
 
   -- a duplicate
   duplicate-as : step o (gives (withCounts (oneDuplicate (o .counts)) o)) ≡ recordReturn o t (gives q)
-      → AsStep (record { result = Ok tt; observer = duplicate rust }) (recordReturn o t (gives q))
-  unfolding duplicate «saturating_add» oneMore rows
+      → AsStep o (record { result = Ok tt; observer = duplicate rust }) (recordReturn o t (gives q))
+  unfolding duplicate «saturating_add» oneMore rows capacity
   duplicate-as e = record {
     answer = ap (λ (x : Step). x .outcome) e;
     same = subst (λ (x : Step). Same (duplicate rust) (x .observer)) e (record {
@@ -171,18 +189,19 @@ module _ (rust : ContinuityObserver) (o : Observer) (same : Same rust o) (t : �
       out-of-order = same .out-of-order;
       indications = same .indications;
     });
+    room = ap (λ (x : Step). capacity (x .observer)) (sym e);
   }
 
   abbrev late : Bool
   late = ltb q (highestMarked (rows o))
 
   -- the rows X are put back with the counts
-  first-as : (l : ℕ) (X : List Row) → l ≤ «u64_max»
+  first-as : (l : ℕ) (X : List Row) → l ≤ «u64_max» → length X ≤ capacity o
       → step o (gives (withRows X (withCounts (outOfOrderIf late (o .counts)) o))) ≡ recordReturn o t (gives q)
       → sentOf X ≡ sentOf (rows o) → insert q l (receivedOf (rows o)) ≡ receivedOf X
-      → AsStep (record { result = Ok tt; observer = «first_return» rust q l }) (recordReturn o t (gives q))
-  unfolding «first_return» withRows
-  first-as l X small e s r = record {
+      → AsStep o (record { result = Ok tt; observer = «first_return» rust q l }) (recordReturn o t (gives q))
+  unfolding «first_return» withRows capacity
+  first-as l X small fit e s r = record {
     answer = ap (λ (x : Step). x .outcome) e;
     same = subst (λ (x : Step). Same («first_return» rust q l) (x .observer)) e (record {
       well = ap (λ (x : Step). wellFormed (x .observer)) e ∙ kept-well;
@@ -194,6 +213,7 @@ module _ (rust : ContinuityObserver) (o : Observer) (same : Same rust o) (t : �
       out-of-order = late-counted («is_some_and» (rust .«highest_received_sequence») (λ highest. ltb q highest)) late (rust .«out_of_order_packets») (o .counts) lateness (same .out-of-order);
       indications = same .indications ∙ indications-kept late (o .counts);
     });
+    room = ap (λ (x : Step). capacity (x .observer)) (sym e) ∙ capacity-with X with-counts fit;
   }
     where
       with-counts : Observer
@@ -203,7 +223,7 @@ module _ (rust : ContinuityObserver) (o : Observer) (same : Same rust o) (t : �
       lateness = ap (λ (h : Option ℕ). «is_some_and» h (λ highest. ltb q highest)) (same .highest ∙ ap highestKey (same .received)) ∙ late-is q (rows o)
 
   -- whatever the search finds
-  arrives : Located q (rows o) → AsStep (arriving rust t q) (recordReturn o t (gives q))
+  arrives : Located q (rows o) → AsStep o (arriving rust t q) (recordReturn o t (gives q))
   arrives (absent before after e b a p w) =
       let none-there : get q (rust .sent) ≡ None = ap (get q) (same .sent ∙ ap sentOf e) ∙ get-absent q before after b a in
       rw none-there
@@ -222,20 +242,21 @@ module _ (rust : ContinuityObserver) (o : Observer) (same : Same rust o) (t : �
       put = ap (λ (x : Row). set (rows o) (placeOf q (rows o)) (returned t x)) row-is ∙ set-found q (rows o) before p (returned t r) r after e
 
       judged-by : (again : Bool) → eqb (r .mark) 1 ≡ again → r .sent ≤ t
-          → AsStep (elim again [
+          → AsStep o (elim again [
             | true ↦ record { result = Ok tt; observer = duplicate rust }
             | false ↦ record { result = Ok tt; observer = «first_return» rust q (t - r .sent) }
           ]) (recordReturn o t (gives q))
       judged-by true m h = duplicate-as (return-duplicate o (same .well) q t w (rw row-is h) (rw row-is (eqb-true (r .mark) 1 m)))
       judged-by false m h =
           first-as (t - r .sent) (before ++ returned t r ∷ after) (omega arith)
+          (omega (arith, ap length e, length-append before (returned t r ∷ after), length-append before (r ∷ after), used-fits rust o same q t))
           (ap (λ (l : List Row). step o (gives (withRows l (withCounts (outOfOrderIf late (o .counts)) o)))) (sym put)
           ∙ return-first o (same .well) q t w (rw row-is h) (rw row-is (eqb-false (r .mark) 1 m)))
           (sent-returned q before r after b s a t ∙ ap sentOf (sym e))
           (ap (λ (l : List Row). insert q (t - r .sent) (receivedOf l)) e ∙ insert-received q before r after b s a t m)
 
       by : (early : Bool) → ltb t (r .sent) ≡ early
-          → AsStep (tried («ok_or» («checked_sub» t (r .sent)) TimestampReversed) rust λ latency-ns.
+          → AsStep o (tried («ok_or» («checked_sub» t (r .sent)) TimestampReversed) rust λ latency-ns.
           elim («contains_key» q (rust .received)) [
             | true ↦ record { result = Ok tt; observer = duplicate rust }
             | false ↦ record { result = Ok tt; observer = «first_return» rust q latency-ns }
@@ -245,7 +266,7 @@ module _ (rust : ContinuityObserver) (o : Observer) (same : Same rust o) (t : �
           (refused-as TimestampReversed (recordReturn o t (gives q)) (return-early o (same .well) q t w (rw row-is (ltb-true t (r .sent) h))))
       by false h =
           rw (checked-fits t (r .sent) (ltb-false t (r .sent) h))
-          (subst (λ (x : Bool). AsStep (elim x [
+          (subst (λ (x : Bool). AsStep o (elim x [
             | true ↦ record { result = Ok tt; observer = duplicate rust }
             | false ↦ record { result = Ok tt; observer = «first_return» rust q (t - r .sent) }
           ]) (recordReturn o t (gives q))) (sym marked) (judged-by (eqb (r .mark) 1) refl (ltb-false t (r .sent) h)))
@@ -258,12 +279,12 @@ sequence-read tpdu (Err x) e = rw (← e, sequenceRead)
 
 module _ (rust : ContinuityObserver) (o : Observer) (same : Same rust o) (t : ℕ) (fits : t ≤ «u64_max») where
   received-as : (x : Result measurement.DecodedTpdu) (read : Outcome ℕ) → outcomeBy (λ d. d .measurement .sequence) x ≡ read
-      → AsStep (tried x rust (λ d. arriving rust t (d .measurement .sequence))) (recordReturn o t read)
+      → AsStep o (tried x rust (λ d. arriving rust t (d .measurement .sequence))) (recordReturn o t read)
   received-as (Ok d) read e =
       rw (← e) (arrives rust o same t fits (d .measurement .sequence) (locate (d .measurement .sequence) (rows o) (well-rows o (same .well) .rises)))
   received-as (Err x) read e = rw (← e) (refused-as rust o same t fits 0 x (recordReturn o t (refused (errorNumber x))) (return-refused o t (errorNumber x) (same .well)))
 
-  received-step : (tpdu : List ℕ) → Bytes tpdu → AsStep («record_received_tpdu» rust t tpdu) (recordReceivedTpdu o t tpdu)
+  pub received-step : (tpdu : List ℕ) → Bytes tpdu → AsStep o («record_received_tpdu» rust t tpdu) (recordReceivedTpdu o t tpdu)
   unfolding «record_received_tpdu» recordReceivedTpdu
   received-step tpdu b = received-as (measurement.«decode_measurement_tpdu» tpdu) (sequenceRead tpdu) (sequence-read tpdu (measurement.«decode_measurement_tpdu» tpdu) (decoded tpdu b))
 
@@ -272,21 +293,22 @@ received-same rust o same t fits tpdu b = let a = received-step rust o same t fi
 
 -- ---- a message
 
-record AsMessage (x : Recorded GtpuReturnDatagramOutcome) (s : MessageStep) : Type 0 where
-  answer : outcomeOf (x .result) ≡ s .outcome
-  same : Same (x .observer) (s .observer)
+pub record AsMessage (o : Observer) (x : Recorded GtpuReturnDatagramOutcome) (s : MessageStep) : Type 0 where
+  pub answer : outcomeOf (x .result) ≡ s .outcome
+  pub same : Same (x .observer) (s .observer)
+  pub room : capacity (s .observer) ≡ capacity o
 
 -- both sides branch on one test
-branch : (test : Bool) (x x' : Recorded GtpuReturnDatagramOutcome) (y y' : MessageStep) → AsMessage x y → AsMessage x' y'
-    → AsMessage (elim test [ true ↦ x | false ↦ x' ]) (elim test [ true ↦ y | false ↦ y' ])
-branch true x x' y y' f g = f
-branch false x x' y y' f g = g
+branch : (o : Observer) (test : Bool) (x x' : Recorded GtpuReturnDatagramOutcome) (y y' : MessageStep) → AsMessage o x y → AsMessage o x' y'
+    → AsMessage o (elim test [ true ↦ x | false ↦ x' ]) (elim test [ true ↦ y | false ↦ y' ])
+branch o true x x' y y' f g = f
+branch o false x x' y y' f g = g
 
 -- a return, as a message of its kind
-as-kind : (kind : GtpuReturnDatagramOutcome) (r : Result (Unit {0})) (rust : ContinuityObserver) (s : Step) → outcomeOf r ≡ s .outcome → Same rust (s .observer)
-    → AsMessage (tried r rust (λ u. record { result = Ok kind; observer = rust })) (asMessage kind s)
-as-kind kind (Ok u) rust s e same = record { answer = rw (← e); same = same }
-as-kind kind (Err x) rust s e same = record { answer = rw (← e); same = same }
+as-kind : (o : Observer) (kind : GtpuReturnDatagramOutcome) (r : Result (Unit {0})) (rust : ContinuityObserver) (s : Step) → outcomeOf r ≡ s .outcome → Same rust (s .observer)
+    → capacity (s .observer) ≡ capacity o → AsMessage o (tried r rust (λ u. record { result = Ok kind; observer = rust })) (asMessage kind s)
+as-kind o kind (Ok u) rust s e same c = record { answer = rw (← e); same = same; room = c }
+as-kind o kind (Err x) rust s e same c = record { answer = rw (← e); same = same; room = c }
 
 module _ (rust : ContinuityObserver) (o : Observer) (same : Same rust o) where
   -- an Error Indication
@@ -304,28 +326,28 @@ module _ (rust : ContinuityObserver) (o : Observer) (same : Same rust o) where
   }
 
   indicated : (r : Result (Unit {0})) (walk : Outcome (Unit {0})) → outcomeOf r ≡ walk
-      → AsMessage (tried r rust (λ u. record { result = Ok ErrorIndication; observer = «error_indication» rust })) (asMessage ErrorIndication (recordErrorIndication o walk))
+      → AsMessage o (tried r rust (λ u. record { result = Ok ErrorIndication; observer = «error_indication» rust })) (asMessage ErrorIndication (recordErrorIndication o walk))
   indicated (Ok u) walk e =
-      rw (← e) (subst (λ (s : Step). AsMessage (record { result = Ok ErrorIndication; observer = «error_indication» rust }) (asMessage ErrorIndication s))
-      (indication-counted o (same .well)) (record { answer = refl; same = indication-with }))
+      rw (← e) (subst (λ (s : Step). AsMessage o (record { result = Ok ErrorIndication; observer = «error_indication» rust }) (asMessage ErrorIndication s))
+      (indication-counted o (same .well)) (record { answer = refl; same = indication-with; room = unfold capacity in refl }))
   indicated (Err x) walk e =
-      rw (← e) (subst (λ (s : Step). AsMessage (record { result = Err x; observer = rust }) (asMessage ErrorIndication s))
-      (indication-refused o (errorNumber x) (same .well)) (record { answer = refl; same = same }))
+      rw (← e) (subst (λ (s : Step). AsMessage o (record { result = Err x; observer = rust }) (asMessage ErrorIndication s))
+      (indication-refused o (errorNumber x) (same .well)) (record { answer = refl; same = same; room = refl }))
 
   -- a message that changes nothing
-  noted : (r : Result GtpuReturnDatagramOutcome) → AsMessage (record { result = r; observer = rust }) (unchanged o (outcomeOf r))
-  noted r = record { answer = judged-well o (outcomeOf r) (same .well); same = same }
+  noted : (r : Result GtpuReturnDatagramOutcome) → AsMessage o (record { result = r; observer = rust }) (unchanged o (outcomeOf r))
+  noted r = record { answer = judged-well o (outcomeOf r) (same .well); same = same; room = refl }
 
-  message-step : (t : ℕ) → t ≤ «u64_max» → (ty : ℕ) (payload : List ℕ) → Bytes payload
-      → AsMessage («record_return_gtpu_datagram» rust t ty payload) (recordReturnMessage o t ty payload)
+  pub message-step : (t : ℕ) → t ≤ «u64_max» → (ty : ℕ) (payload : List ℕ) → Bytes payload
+      → AsMessage o («record_return_gtpu_datagram» rust t ty payload) (recordReturnMessage o t ty payload)
   unfolding «record_return_gtpu_datagram» recordReturnMessage
   message-step t fits ty payload b =
       let a = received-step rust o same t fits payload b in
-      branch (eqb ty 255) _ _ _ _
-      (as-kind MeasurementTpdu («record_received_tpdu» rust t payload .result) («record_received_tpdu» rust t payload .observer) (recordReceivedTpdu o t payload) (a .answer) (a .same))
-      (branch (eqb ty 26) _ _ _ _ (indicated («validate_error_indication_ies» payload) (elementsOf payload) (validate payload))
-      (branch (eqb ty 2) _ _ _ _ (noted (Ok EchoResponse))
-      (branch (eqb ty 254 || eqb ty 31) _ _ _ _ (noted (Ok (Ignored ty))) (noted (Err (InvalidPacket error.unsupported-GTP-U-return-message-type))))))
+      branch o (eqb ty 255) _ _ _ _
+      (as-kind o MeasurementTpdu («record_received_tpdu» rust t payload .result) («record_received_tpdu» rust t payload .observer) (recordReceivedTpdu o t payload) (a .answer) (a .same) (a .room))
+      (branch o (eqb ty 26) _ _ _ _ (indicated («validate_error_indication_ies» payload) (elementsOf payload) (validate payload))
+      (branch o (eqb ty 2) _ _ _ _ (noted (Ok EchoResponse))
+      (branch o (eqb ty 254 || eqb ty 31) _ _ _ _ (noted (Ok (Ignored ty))) (noted (Err (InvalidPacket error.unsupported-GTP-U-return-message-type))))))
 
 pub message-same : RecordReturnGtpuDatagram
 message-same rust o same t fits ty payload b = let a = message-step rust o same t fits ty payload b in (a .answer, a .same)

@@ -120,7 +120,7 @@ values-are (r ∷ rs) = by (eqb (r .mark) 1) (values-are rs)
     by true ih = ap (λ (l : List ℕ). r .latency ∷ l) ih
     by false ih = ih
 
-sent-length : (rs : List Row) → length (sentOf rs) ≡ length rs
+pub sent-length : (rs : List Row) → length (sentOf rs) ≡ length rs
 sent-length [] = refl
 sent-length (r ∷ rs) = ap suc (sent-length rs)
 
@@ -230,6 +230,15 @@ gap-loop (r ∷ rs) received end n since most long g h =
         let one : «saturating_add» n 1 ≡ suc n = unfold «saturating_add» in omega arith in
         rw (e, «for_sent») (rw one (ih (suc n) (sinceOf n since (r .sent)) most long (omega arith)))
 
+gap-of : (rs : List Row) (end : ℕ) → Agrees (keys (receivedOf rs)) rs → length rs ≤ 2048
+    → «gap_summary» (sentOf rs) (receivedOf rs) end
+    ≡ record { max-count = greatest (map (λ x. x .packets) (runs end rs)); max-duration = greatest (map (λ x. x .duration) (runs end rs)) }
+unfolding «gap_summary»
+gap-of [] end g few = refl
+gap-of (r ∷ rs) end g few =
+    gap-loop (r ∷ rs) (keys (receivedOf (r ∷ rs))) end 0 0 0 0 g (omega arith)
+    ∙ ap₂ (λ (c d : ℕ). record { max-count = c; max-duration = d }) (omega (arith, longest-of end (r ∷ rs))) (omega (arith, outage-of end (r ∷ rs)))
+
 -- ---- the whole report
 
 module _ (rust : ContinuityObserver) (o : Observer) (same : Same rust o) (start end : ℕ) (budget : PacketContinuityBudget) where
@@ -272,12 +281,11 @@ module _ (rust : ContinuityObserver) (o : Observer) (same : Same rust o) (start 
       ap (λ (l : List ℕ). latencyOf («latency_summary» l)) values-same
       ∙ summary-is (latenciesOf rs) (subst Fit values-same (values-fit (rust .received) (same .latencies))) (omega (arith, few, few-latencies rs))
 
-  gap-is : «gap_summary» rust end ≡ record { max-count = greatest (map (λ x. x .packets) (runs end rs)); max-duration = greatest (map (λ x. x .duration) (runs end rs)) }
-  unfolding «gap_summary»
+  gap-is : «gap_summary» (rust .sent) (rust .received) end
+      ≡ record { max-count = greatest (map (λ x. x .packets) (runs end rs)); max-duration = greatest (map (λ x. x .duration) (runs end rs)) }
   gap-is =
-      ap₂ (λ (m : List Entry) (l : List Entry). «for_sent» m (keys l) end 0 0 0 0) (same .sent) (same .received)
-      ∙ gap-loop rs (keys (receivedOf rs)) end 0 0 0 0 (agrees [] rs (well-rows o (same .well) .rises)) (omega (arith, few))
-      ∙ ap₂ (λ (c d : ℕ). record { max-count = c; max-duration = d }) (omega (arith, longest-of end rs)) (omega (arith, outage-of end rs))
+      ap₂ (λ (m : List Entry) (l : List Entry). «gap_summary» m l end) (same .sent) (same .received)
+      ∙ gap-of rs end (agrees [] rs (well-rows o (same .well) .rises)) few
 
   report-is : reportOf (report rust start end budget) ≡ leaf.reportOf rs (o .counts) start end budget
   unfolding report leaf.reportOf

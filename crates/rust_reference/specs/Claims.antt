@@ -5,6 +5,7 @@ use Prim.Native.Nat.{ℕ, _≤_}
 use mathlib.Core.Path.{_≡_}
 use mathlib.Core.List.{List, [], _∷_}
 use mathlib.Core.Logic.{_⊎_}
+use lib.ListN.{length}
 use Rattle.error.specs.Number.{outputTooShort, tooManyPackets, malformedObserver, observerFull}
 use Rattle.error.specs.Outcome.{Outcome, refused, gives}
 use Rattle.gtpu.specs.Element.{elementsOf}
@@ -28,7 +29,7 @@ use Rattle.report.specs.Report.{reporting}
 use Rattle.evidence.specs.declared.PacketContinuityBudget.{PacketContinuityBudget}
 use Rattle.rust_reference.specs.Values.{«u64_max»}
 use Rattle.rust_reference.specs.Sheet.{Same}
-use Rattle.rust_reference.specs.Runs.{Call, Typed, answerTo, afterCall, answersTo, rustAnswersTo}
+use Rattle.rust_reference.specs.Runs.{Call, Typed, answerTo, afterCall, answersTo, rustAnswersTo, rustAfter}
 use Rattle.rust_reference.specs.Number.{outcomeBy, outcomeOf}
 use Rattle.rust_reference.specs.Answers.{rustFlow, tpduOf, inBuffer, packetsInBuffer, reportOf}
 use Rattle.rust_reference.specs.Gtpu as gtpu
@@ -117,10 +118,15 @@ abbrev pub NoneAddedIn : Observer → List Call → Type 0
 NoneAddedIn o [] = Unit {0}
 NoneAddedIn o (call ∷ calls) = NoneAdded (answerTo o call) × NoneAddedIn (afterCall o call) calls
 
--- Every list of calls on a fresh sheet of any columns, up to 2,048 sequences (a sheet of 2,048 rows says 22 no sooner): every answer, each
--- report on the way among them, is the Rust's.
+-- Every list of calls on a fresh sheet of any columns: every answer, each report on the way among them, is the Rust's.
 abbrev pub Runs : Type 0
 Runs = (qs ts ls ms : List ℕ) (calls : List Call) → AllTyped calls → NoneAddedIn (observerOf qs ts ls ms fresh) calls
+    → rustAnswersTo traffic.new calls ≡ answersTo (observerOf qs ts ls ms fresh) calls
+
+-- "runs up to 2,048 sequences": with columns of 2,048 entries, all that is asked is that the Rust's map of what was sent ends with no more.
+abbrev pub RunsUpTo2048 : Type 0
+RunsUpTo2048 = (qs ts ls ms : List ℕ) → 2048 ≤ length qs → 2048 ≤ length ts → 2048 ≤ length ls → 2048 ≤ length ms
+    → (calls : List Call) → AllTyped calls → length (rustAfter traffic.new calls .sent) ≤ 2048
     → rustAnswersTo traffic.new calls ≡ answersTo (observerOf qs ts ls ms fresh) calls
 
 -- All of it, by the Rust's names.
@@ -137,3 +143,4 @@ pub record EqualsTheRust : Type 0 where
   pub «record_return_gtpu_datagram» : RecordReturnGtpuDatagram
   pub report : Report
   pub runs : Runs
+  pub runs-up-to-2048 : RunsUpTo2048

@@ -74,3 +74,7 @@ rustAfterCall o (reporting-on windowStart windowEnd budget) = o
 abbrev pub rustAnswersTo : traffic.ContinuityObserver → List Call → List (Outcome Answer)
 rustAnswersTo o [] = []
 rustAnswersTo o (call ∷ calls) = rustAnswerTo o call ∷ rustAnswersTo (rustAfterCall o call) calls
+
+abbrev pub rustAfter : traffic.ContinuityObserver → List Call → traffic.ContinuityObserver
+rustAfter o [] = o
+rustAfter o (call ∷ calls) = rustAfter (rustAfterCall o call) calls

@@ -192,7 +192,7 @@ unfoldable pub «for_latency» : List ℕ → ℕ → ℕ → ℕ → ℕ → La
 «for_latency» (latency ∷ latencies) min-ns max-ns sum count =
     «for_latency» latencies (min min-ns latency) (max max-ns latency) («saturating_add_u128» sum latency) («saturating_add_u128» count 1)
 
--- lines 272 to 296
+-- lines 272 to 296, of `self.received.values()`
 unfoldable pub «latency_summary» : List ℕ → Option LatencySummary
 «latency_summary» [] = None
 «latency_summary» (latency ∷ latencies) = Some («for_latency» (latency ∷ latencies) «u64_max» 0 0 0)
@@ -221,9 +221,10 @@ unfoldable pub «for_sent» : List Entry → List ℕ → ℕ → ℕ → ℕ �
           (elim (eqb current-count 0) [ true ↦ e .value | false ↦ current-start-ts ]) max-count max-duration
     ]
 
--- lines 298 to 332. (Of an empty map the Rust answers (0, 0) before the loop, which does so too.)
-unfoldable pub «gap_summary» : ContinuityObserver → ℕ → GapSummary
-«gap_summary» o window-end-ns = «for_sent» (o .sent) (keys (o .received)) window-end-ns 0 0 0 0
+-- lines 298 to 332, of `self.sent` and `self.received`
+unfoldable pub «gap_summary» : List Entry → List Entry → ℕ → GapSummary
+«gap_summary» [] received window-end-ns = record { max-count = 0; max-duration = 0 }
+«gap_summary» (e ∷ sent) received window-end-ns = «for_sent» (e ∷ sent) (keys received) window-end-ns 0 0 0 0
 
 -- lines 235 to 270
 unfoldable pub report : ContinuityObserver → ℕ → ℕ → PacketContinuityBudget → PacketContinuityReport
@@ -231,7 +232,7 @@ report o window-start-ns window-end-ns budget =
     let sent-packets : ℕ = length (o .sent) in
     let received-packets : ℕ = length (o .received) in
     let lost-packets : ℕ = sent-packets - received-packets in
-    let gap : GapSummary = «gap_summary» o window-end-ns in
+    let gap : GapSummary = «gap_summary» (o .sent) (o .received) window-end-ns in
     record {
       «window_start_ns» = window-start-ns;
       «window_end_ns» = window-end-ns;
