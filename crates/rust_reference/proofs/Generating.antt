@@ -25,7 +25,7 @@ use Rattle.rust_reference.specs.Claims.{NoneAdded, IntervalNs, Generate}
 use Rattle.rust_reference.specs.Error as error
 use Rattle.rust_reference.specs.Error.{DataplaneTestkitError, Result, Ok, Err, Overflow}
 use Rattle.rust_reference.specs.Number.{errorNumber, outcomeBy, outcomeOf}
-use Rattle.rust_reference.specs.Answers.{rustFlow, vecs, packetsInBuffer}
+use Rattle.rust_reference.specs.Answers.{rustFlow, vecs, headersOf, packetsInBuffer}
 use Rattle.rust_reference.specs.Measurement.{«build_measurement_tpdu»}
 use Rattle.rust_reference.specs.Traffic.{GeneratedPacket, Generated, attempted, checked, «interval_ns», «for_offset», generate}
 use Rattle.rust_reference.proofs.Branches.{unless, AllOk, all, none}
@@ -43,13 +43,10 @@ interval-ns plan =
 abbrev headerOf : GeneratedPacket → MeasurementHeader
 headerOf p = record { sequence = p .sequence; «send_timestamp_ns» = p .«send_timestamp_ns» }
 
-abbrev headers : List GeneratedPacket → List MeasurementHeader
-headers packets = map headerOf packets
-
 abbrev judgedOf : Generated → Judged
-judgedOf g = record { outcome = outcomeBy headers (g .result); next = g .«next_sequence» }
+judgedOf g = record { outcome = outcomeBy headersOf (g .result); next = g .«next_sequence» }
 
-headers-append : (a b : List GeneratedPacket) → headers (a ++ b) ≡ headers a ++ headers b
+headers-append : (a b : List GeneratedPacket) → headersOf (a ++ b) ≡ headersOf a ++ headersOf b
 headers-append [] b = refl
 headers-append (p ∷ a) b = ap (λ (l : List MeasurementHeader). headerOf p ∷ l) (headers-append a b)
 
@@ -104,11 +101,11 @@ module _ (flow : InnerIpFlow) (plan : TrafficPlan) (p : Bytes (flow .src)) (q : 
   -- what the loop comes to: a judgement, and bytes that are built from it
   record Comes (g : Generated) (j : Judged) : Type 0 where
     judged : judgedOf g ≡ j
-    built : AllOk (λ packets. vecs packets ≡ endToEnd flow (headers packets)) (g .result)
+    built : AllOk (λ packets. vecs packets ≡ endToEnd flow (headersOf packets)) (g .result)
 
   module _ (next : ℕ) where
     abbrev given : ℕ → ℕ → ℕ → List GeneratedPacket → Judged
-    given n k s acc = record { outcome = gives (headers acc ++ packetsFrom plan next n k); next = s + n }
+    given n k s acc = record { outcome = gives (headersOf acc ++ packetsFrom plan next n k); next = s + n }
 
     abbrev judgement : ℕ → ℕ → ℕ → List GeneratedPacket → Judged
     judgement n k s acc = firstPlanCause (causesFrom plan next n k) (given n k s acc)
@@ -135,22 +132,22 @@ module _ (flow : InnerIpFlow) (plan : TrafficPlan) (p : Bytes (flow .src)) (q : 
         let rest = packetsFrom plan next n (suc k) in
         let head : headerOf (packet s k) ≡ packetAt plan next k = ap (λ (m : ℕ). record { sequence = m; «send_timestamp_ns» = timeAt plan k }) e in
         ap₂ (λ (l : List MeasurementHeader) (m : ℕ). record { outcome = gives l; next = m })
-        (ap (λ (l : List MeasurementHeader). l ++ rest) (headers-append acc (packet s k ∷ [])) ∙ append-assoc (headers acc) (headerOf (packet s k) ∷ []) rest
-        ∙ ap (λ (h : MeasurementHeader). headers acc ++ h ∷ rest) head)
+        (ap (λ (l : List MeasurementHeader). l ++ rest) (headers-append acc (packet s k ∷ [])) ∙ append-assoc (headersOf acc) (headerOf (packet s k) ∷ []) rest
+        ∙ ap (λ (h : MeasurementHeader). headersOf acc ++ h ∷ rest) head)
         (omega arith)
 
-    pushed-bytes : (k s : ℕ) (acc : List GeneratedPacket) → vecs acc ≡ endToEnd flow (headers acc)
-        → vecs (acc ++ packet s k ∷ []) ≡ endToEnd flow (headers (acc ++ packet s k ∷ []))
+    pushed-bytes : (k s : ℕ) (acc : List GeneratedPacket) → vecs acc ≡ endToEnd flow (headersOf acc)
+        → vecs (acc ++ packet s k ∷ []) ≡ endToEnd flow (headersOf (acc ++ packet s k ∷ []))
     unfolding endToEnd
     pushed-bytes k s acc e =
         vecs-append acc (packet s k ∷ []) ∙ ap (λ (l : List ℕ). l ++ (packet s k .tpdu ++ [])) e
-        ∙ sym (end-to-end-append flow (headers acc) (headerOf (packet s k) ∷ [])) ∙ ap (endToEnd flow) (sym (headers-append acc (packet s k ∷ [])))
+        ∙ sym (end-to-end-append flow (headersOf acc) (headerOf (packet s k) ∷ [])) ∙ ap (endToEnd flow) (sym (headers-append acc (packet s k ∷ [])))
 
-    loop : (n k s : ℕ) (acc : List GeneratedPacket) → s ≡ next + k → vecs acc ≡ endToEnd flow (headers acc)
+    loop : (n k s : ℕ) (acc : List GeneratedPacket) → s ≡ next + k → vecs acc ≡ endToEnd flow (headersOf acc)
         → Comes («for_offset» n k (rustFlow flow) plan i s acc) (judgement n k s acc)
     unfolding «for_offset» causesFrom firstPlanCause packetsFrom
     loop zero k s acc e v = record {
-      judged = ap₂ (λ (l : List MeasurementHeader) (m : ℕ). record { outcome = gives l; next = m }) (sym (append-nil (headers acc))) (omega arith);
+      judged = ap₂ (λ (l : List MeasurementHeader) (m : ℕ). record { outcome = gives l; next = m }) (sym (append-nil (headersOf acc))) (omega arith);
       built = all v;
     }
     loop (suc n) k s acc e v =
@@ -161,7 +158,7 @@ module _ (flow : InnerIpFlow) (plan : TrafficPlan) (p : Bytes (flow .src)) (q : 
         goal = Comes («for_offset» (suc n) k (rustFlow flow) plan i s acc) (judgement (suc n) k s acc)
 
         at : (g : Generated) → turn n k s acc ≡ g → judgedOf g ≡ judgement (suc n) k s acc
-            → AllOk (λ packets. vecs packets ≡ endToEnd flow (headers packets)) (g .result) → goal
+            → AllOk (λ packets. vecs packets ≡ endToEnd flow (headersOf packets)) (g .result) → goal
         at g t j b = subst (λ (x : Generated). Comes x (judgement (suc n) k s acc)) (sym t) (record { judged = j; built = b })
 
         by : (a : Bool) → leb (s + 1) top ≡ a → (b : Bool) → leb (k * i) top ≡ b → (c : Bool) → leb (first + k * i) top ≡ c
@@ -184,6 +181,11 @@ placed flow next buffer j =
       | gives packets ↦ placing (endToEnd flow packets) next (j .next) buffer
     ]
 
+-- what the claim asks of the Rust's answer
+abbrev Generates : InnerIpFlow → TrafficPlan → ℕ → List ℕ → Generated → Type 0
+Generates flow plan next buffer g =
+    (packetsInBuffer (g .result) (g .«next_sequence») buffer ≡ generateOf flow plan next buffer) × (outcomeBy headersOf (g .result) ≡ judgePlan plan next .outcome)
+
 module _ (flow : InnerIpFlow) (next : ℕ) (buffer : List ℕ) where
   fits : (bytes : List ℕ) (after : ℕ) → NoneAdded (placing bytes next after buffer .outcome)
       → record { outcome = gives (length bytes); next = after; buffer = bytes ++ drop (length bytes) buffer } ≡ placing bytes next after buffer
@@ -194,20 +196,20 @@ module _ (flow : InnerIpFlow) (next : ℕ) (buffer : List ℕ) where
       by true e = absurd (added 15 (inl refl) (sym (ap (λ (g : Generating). g .outcome) (placing-short bytes next after buffer (ltb-true (length buffer) (length bytes) e)))))
       by false e = placing-fits bytes next after buffer (ltb-false (length buffer) (length bytes) e)
 
-  in-buffer : (r : Result (List GeneratedPacket)) (after : ℕ) → AllOk (λ packets. vecs packets ≡ endToEnd flow (headers packets)) r
+  in-buffer : (r : Result (List GeneratedPacket)) (after : ℕ) → AllOk (λ packets. vecs packets ≡ endToEnd flow (headersOf packets)) r
       → NoneAdded (placed flow next buffer (judgedOf (record { result = r; «next_sequence» = after })) .outcome)
       → packetsInBuffer r after buffer ≡ placed flow next buffer (judgedOf (record { result = r; «next_sequence» = after }))
   unfolding placed
-  in-buffer (Ok packets) after (all e) added = rw e (fits (endToEnd flow (headers packets)) after added)
+  in-buffer (Ok packets) after (all e) added = rw e (fits (endToEnd flow (headersOf packets)) after added)
   in-buffer (Err x) after none added = refl
 
   -- where the judgement is the plan's
-  as-judged : (plan : TrafficPlan) (g : Generated) → judgedOf g ≡ judgePlan plan next → AllOk (λ packets. vecs packets ≡ endToEnd flow (headers packets)) (g .result)
-      → NoneAdded (generateOf flow plan next buffer .outcome) → packetsInBuffer (g .result) (g .«next_sequence») buffer ≡ generateOf flow plan next buffer
+  as-judged : (plan : TrafficPlan) (g : Generated) → judgedOf g ≡ judgePlan plan next → AllOk (λ packets. vecs packets ≡ endToEnd flow (headersOf packets)) (g .result)
+      → NoneAdded (generateOf flow plan next buffer .outcome) → Generates flow plan next buffer g
   unfolding generateOf placed
   as-judged plan g e b added =
       let whole : placed flow next buffer (judgedOf g) ≡ generateOf flow plan next buffer = ap (placed flow next buffer) e in
-      in-buffer (g .result) (g .«next_sequence») b (λ n a f. added n a (ap (λ (x : Generating). x .outcome) (sym whole) ∙ f)) ∙ whole
+      (in-buffer (g .result) (g .«next_sequence») b (λ n a f. added n a (ap (λ (x : Generating). x .outcome) (sym whole) ∙ f)) ∙ whole, ap (λ (j : Judged). j .outcome) e)
 
 pub generated : Generate
 unfolding generate
@@ -217,7 +219,7 @@ generated flow plan next range buffer added = of («interval_ns» plan) (interva
     answer r = attempted r next (λ j. «for_offset» (plan .«packet_count») 0 (rustFlow flow) plan j next [])
 
     looped : (j : ℕ) → gives j ≡ intervalOf (plan .«target_rate_pps») → plan .«packet_count» ≤ 2048
-        → packetsInBuffer (answer (Ok j) .result) (answer (Ok j) .«next_sequence») buffer ≡ generateOf flow plan next buffer
+        → Generates flow plan next buffer (answer (Ok j))
     looped j e few =
         let same : j ≡ interval (plan .«target_rate_pps») = plan-timed plan next j e few .is in
         let comes = loop flow plan (range .source) (range .destination) next (plan .«packet_count») 0 next [] (omega arith) (unfold endToEnd in refl) in
@@ -226,12 +228,12 @@ generated flow plan next range buffer added = of («interval_ns» plan) (interva
         (comes .judged ∙ (unfold judgePackets packetsOf in plan-judged plan next j e few)) (comes .built) added)
 
     of : (r : Result ℕ) → outcomeOf r ≡ intervalOf (plan .«target_rate_pps»)
-        → packetsInBuffer (answer r .result) (answer r .«next_sequence») buffer ≡ generateOf flow plan next buffer
+        → Generates flow plan next buffer (answer r)
     of (Err x) e = as-judged flow next buffer plan (record { result = Err x; «next_sequence» = next }) (plan-refused plan next (errorNumber x) e) none added
     of (Ok j) e = by (ltb 2048 (plan .«packet_count»)) refl
       where
         by : (t : Bool) → ltb 2048 (plan .«packet_count») ≡ t
-            → packetsInBuffer (answer (Ok j) .result) (answer (Ok j) .«next_sequence») buffer ≡ generateOf flow plan next buffer
+            → Generates flow plan next buffer (answer (Ok j))
         by true f =
             let judged = plan-too-many plan next j e (ltb-true 2048 (plan .«packet_count») f) in
             absurd (added 18 (inr (inl refl)) (sym (ap (λ (x : Generating). x .outcome) (generate-refused flow plan next buffer 18 (ap (λ (x : Judged). x .outcome) (sym judged))))))

@@ -31,7 +31,7 @@ use Rattle.observer.proofs.Judging.{well}
 use Rattle.continuity.specs.Returns.{sequenceRead, recordReceivedTpdu, MessageStep, asMessage, unchanged, recordReturnMessage}
 use Rattle.continuity.specs.declared.GtpuReturnDatagramOutcome.{GtpuReturnDatagramOutcome}
 use Rattle.continuity.specs.declared.GtpuReturnDatagramOutcome.the-variants.{MeasurementTpdu, ErrorIndication, EchoResponse, Ignored}
-use Rattle.rust_reference.specs.Claims.{NoneAdded, New, RecordSent, RecordReceivedTpdu, RecordReturnGtpuDatagram}
+use Rattle.rust_reference.specs.Claims.{NoneAdded, New, EverySheet, RecordSent, RecordReceivedTpdu, RecordReturnGtpuDatagram}
 use Rattle.rust_reference.specs.Error as error
 use Rattle.rust_reference.specs.Error.{DataplaneTestkitError, Result, Ok, Err, InvalidPacket, TimestampReversed}
 use Rattle.rust_reference.specs.Number.{errorNumber, outcomeBy, outcomeOf}
@@ -46,7 +46,7 @@ use Rattle.rust_reference.proofs.Decoding.{decoded}
 use Rattle.rust_reference.proofs.Elements.{validate}
 use Rattle.rust_reference.proofs.Maps.{Located, found, absent, locate, get-found, insert-found, received-resent, contains-found, insert-received, sent-returned, get-absent, insert-absent, received-entered, row-found, set-found, put-absent, late-is, insert-fits, highest-insert}
 
--- ---- a fresh sheet
+-- ---- a fresh sheet, and every well-formed one
 
 pub new-same : New
 unfolding rows
@@ -55,6 +55,18 @@ new-same qs ts ls ms = record {
   sent = refl;
   received = refl;
   latencies = tt;
+  highest = refl;
+  duplicates = refl;
+  out-of-order = refl;
+  indications = refl;
+}
+
+pub every-same : EverySheet
+every-same o w f = record {
+  well = w;
+  sent = refl;
+  received = refl;
+  latencies = f;
   highest = refl;
   duplicates = refl;
   out-of-order = refl;

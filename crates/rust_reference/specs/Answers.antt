@@ -2,13 +2,14 @@
 -- the report.
 -- Assumes nothing.
 use Prim.Native.Nat.{ℕ}
-use mathlib.Core.List.{List, [], _∷_, _++_}
+use mathlib.Core.List.{List, [], _∷_, _++_, map}
 use lib.ListN.{length, drop}
 use Rattle.error.specs.Outcome.{refused, gives}
 use Rattle.measurement.specs.Answer.{Writing}
 use Rattle.measurement.specs.Packet.{address, padded}
 use Rattle.measurement.specs.declared.DecodedTpdu.{DecodedTpdu}
 use Rattle.measurement.specs.declared.InnerIpFlow.{InnerIpFlow}
+use Rattle.measurement.specs.declared.MeasurementHeader.{MeasurementHeader}
 use Rattle.measurement.specs.declared.IpVersion.{IpVersion}
 use Rattle.measurement.specs.declared.IpVersion.the-variants.{V4, V6}
 use Rattle.evidence.specs.declared.Latency.{Latency}
@@ -48,6 +49,10 @@ inBuffer (Err error) buffer = record { outcome = refused (errorNumber error); bu
 abbrev pub vecs : List GeneratedPacket → List ℕ
 vecs [] = []
 vecs (p ∷ packets) = p .tpdu ++ vecs packets
+
+-- Their sequences and times.
+abbrev pub headersOf : List GeneratedPacket → List MeasurementHeader
+headersOf packets = map (λ p. record { sequence = p .sequence; «send_timestamp_ns» = p .«send_timestamp_ns» }) packets
 
 -- Likewise of the Rust's packets: end to end at the front of the lent buffer. The engine's next sequence is the Rust's, after an error too.
 abbrev pub packetsInBuffer : Result (List GeneratedPacket) → ℕ → List ℕ → Generating

@@ -5,6 +5,7 @@ use Prim.Native.Nat.{ℕ, _≤_}
 use mathlib.Core.Path.{_≡_}
 use mathlib.Core.List.{List, [], _∷_}
 use mathlib.Core.Logic.{_⊎_}
+use mathlib.Core.Bool.{true}
 use lib.ListN.{length}
 use Rattle.error.specs.Number.{outputTooShort, tooManyPackets, malformedObserver, observerFull}
 use Rattle.error.specs.Outcome.{Outcome, refused, gives}
@@ -16,22 +17,25 @@ use Rattle.measurement.specs.Echo.{echoOf}
 use Rattle.measurement.specs.Answer.{writing, writingOf}
 use Rattle.measurement.specs.Claims.{InRange}
 use Rattle.measurement.specs.declared.InnerIpFlow.{InnerIpFlow}
-use Rattle.traffic.specs.Plan.{intervalOf}
+use Rattle.traffic.specs.Plan.{intervalOf, judgePlan}
 use Rattle.traffic.specs.Generate.{generateOf}
 use Rattle.traffic.specs.declared.TrafficPlan.{TrafficPlan}
 use Rattle.observer.specs.Answer.{observerOf}
 use Rattle.observer.specs.Counts.{fresh}
-use Rattle.observer.specs.Observer.{Observer}
+use Rattle.observer.specs.Judge.{wellFormed}
+use Rattle.observer.specs.Observer.{Observer, rows}
 use Rattle.observer.specs.Sending.{recordSent}
 use Rattle.continuity.specs.Returns.{recordReceivedTpdu, recordReturnMessage}
 use Rattle.continuity.specs.declared.GtpuReturnDatagramOutcome.{GtpuReturnDatagramOutcome}
 use Rattle.report.specs.Report.{reporting}
+use Rattle.evidence.specs.Budget.{zeroLoss}
 use Rattle.evidence.specs.declared.PacketContinuityBudget.{PacketContinuityBudget}
 use Rattle.rust_reference.specs.Values.{«u64_max»}
-use Rattle.rust_reference.specs.Sheet.{Same}
+use Rattle.rust_reference.specs.Sheet.{receivedOf, ValuesFit, Same, rustObserver}
 use Rattle.rust_reference.specs.Runs.{Call, Typed, answerTo, afterCall, answersTo, rustAnswersTo, rustAfter}
 use Rattle.rust_reference.specs.Number.{outcomeBy, outcomeOf}
-use Rattle.rust_reference.specs.Answers.{rustFlow, tpduOf, inBuffer, packetsInBuffer, reportOf}
+use Rattle.rust_reference.specs.Answers.{rustFlow, tpduOf, inBuffer, headersOf, packetsInBuffer, reportOf}
+use Rattle.rust_reference.specs.Evidence as evidence
 use Rattle.rust_reference.specs.Gtpu as gtpu
 use Rattle.rust_reference.specs.Measurement as measurement
 use Rattle.rust_reference.specs.Traffic as traffic
@@ -43,6 +47,11 @@ Added n = (n ≡ outputTooShort) ⊎ (n ≡ tooManyPackets) ⊎ (n ≡ malformed
 -- "where no refusal marked added is due"
 abbrev pub NoneAdded : {A : Type 0} → Outcome A → Type 0
 NoneAdded o = (n : ℕ) → Added n → o ≡ refused n → ⊥
+
+-- ---- evidence.rs
+
+abbrev pub ZeroLoss : Type 0
+ZeroLoss = evidence.«zero_loss» ≡ zeroLoss
 
 -- ---- measurement.rs
 
@@ -72,17 +81,22 @@ ValidateErrorIndicationIes = (payload : List ℕ) → outcomeOf (gtpu.«validate
 abbrev pub IntervalNs : Type 0
 IntervalNs = (plan : TrafficPlan) → outcomeOf (traffic.«interval_ns» plan) ≡ intervalOf (plan .«target_rate_pps»)
 
--- Every flow, plan and next sequence: the answer, the engine's next sequence and every byte of the buffer.
+-- Every flow, plan and next sequence: the answer, the engine's next sequence and every byte of the buffer; and each packet's sequence and time.
 abbrev pub Generate : Type 0
 Generate = (flow : InnerIpFlow) (plan : TrafficPlan) (next : ℕ) → InRange flow next (plan .«first_send_timestamp_ns») → (buffer : List ℕ)
     → NoneAdded (generateOf flow plan next buffer .outcome)
     → let rust : traffic.Generated = traffic.generate next (rustFlow flow) plan in
-    packetsInBuffer (rust .result) (rust .«next_sequence») buffer ≡ generateOf flow plan next buffer
+    (packetsInBuffer (rust .result) (rust .«next_sequence») buffer ≡ generateOf flow plan next buffer)
+    × (outcomeBy headersOf (rust .result) ≡ judgePlan plan next .outcome)
 
--- The observer. `Same` relates the Rust's maps and the sheet; a fresh sheet of any columns is the Rust's new observer, and each call on
+-- `Same` relates the Rust's maps and the sheet; a fresh sheet of any columns is the Rust's new observer, and each call on
 -- related ones has the same answer and leaves related ones.
 abbrev pub New : Type 0
 New = (qs ts ls ms : List ℕ) → Same traffic.new (observerOf qs ts ls ms fresh)
+
+-- Every sheet on which 21 is not due is related to an observer of the Rust's type, whether or not calls lead there; its latencies are u64s.
+abbrev pub EverySheet : Type 0
+EverySheet = (o : Observer) → wellFormed o ≡ true → ValuesFit (receivedOf (rows o)) → Same (rustObserver o) o
 
 -- The Rust's `record_sent` answers nothing.
 abbrev pub RecordSent : Type 0
@@ -131,6 +145,7 @@ RunsUpTo2048 = (qs ts ls ms : List ℕ) → 2048 ≤ length qs → 2048 ≤ leng
 
 -- All of it, by the Rust's names.
 pub record EqualsTheRust : Type 0 where
+  pub «zero_loss» : ZeroLoss
   pub «build_measurement_tpdu» : BuildMeasurementTpdu
   pub «decode_measurement_tpdu» : DecodeMeasurementTpdu
   pub «echo_tpdu» : EchoTpdu
@@ -138,6 +153,7 @@ pub record EqualsTheRust : Type 0 where
   pub «interval_ns» : IntervalNs
   pub generate : Generate
   pub new : New
+  pub every-sheet : EverySheet
   pub «record_sent» : RecordSent
   pub «record_received_tpdu» : RecordReceivedTpdu
   pub «record_return_gtpu_datagram» : RecordReturnGtpuDatagram

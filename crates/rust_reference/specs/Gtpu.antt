@@ -1,4 +1,4 @@
--- The Rust's gtpu.rs: `validate_error_indication_ies`, lines 109 to 189.
+-- The Rust's gtpu.rs: the message types that the observer names, lines 17 to 26, and `validate_error_indication_ies`, lines 109 to 189.
 -- Offsets are `usize` there, and every `checked_add` succeeds: an offset is at most the payload's length when 65,538 at most is added to it,
 -- and a slice of bytes has fewer than 2^63.
 -- Assumes nothing.
@@ -9,6 +9,21 @@ use lib.Dec.{eqb, ltb, leb}
 use lib.ListN.{length}
 use Rattle.rust_reference.specs.Values.{index, «u16_at»}
 use Rattle.rust_reference.specs.Error.{Result, Ok, Truncated, InvalidPacket, Err, returnIf, _>>_, TEID-Data-I-IE, GTP-U-Peer-Address-IE, GTP-U-TLV-IE, GTP-U-Peer-Address-IE-length-must-be-IPv4-or-IPv6, unsupported-fixed-length-GTP-U-IE, Error-Indication-missing-TEID-Data-I-IE, Error-Indication-missing-GTP-U-Peer-Address-IE}
+
+abbrev pub «GTPU_MSG_ECHO_RESPONSE» : ℕ
+«GTPU_MSG_ECHO_RESPONSE» = 2
+
+abbrev pub «GTPU_MSG_ERROR_INDICATION» : ℕ
+«GTPU_MSG_ERROR_INDICATION» = 26
+
+abbrev pub «GTPU_MSG_SUPPORTED_EXTENSION_HEADERS_NOTIFICATION» : ℕ
+«GTPU_MSG_SUPPORTED_EXTENSION_HEADERS_NOTIFICATION» = 31
+
+abbrev pub «GTPU_MSG_END_MARKER» : ℕ
+«GTPU_MSG_END_MARKER» = 254
+
+abbrev pub «GTPU_MSG_GPDU» : ℕ
+«GTPU_MSG_GPDU» = 255
 
 -- lines 178 to 188: behind the loop
 unfoldable pub «required_ies» : Bool → Bool → Result (Unit {0})

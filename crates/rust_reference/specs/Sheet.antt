@@ -42,3 +42,14 @@ pub record Same (rust : ContinuityObserver) (o : Observer) : Type 0 where
   pub duplicates : rust .«duplicate_packets» ≡ o .counts .«duplicate_packets»
   pub out-of-order : rust .«out_of_order_packets» ≡ o .counts .«out_of_order_packets»
   pub indications : rust .«gtpu_error_indications» ≡ o .counts .«gtpu_error_indications»
+
+-- The Rust's observer that holds what a sheet holds.
+abbrev pub rustObserver : Observer → ContinuityObserver
+rustObserver o = record {
+  sent = sentOf (rows o);
+  received = receivedOf (rows o);
+  «duplicate_packets» = o .counts .«duplicate_packets»;
+  «out_of_order_packets» = o .counts .«out_of_order_packets»;
+  «gtpu_error_indications» = o .counts .«gtpu_error_indications»;
+  «highest_received_sequence» = highestKey (receivedOf (rows o));
+}

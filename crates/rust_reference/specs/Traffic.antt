@@ -16,7 +16,7 @@ use Rattle.rust_reference.specs.Values.{«u64_max», «saturating_add»,
 use Rattle.rust_reference.specs.Evidence.{PacketContinuityReport}
 use Rattle.rust_reference.specs.Map.{Option, None, Some, «is_some_and», «map_or», Entry, get, «contains_key», insert, keys, values, contains}
 use Rattle.rust_reference.specs.Measurement.{InnerIpFlow, «build_measurement_tpdu», «decode_measurement_tpdu»}
-use Rattle.rust_reference.specs.Gtpu.{«validate_error_indication_ies»}
+use Rattle.rust_reference.specs.Gtpu.{«GTPU_MSG_ECHO_RESPONSE», «GTPU_MSG_ERROR_INDICATION», «GTPU_MSG_SUPPORTED_EXTENSION_HEADERS_NOTIFICATION», «GTPU_MSG_END_MARKER», «GTPU_MSG_GPDU», «validate_error_indication_ies»}
 
 -- ---- the generator
 
@@ -165,18 +165,18 @@ unfoldable pub «error_indication» : ContinuityObserver → ContinuityObserver
   «highest_received_sequence» = o .«highest_received_sequence»;
 }
 
--- lines 212 to 231, behind `decode_gtpu`: the match on the type of the message, with the numbers of gtpu.rs, lines 15 to 26
+-- lines 212 to 231, behind `decode_gtpu`: the match on the type of the message
 unfoldable pub «record_return_gtpu_datagram» : ContinuityObserver → ℕ → ℕ → List ℕ → Recorded GtpuReturnDatagramOutcome
 «record_return_gtpu_datagram» o return-timestamp-ns message-type payload =
-    elim (eqb message-type 255) [
+    elim (eqb message-type «GTPU_MSG_GPDU») [
       | true ↦
           let recorded : Recorded (Unit {0}) = «record_received_tpdu» o return-timestamp-ns payload in
           tried (recorded .result) (recorded .observer) λ u. record { result = Ok MeasurementTpdu; observer = recorded .observer }
-      | false ↦ elim (eqb message-type 26) [
+      | false ↦ elim (eqb message-type «GTPU_MSG_ERROR_INDICATION») [
         | true ↦ tried («validate_error_indication_ies» payload) o λ u. record { result = Ok ErrorIndication; observer = «error_indication» o }
-        | false ↦ elim (eqb message-type 2) [
+        | false ↦ elim (eqb message-type «GTPU_MSG_ECHO_RESPONSE») [
           | true ↦ record { result = Ok EchoResponse; observer = o }
-          | false ↦ elim (eqb message-type 254 || eqb message-type 31) [
+          | false ↦ elim (eqb message-type «GTPU_MSG_END_MARKER» || eqb message-type «GTPU_MSG_SUPPORTED_EXTENSION_HEADERS_NOTIFICATION») [
             | true ↦ record { result = Ok (Ignored message-type); observer = o }
             | false ↦ record { result = Err (InvalidPacket error.unsupported-GTP-U-return-message-type); observer = o }
           ]
