@@ -1,28 +1,26 @@
 -- Building: the Rust's packet, written into a vector of zeros, is the RFCs' fields in the order of their diagrams.
 -- Assumes nothing.
-use Prim.Native.Nat.{ℕ, _+_, _%_, _<_, _≤_}
+use Prim.Native.Nat.{ℕ}
 use native.Mathlib.Omega.{arith}
-use mathlib.Core.Path.{_≡_, refl, sym, ap, ap₂, _∙_}
+use mathlib.Core.Path.{_≡_, refl, ap, ap₂, _∙_}
 use mathlib.Core.List.{List, [], _∷_, _++_}
-use mathlib.Core.Logic.{inl, inr}
+use mathlib.Core.Logic.{inl}
 use mathlib.Core.Bool.{Bool, true, false}
 use lib.Dec.{ltb}
 use lib.ListN.{length}
-use Rattle.field.specs.Field.{Bytes, bigEndian, bytesAt}
-use Rattle.field.proofs.Fields.{bytes-append, bytes-at, bytes-big-endian, length-bytesAt}
+use Rattle.field.specs.Field.{Bytes, bytesAt}
+use Rattle.field.proofs.Fields.{bytes-append, bytes-at}
 use Rattle.checksum.specs.Sum.{checksumOf}
 use Rattle.measurement.specs.Packet.{addressLength, address, ipv4Header, ipv4, ipv6, ipHeader, pseudoHeader, measurementMagic, probe, udpSegment, nonzero, udp, buildOf}
 use Rattle.measurement.specs.Answer.{writing}
-use Rattle.measurement.specs.Claims.{InRange}
 use Rattle.measurement.specs.declared.InnerIpFlow.{InnerIpFlow}
 use Rattle.measurement.specs.declared.IpVersion.{IpVersion}
 use Rattle.measurement.specs.declared.IpVersion.the-variants.{V4, V6}
-use Rattle.measurement.proofs.Pseudo.{pseudo-even}
 use Rattle.rust_reference.specs.Error.{Result, Ok}
 use Rattle.rust_reference.specs.Answers.{rustFlowOf, rustFlow, inBuffer}
 use Rattle.rust_reference.specs.Claims.{NoneAdded, BuildMeasurementTpdu}
 use Rattle.rust_reference.specs.Measurement as rust
-use Rattle.rust_reference.proofs.Checksums.{of-one, of-two, nonzero-of-two}
+use Rattle.rust_reference.proofs.Checksums.{of-one, nonzero-of-two}
 
 module _ (S D : List ℕ) (sport dport s t : ℕ) where
   abbrev src4 : List ℕ

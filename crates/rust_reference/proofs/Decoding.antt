@@ -8,16 +8,16 @@ use mathlib.Core.List.{List, [], _∷_, _++_, append-assoc}
 use mathlib.Core.Bool.{Bool, true, false, not, _||_, _&&_}
 use lib.Dec.{eqb, ltb}
 use lib.ListN.{length, take, drop, getD, length-append, length-take, length-drop}
-use borrow.Author.Tests.{ltb-true, ltb-false, eqb-true, eqb-false, lt-ltb, le-ltb, eq-eqb, ne-eqb}
-use Rattle.error.specs.Outcome.{Outcome, refused, gives, Cause, _⇒_, firstCause}
+use borrow.Author.Tests.{ltb-false, eqb-true, eqb-false, lt-ltb, le-ltb, eq-eqb}
+use Rattle.error.specs.Outcome.{Outcome, Cause, _⇒_, firstCause}
 use Rattle.error.proofs.Causes.{none, passes}
 use Rattle.error.proofs.Tests.{true-not-false, or-neither}
 use Rattle.field.specs.Field.{Bytes, bigEndian, number, bytesAt, field}
-use Rattle.field.proofs.Fields.{bytes-take, bytes-drop, bytes-append, bytes-at, bytes-big-endian, byte-of, number-injective, bytesAt-drop, front-bytes}
+use Rattle.field.proofs.Fields.{bytes-take, bytes-drop, bytes-append, bytes-at, byte-of, number-injective, bytesAt-drop, front-bytes}
 use Rattle.checksum.specs.Sum.{checksumOf}
 use Rattle.checksum.proofs.Carries.{split}
-use Rattle.measurement.specs.Packet.{addressLength, pseudoHeader, measurementMagic, padded, udpProtocol}
-use Rattle.measurement.specs.Read.{payload, lengthWrong, covered, sumWrong, probeCauses, udpCauses, readProbe, readUdp, ihl, ipv4Causes, readIpv4, ipv6Causes, readIpv6, tpduCauses, readOf}
+use Rattle.measurement.specs.Packet.{pseudoHeader, measurementMagic}
+use Rattle.measurement.specs.Read.{payload, lengthWrong, covered, sumWrong, probeCauses, udpCauses, readProbe, readUdp, ihl, ipv4Causes, readIpv4, ipv6Causes, readIpv6, readOf}
 use Rattle.measurement.specs.declared.DecodedTpdu.{DecodedTpdu}
 use Rattle.measurement.specs.declared.MeasurementHeader.{MeasurementHeader}
 use Rattle.measurement.specs.declared.IpVersion.the-variants.{V4, V6}

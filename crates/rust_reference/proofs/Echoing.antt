@@ -2,7 +2,7 @@
 -- Assumes nothing.
 use Prim.Native.Nat.{ℕ, _+_, _*_, _%_, _/_, _≤_}
 use native.Mathlib.Omega.{arith}
-use mathlib.Core.Path.{_≡_, refl, sym, ap, ap₂, _∙_}
+use mathlib.Core.Path.{_≡_, refl, sym, ap, _∙_}
 use mathlib.Core.List.{List, [], _∷_, _++_}
 use mathlib.Core.Bool.{Bool, true, false, not, _||_, _&&_}
 use lib.Dec.{eqb, ltb}
@@ -11,7 +11,7 @@ use borrow.Author.Tests.{ltb-false}
 use Rattle.error.specs.Outcome.{Outcome, refused, gives}
 use Rattle.field.specs.Field.{Bytes, bytesAt}
 use Rattle.field.proofs.Fields.{bytes-take, bytes-drop, bytes-at, whole-bytes}
-use Rattle.measurement.specs.Answer.{writing, writingOf}
+use Rattle.measurement.specs.Answer.{writingOf}
 use Rattle.measurement.specs.Echo.{reversedOf, echoOfTpdu, echoOf}
 use Rattle.measurement.specs.Packet.{addressLength, address, padded, pseudoHeader, ipHeader, udp, buildOf}
 use Rattle.measurement.specs.Read.{readOf}
@@ -20,7 +20,7 @@ use Rattle.measurement.specs.declared.MeasurementHeader.{MeasurementHeader}
 use Rattle.measurement.specs.declared.IpVersion.the-variants.{V4, V6}
 use Rattle.rust_reference.specs.Claims.{NoneAdded, EchoTpdu}
 use Rattle.rust_reference.specs.Error.{DataplaneTestkitError, Result, Ok, Err, UnsupportedIpVersion, returnIf, _>>=_, _>>_}
-use Rattle.rust_reference.specs.Number.{errorNumber, outcomeBy}
+use Rattle.rust_reference.specs.Number.{outcomeBy}
 use Rattle.rust_reference.specs.Values.{index, range, «u16_at»}
 use Rattle.rust_reference.specs.Answers.{flowOf, tpduOf, inBuffer}
 use Rattle.rust_reference.specs.Measurement as rust

@@ -1,16 +1,16 @@
 -- The element walk: the Rust's loop over offsets is document 01's walk on the rest.
 -- Assumes nothing.
-use Prim.Native.Nat.{ℕ, zero, suc, _+_, _-_, _*_, _<_, _≤_}
+use Prim.Native.Nat.{ℕ, zero, suc, _+_, _-_, _<_, _≤_}
 use native.Mathlib.Omega.{arith}
 use native.Mathlib.Decide.{decLe, decLt, ℕ-discrete}
-use mathlib.Core.Path.{_≡_, refl, sym, ap, ap₂, _∙_}
-use mathlib.Core.List.{List, [], _∷_}
+use mathlib.Core.Path.{_≡_, refl, sym, ap, _∙_}
+use mathlib.Core.List.{List}
 use mathlib.Core.Bool.{Bool, true, false, not, _||_, _&&_}
-use lib.Dec.{eqb, ltb, leb}
+use lib.Dec.{eqb, ltb}
 use lib.ListN.{length, drop, getD, length-drop}
 use lib.Seq.{drop-drop, getD-drop}
-use borrow.Author.Tests.{ltb-true, ltb-false, leb-true, leb-false, eqb-true, eqb-false, lt-ltb, le-ltb, le-leb, lt-leb, eq-eqb, ne-eqb}
-use Rattle.error.specs.Outcome.{Outcome, refused, gives, firstCause}
+use borrow.Author.Tests.{ltb-true, ltb-false, lt-ltb, le-ltb, le-leb, lt-leb, eq-eqb, ne-eqb}
+use Rattle.error.specs.Outcome.{refused, gives, firstCause}
 use Rattle.gtpu.specs.Element.{elementType, valueLength, otherLength, elementOf, endOf, elementsFrom, elementsOf}
 use Rattle.gtpu.proofs.Rows.{refuses-27, teid-cut, teid-sound, length-cut, length-other, value-cut, value-sound}
 use Rattle.gtpu.proofs.Walk.{at-end, teidAfter, peerAfter, refuses-list, follows}

@@ -1,15 +1,15 @@
 -- The generator: the Rust's loop comes to the first cause of document 01's rows, or to all packets.
 -- Assumes nothing.
-use Prim.Native.Nat.{ℕ, zero, suc, _+_, _*_, _/_, _<_, _≤_}
+use Prim.Native.Nat.{ℕ, zero, suc, _+_, _*_, _<_, _≤_}
 use native.Mathlib.Omega.{arith}
 use mathlib.Core.Path.{_≡_, refl, sym, ap, ap₂, _∙_, subst}
 use mathlib.Core.Logic.{inl, inr}
-use mathlib.Core.List.{List, [], _∷_, _++_, map, append-nil, append-assoc}
+use mathlib.Core.List.{List, [], _∷_, _++_, append-nil, append-assoc}
 use mathlib.Core.Bool.{Bool, true, false}
 use lib.Dec.{eqb, leb, ltb}
 use lib.ListN.{length, drop}
 use borrow.Author.Tests.{eqb-true, eqb-false, leb-true, leb-false, ltb-true, ltb-false, lt-ltb, le-ltb}
-use Rattle.error.specs.Outcome.{Outcome, refused, gives}
+use Rattle.error.specs.Outcome.{refused, gives}
 use Rattle.field.specs.Field.{Bytes}
 use Rattle.measurement.specs.Packet.{buildOf}
 use Rattle.measurement.specs.declared.InnerIpFlow.{InnerIpFlow}
@@ -26,7 +26,6 @@ use Rattle.rust_reference.specs.Error as error
 use Rattle.rust_reference.specs.Error.{DataplaneTestkitError, Result, Ok, Err, Overflow}
 use Rattle.rust_reference.specs.Number.{errorNumber, outcomeBy, outcomeOf}
 use Rattle.rust_reference.specs.Answers.{rustFlow, vecs, headersOf, packetsInBuffer}
-use Rattle.rust_reference.specs.Measurement.{«build_measurement_tpdu»}
 use Rattle.rust_reference.specs.Traffic.{GeneratedPacket, Generated, attempted, checked, «interval_ns», «for_offset», generate}
 use Rattle.rust_reference.proofs.Branches.{unless, AllOk, all, none}
 use Rattle.rust_reference.proofs.Building.{vec-is}

@@ -1,6 +1,6 @@
 -- Maps and rows: where a sequence stands among rows that rise, and what the operations of the Rust's maps come to there.
 -- Assumes nothing.
-use Prim.Native.Nat.{ℕ, zero, suc, _+_, _-_, _<_, _≤_, max}
+use Prim.Native.Nat.{ℕ, suc, _-_, _<_, _≤_, max}
 use native.Mathlib.Decide.{decLt, ℕ-discrete}
 use native.Mathlib.Omega.{arith}
 use mathlib.Core.Path.{_≡_, refl, sym, ap, ap₂, _∙_, subst}
@@ -9,11 +9,11 @@ use mathlib.Core.Bool.{Bool, true, false, _||_, _&&_}
 use lib.Dec.{eqb, ltb, leb·suc-suc}
 use lib.ListN.{length, getD, set, take, drop}
 use lib.Seq.{set-at, take-at, drop-at, getD-at}
-use borrow.Author.Tests.{ltb-true, ltb-false, eqb-true, eqb-false, lt-ltb, le-ltb, eq-eqb, ne-eqb}
+use borrow.Author.Tests.{ltb-true, eqb-true, lt-ltb, le-ltb, eq-eqb, ne-eqb}
 use Rattle.observer.specs.Observer.{Row, sequencesOf, sentRow, rowAt}
 use Rattle.observer.specs.Judge.{rising}
 use Rattle.observer.specs.Place.{place, holds, placeOf, wasSent, rowOf, highestMarked}
-use Rattle.observer.specs.Sending.{resent, entered}
+use Rattle.observer.specs.Sending.{resent}
 use Rattle.observer.specs.Returning.{returned}
 use Rattle.observer.proofs.Search.{both-left, rising-tail}
 use Rattle.rust_reference.specs.Values.{«u64_max»}

@@ -2,23 +2,22 @@
 -- Assumes nothing.
 use Prim.Native.Nat.{ℕ, _+_, _-_, _<_, _≤_, min, max}
 use native.Mathlib.Omega.{arith}
-use mathlib.Core.Path.{_≡_, refl, sym, ap, ap₂, _∙_, subst}
-use mathlib.Core.Logic.{inl, inr}
+use mathlib.Core.Path.{_≡_, refl, sym, ap, _∙_, subst}
+use mathlib.Core.Logic.{inr}
 use mathlib.Core.List.{List, [], _∷_, _++_}
 use mathlib.Core.Bool.{Bool, true, false, _||_}
 use lib.Dec.{eqb, ltb}
-use lib.ListN.{length, set, take, drop, length-append}
+use lib.ListN.{length, set, length-append}
 use borrow.Author.Tests.{ltb-true, ltb-false, eqb-true, eqb-false, lt-ltb, le-ltb}
 use Rattle.error.specs.Outcome.{Outcome, refused, gives}
 use Rattle.error.proofs.Tests.{true-not-false}
 use Rattle.field.specs.Field.{Bytes}
 use Rattle.measurement.specs.Read.{readOf}
 use Rattle.gtpu.specs.Element.{elementsOf}
-use Rattle.observer.specs.Answer.{observerOf}
-use Rattle.observer.specs.Claims.{Call, sending, returning, indicating}
-use Rattle.observer.specs.Counts.{oneMore, fresh, oneDuplicate, oneOutOfOrder, outOfOrderIf, oneErrorIndication}
+use Rattle.observer.specs.Claims.{sending, returning, indicating}
+use Rattle.observer.specs.Counts.{oneMore, fresh, oneDuplicate, outOfOrderIf, oneErrorIndication}
 use Rattle.observer.specs.declared.ObserverCounts.{ObserverCounts}
-use Rattle.observer.specs.Judge.{wellFormed, judged, Step, step}
+use Rattle.observer.specs.Judge.{wellFormed, Step, step}
 use Rattle.observer.specs.Observer.{Row, Observer, capacity, rows, withRows, withCounts, sentRow}
 use Rattle.observer.specs.Place.{placeOf, wasSent, rowOf, highestMarked}
 use Rattle.observer.specs.Sending.{resent, recordSent}
@@ -31,13 +30,13 @@ use Rattle.observer.proofs.Judging.{well}
 use Rattle.continuity.specs.Returns.{sequenceRead, recordReceivedTpdu, MessageStep, asMessage, unchanged, recordReturnMessage}
 use Rattle.continuity.specs.declared.GtpuReturnDatagramOutcome.{GtpuReturnDatagramOutcome}
 use Rattle.continuity.specs.declared.GtpuReturnDatagramOutcome.the-variants.{MeasurementTpdu, ErrorIndication, EchoResponse, Ignored}
-use Rattle.rust_reference.specs.Claims.{NoneAdded, New, EverySheet, RecordSent, RecordReceivedTpdu, RecordReturnGtpuDatagram}
+use Rattle.rust_reference.specs.Claims.{New, EverySheet, RecordSent, RecordReceivedTpdu, RecordReturnGtpuDatagram}
 use Rattle.rust_reference.specs.Error as error
 use Rattle.rust_reference.specs.Error.{DataplaneTestkitError, Result, Ok, Err, InvalidPacket, TimestampReversed}
 use Rattle.rust_reference.specs.Number.{errorNumber, outcomeBy, outcomeOf}
 use Rattle.rust_reference.specs.Values.{«u64_max», «saturating_add»}
 use Rattle.rust_reference.specs.Map.{Option, None, Some, «is_some_and», «map_or», Entry, get, «contains_key», insert}
-use Rattle.rust_reference.specs.Sheet.{sentOf, receivedOf, highestKey, ValuesFit, Same}
+use Rattle.rust_reference.specs.Sheet.{sentOf, receivedOf, highestKey, Same}
 use Rattle.rust_reference.specs.Answers.{tpduOf}
 use Rattle.rust_reference.specs.Gtpu.{«validate_error_indication_ies»}
 use Rattle.rust_reference.specs.Measurement as measurement

@@ -5,30 +5,29 @@ use native.Mathlib.Nat.{div-le-of-le-mul, min-eq-left, le-trans}
 use native.Mathlib.Omega.{arith}
 use mathlib.Core.Path.{_≡_, refl, sym, ap, ap₂, _∙_, subst}
 use mathlib.Core.List.{List, [], _∷_, _++_, map, append-assoc}
-use mathlib.Core.Bool.{Bool, true, false, _&&_}
-use lib.Dec.{eqb, leb, ltb, lit≤, eqb·suc-zero}
+use mathlib.Core.Bool.{Bool, true, false}
+use lib.Dec.{eqb, ltb, lit≤}
 use lib.ListN.{length, length-map}
-use borrow.Author.Tests.{ltb-true, ltb-false, lt-ltb, le-ltb, eq-eqb, ne-eqb}
+use borrow.Author.Tests.{ltb-true, ltb-false, eq-eqb, ne-eqb}
 use Rattle.error.specs.Outcome.{gives}
 use Rattle.evidence.specs.declared.Latency.{Latency}
 use Rattle.evidence.specs.declared.LatencySummary.{LatencySummary}
 use Rattle.evidence.specs.declared.PacketContinuityBudget.{PacketContinuityBudget}
 use Rattle.evidence.specs.declared.PacketContinuityReport.{PacketContinuityReport}
 use Rattle.observer.specs.Observer.{Row, Observer, rows, sequencesOf}
-use Rattle.observer.specs.declared.ObserverCounts.{ObserverCounts}
 use Rattle.observer.specs.Judge.{rising}
 use Rattle.observer.proofs.Calls.{judged-well}
 use Rattle.observer.proofs.Judging.{well}
 use Rattle.observer.proofs.Keeping.{well-rows}
 use Rattle.observer.proofs.Search.{rising-tail}
 use Rattle.report.specs.Report as leaf
-use Rattle.report.specs.Report.{latenciesOf, total, greatest, least, Run, runs, withinBudget, reporting}
+use Rattle.report.specs.Report.{latenciesOf, total, greatest, least, runs, withinBudget, reporting}
 use Rattle.report.specs.Loops.{longestIn, outageIn, gapOf, sinceOf}
 use Rattle.report.proofs.Runs.{longest-of, outage-of}
 use Rattle.rust_reference.specs.Claims.{Report}
 use Rattle.rust_reference.specs.Answers.{latencyOf, reportOf}
 use Rattle.rust_reference.specs.Values.{«u64_max», «saturating_add», «saturating_add_u128»}
-use Rattle.rust_reference.specs.Map.{Option, None, Some, Entry, keys, values, contains}
+use Rattle.rust_reference.specs.Map.{Some, Entry, keys, values, contains}
 use Rattle.rust_reference.specs.Sheet.{sentOf, receivedOf, ValuesFit, Same}
 use Rattle.rust_reference.specs.Traffic.{ContinuityObserver, «for_latency», «latency_summary», GapSummary, «for_sent», «gap_summary», report}
 use Rattle.rust_reference.proofs.Maps.{Below, Above, rising-above, contains-keys, contains-found}

@@ -7,9 +7,9 @@ use mathlib.Core.List.{List, [], _∷_, _++_}
 use mathlib.Core.Bool.{Bool, true, false, _||_}
 use lib.Dec.{eqb, ltb}
 use lib.ListN.{length, length-append}
-use Rattle.error.specs.Outcome.{Outcome, refused, gives}
+use Rattle.error.specs.Outcome.{Outcome}
 use Rattle.error.proofs.Tests.{true-not-false}
-use Rattle.observer.specs.Observer.{Row, Observer, capacity, rows, sentRow}
+use Rattle.observer.specs.Observer.{Observer, capacity, rows, sentRow}
 use Rattle.observer.specs.Place.{wasSent}
 use Rattle.observer.proofs.Judging.{well}
 use Rattle.observer.proofs.Keeping.{well-rows}

@@ -11,7 +11,6 @@ use Rattle.observer.specs.Sending.{recordSent}
 use Rattle.report.specs.Report.{reporting}
 use Rattle.continuity.specs.Returns.{recordReceivedTpdu, recordReturnMessage}
 use Rattle.continuity.specs.declared.GtpuReturnDatagramOutcome.{GtpuReturnDatagramOutcome}
-use Rattle.rust_reference.specs.Error.{Ok}
 use Rattle.rust_reference.specs.Number.{outcomeOf}
 use Rattle.rust_reference.specs.Values.{«u64_max»}
 use Rattle.rust_reference.specs.Answers.{reportOf}
