@@ -1,0 +1,28 @@
+-- A branch of the Rust comes to an outcome if each of its ways does.
+-- Assumes nothing.
+use mathlib.Core.Path.{_≡_, refl}
+use mathlib.Core.Bool.{Bool, true, false}
+use mathlib.Core.List.{List, _∷_}
+use Rattle.error.specs.Outcome.{Outcome, refused, Cause, _⇒_, firstCause}
+use Rattle.rust_reference.specs.Error.{DataplaneTestkitError, Result, Ok, Err, returnIf, _>>_}
+use Rattle.rust_reference.specs.Number.{errorNumber, outcomeBy}
+
+-- `if test { return Err(error); } rest`
+pub unless : {A B : Type 0} (value : A → B) (test : Bool) (error : DataplaneTestkitError) (rest : Result A) (o : Outcome B)
+    → (test ≡ true → refused (errorNumber error) ≡ o) → (test ≡ false → outcomeBy value rest ≡ o)
+    → outcomeBy value (_>>_ (returnIf test error) rest) ≡ o
+unless value true error rest o f g = f refl
+unless value false error rest o f g = g refl
+
+-- the same beside a row of causes: the Rust's test is the row's, and what follows it is what follows the row
+pub row : {A B : Type 0} (value : A → B) (test : Bool) {c : Bool} (error : DataplaneTestkitError) (rest : Result A) (rows : List Cause) (onward : Outcome B)
+    → test ≡ c → (c ≡ false → outcomeBy value rest ≡ firstCause rows onward)
+    → outcomeBy value (_>>_ (returnIf test error) rest) ≡ firstCause ((c ⇒ errorNumber error) ∷ rows) onward
+unfolding firstCause
+row value test {c = true} error rest rows onward e g = rw e
+row value test {c = false} error rest rows onward e g = rw e (g refl)
+
+-- what holds of a value, if there is one
+pub data AllOk {A : Type 0} (P : A → Type 0) : Result A → Type 0 where
+  all : {x : A} → P x → AllOk P (Ok x)
+  none : {e : DataplaneTestkitError} → AllOk P (Err e)

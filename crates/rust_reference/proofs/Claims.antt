@@ -1,0 +1,31 @@
+-- The claims of specs/Claims.antt, together.
+-- Assumes nothing.
+use mathlib.Core.Path.{refl}
+use Rattle.rust_reference.specs.Claims.{EqualsTheRust}
+use Rattle.rust_reference.proofs.Building.{build}
+use Rattle.rust_reference.proofs.Decoding.{decoded}
+use Rattle.rust_reference.proofs.Echoing.{echoed}
+use Rattle.rust_reference.proofs.Elements.{validate}
+use Rattle.rust_reference.proofs.Generating.{interval-ns, generated}
+use Rattle.rust_reference.proofs.Observing.{new-same, every-same, sending-same, received-same, message-same}
+use Rattle.rust_reference.proofs.Reporting.{report-same}
+use Rattle.rust_reference.proofs.Running.{runs-same, runs-of-2048}
+
+pub equals-the-rust : EqualsTheRust
+equals-the-rust = record {
+  «zero_loss» = refl;
+  «build_measurement_tpdu» = build;
+  «decode_measurement_tpdu» = decoded;
+  «echo_tpdu» = echoed;
+  «validate_error_indication_ies» = validate;
+  «interval_ns» = interval-ns;
+  generate = generated;
+  new = new-same;
+  every-sheet = every-same;
+  «record_sent» = sending-same;
+  «record_received_tpdu» = received-same;
+  «record_return_gtpu_datagram» = message-same;
+  report = report-same;
+  runs = runs-same;
+  runs-up-to-2048 = runs-of-2048;
+}

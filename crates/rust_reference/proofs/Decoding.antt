@@ -1,0 +1,291 @@
+-- Decoding: the Rust's tests are document 01's rows, one by one.
+-- Assumes nothing.
+use Prim.Native.Nat.{ℕ, suc, _+_, _-_, _*_, _/_, _%_, _<_, _≤_}
+use native.Mathlib.Nat.{add-zero}
+use native.Mathlib.Omega.{arith}
+use mathlib.Core.Path.{_≡_, refl, sym, ap, ap₂, _∙_}
+use mathlib.Core.List.{List, [], _∷_, _++_, append-assoc}
+use mathlib.Core.Bool.{Bool, true, false, not, _||_, _&&_}
+use lib.Dec.{eqb, ltb}
+use lib.ListN.{length, take, drop, getD, length-append, length-take, length-drop}
+use borrow.Author.Tests.{ltb-false, eqb-true, eqb-false, lt-ltb, le-ltb, eq-eqb}
+use Rattle.error.specs.Outcome.{Outcome, Cause, _⇒_, firstCause}
+use Rattle.error.proofs.Causes.{none, passes}
+use Rattle.error.proofs.Tests.{true-not-false, or-neither}
+use Rattle.field.specs.Field.{Bytes, bigEndian, number, bytesAt, field}
+use Rattle.field.proofs.Fields.{bytes-take, bytes-drop, bytes-append, bytes-at, byte-of, number-injective, bytesAt-drop, front-bytes}
+use Rattle.checksum.specs.Sum.{checksumOf}
+use Rattle.checksum.proofs.Carries.{split}
+use Rattle.measurement.specs.Packet.{pseudoHeader, measurementMagic}
+use Rattle.measurement.specs.Read.{payload, lengthWrong, covered, sumWrong, probeCauses, udpCauses, readProbe, readUdp, ihl, ipv4Causes, readIpv4, ipv6Causes, readIpv6, readOf}
+use Rattle.measurement.specs.declared.DecodedTpdu.{DecodedTpdu}
+use Rattle.measurement.specs.declared.MeasurementHeader.{MeasurementHeader}
+use Rattle.measurement.specs.declared.IpVersion.the-variants.{V4, V6}
+use Rattle.measurement.proofs.Rows.{row-1, row-2, version-4, version-6}
+use Rattle.rust_reference.specs.Claims.{DecodeMeasurementTpdu}
+use Rattle.rust_reference.specs.Error as error
+use Rattle.rust_reference.specs.Error.{Result, Ok, Err, UnsupportedIpVersion, InvalidPacket, returnIf, _>>=_, _>>_}
+use Rattle.rust_reference.specs.Number.{outcomeBy}
+use Rattle.rust_reference.specs.Values.{index, range, same, «u16_at»}
+use Rattle.rust_reference.specs.Answers.{tpduOf}
+use Rattle.rust_reference.specs.Measurement as rust
+use Rattle.rust_reference.proofs.Branches.{unless, row}
+use Rattle.rust_reference.proofs.Checksums.{of-one, of-two}
+
+-- a u16 is the field of two bytes
+u16-is : (l : List ℕ) (at : ℕ) → «u16_at» l at ≡ field 2 at l
+u16-is l at = let e : getD l (at + 1) 0 ≡ getD l (suc at) 0 = ap (λ (k : ℕ). getD l k 0) (omega arith) in omega (arith, e)
+
+u16-below : (l : List ℕ) (at : ℕ) → Bytes l → «u16_at» l at < 65536
+u16-below l at b = omega (arith, byte-of l at b, byte-of l (at + 1) b)
+
+-- a range is the bytes there
+range-is : (l : List ℕ) (from width : ℕ) → from + width ≤ length l → take width (drop from l) ≡ bytesAt width from l
+range-is l from width h =
+    front-bytes width (drop from l) (omega (arith, length-drop from l)) ∙ sym (bytesAt-drop width from 0 l) ∙ ap (λ (k : ℕ). bytesAt width k l) (add-zero from)
+
+-- slices are equal where their numbers are
+same-refl : (x : List ℕ) → same x x ≡ true
+same-refl [] = refl
+same-refl (x ∷ xs) = rw (eq-eqb x x refl) (same-refl xs)
+
+same-true : (x y : List ℕ) → same x y ≡ true → x ≡ y
+same-true [] [] e = refl
+same-true [] (y ∷ ys) e = absurd (true-not-false (sym e))
+same-true (x ∷ xs) [] e = absurd (true-not-false (sym e))
+same-true (x ∷ xs) (y ∷ ys) e = by (eqb x y) refl e (same-true xs ys)
+  where
+    by : (t : Bool) → eqb x y ≡ t → t && same xs ys ≡ true → (same xs ys ≡ true → xs ≡ ys) → x ∷ xs ≡ y ∷ ys
+    by true f e g = ap₂ (λ (a : ℕ) (l : List ℕ). a ∷ l) (eqb-true x y f) (g e)
+    by false f e g = absurd (true-not-false (sym e))
+
+same-number : (x y : List ℕ) → Bytes x → Bytes y → length x ≡ length y → same x y ≡ eqb (number x) (number y)
+same-number x y b c h = by (eqb (number x) (number y)) refl (same x y) refl
+  where
+    by : (t : Bool) → eqb (number x) (number y) ≡ t → (s : Bool) → same x y ≡ s → s ≡ t
+    by true e true f = refl
+    by false e false f = refl
+    by true e false f =
+        let q : x ≡ y = number-injective x y b c h (eqb-true (number x) (number y) e) in
+        sym f ∙ ap (λ (l : List ℕ). same x l) (sym q) ∙ same-refl x
+    by false e true f = absurd (eqb-false (number x) (number y) e (ap number (same-true x y f)))
+
+-- the probe: 13, 14, and its two numbers
+module _ {A B : Type 0} (value : A → B) (k : MeasurementHeader → Result A) (body : List ℕ) (b : Bytes body) (onward : Outcome B) where
+  magic-is : 24 ≤ length body → not (same (range body 0 8) rust.«MEASUREMENT_MAGIC») ≡ not (eqb (field 8 0 body) (number measurementMagic))
+  unfolding measurementMagic
+  magic-is long =
+      let e : take 8 body ≡ bytesAt 8 0 body = front-bytes 8 body (omega arith) in
+      ap (λ (l : List ℕ). not (same l rust.«MEASUREMENT_MAGIC»)) e
+      ∙ ap not (same-number (bytesAt 8 0 body) rust.«MEASUREMENT_MAGIC» (bytes-at 8 0 body b) (omega arith) refl)
+
+  probed : (24 ≤ length body → outcomeBy value (k (record { sequence = field 8 8 body; «send_timestamp_ns» = field 8 16 body })) ≡ onward)
+      → outcomeBy value (_>>=_ (rust.decode body) k) ≡ firstCause (probeCauses body) onward
+  unfolding rust.decode probeCauses firstCause
+  probed g = by (ltb (length body) 24) refl (not (eqb (field 8 0 body) (number measurementMagic))) refl
+    where
+      by : (t : Bool) → ltb (length body) 24 ≡ t → (u : Bool) → not (eqb (field 8 0 body) (number measurementMagic)) ≡ u
+          → outcomeBy value (_>>=_ (rust.decode body) k) ≡ firstCause (probeCauses body) onward
+      by true e u f = rw (e, rust.decode, firstCause)
+      by false e true f =
+          let long : 24 ≤ length body = ltb-false (length body) 24 e in
+          rw (e, magic-is long, f, rust.decode, firstCause)
+      by false e false f =
+          let long : 24 ≤ length body = ltb-false (length body) 24 e in
+          rw (e, magic-is long, f, rust.decode, firstCause) (rw (range-is body 8 8 (omega arith), range-is body 16 8 (omega arith)) (g long))
+
+-- the UDP part: 10, and what the segment is
+abbrev segmentOf : List ℕ → rust.UdpSegment
+segmentOf u = record { src-port = field 2 0 u; dst-port = field 2 2 u; payload = payload u }
+
+module _ {A B : Type 0} (value : A → B) (k : rust.UdpSegment → Result A) (u : List ℕ) (rows : List Cause) (onward : Outcome B) where
+  length-is : ltb («u16_at» u 4) 8 || ltb (length u) («u16_at» u 4) ≡ lengthWrong u
+  unfolding lengthWrong
+  length-is = rw (u16-is u 4)
+
+  payload-is : range u 8 («u16_at» u 4) ≡ payload u
+  unfolding payload
+  payload-is = rw (u16-is u 4)
+
+  parsed : 8 ≤ length u → (lengthWrong u ≡ false → outcomeBy value (k (segmentOf u)) ≡ firstCause rows onward)
+      → outcomeBy value (_>>=_ (rust.«parse_udp_segment» u) k) ≡ firstCause ((lengthWrong u ⇒ 10) ∷ rows) onward
+  unfolding rust.«parse_udp_segment» firstCause
+  parsed h g = by (lengthWrong u) refl
+    where
+      by : (t : Bool) → lengthWrong u ≡ t → outcomeBy value (_>>=_ (rust.«parse_udp_segment» u) k) ≡ firstCause ((t ⇒ 10) ∷ rows) onward
+      by true e = rw (le-ltb (length u) 8 h, length-is, e, rust.«parse_udp_segment»)
+      by false e = rw (le-ltb (length u) 8 h, length-is, e, rust.«parse_udp_segment») (rw (u16-is u 0, u16-is u 2, payload-is) (g e))
+
+-- the sums of the UDP part
+module _ (src dst u : List ℕ) (p : Bytes src) (q : Bytes dst) (b : Bytes u) (short : length u < 65536) where
+  pseudo4-is : rust.«ipv4_pseudo» src dst u ≡ pseudoHeader V4 src dst (length u)
+  unfolding rust.«ipv4_pseudo» pseudoHeader
+  pseudo4-is =
+      let e : length u % 65536 ≡ length u = omega arith in
+      rw e (append-assoc (src ++ dst ++ (0 ∷ [])) (17 ∷ []) (bigEndian 2 (length u)) ∙ append-assoc (src ++ dst) (0 ∷ []) (17 ∷ bigEndian 2 (length u)))
+
+  pseudo6-is : rust.«ipv6_pseudo» src dst u ≡ pseudoHeader V6 src dst (length u)
+  unfolding rust.«ipv6_pseudo» pseudoHeader
+  pseudo6-is =
+      let e : length u % 4294967296 ≡ length u = omega arith in
+      rw e (append-assoc (src ++ dst ++ bigEndian 4 (length u)) (0 ∷ 0 ∷ 0 ∷ []) (17 ∷ []) ∙ append-assoc (src ++ dst) (bigEndian 4 (length u)) (0 ∷ 0 ∷ 0 ∷ 17 ∷ []))
+
+  sum4-is : length src ≡ 4 → length dst ≡ 4 → not (eqb (rust.«checksum_udp_ipv4_including_checksum» src dst u) 0) ≡ sumWrong V4 src dst u
+  unfolding rust.«checksum_udp_ipv4_including_checksum» sumWrong covered pseudoHeader
+  sum4-is h k =
+      let l : length (pseudoHeader V4 src dst (length u)) ≡ 12 = simp length-append (omega arith) in
+      rw pseudo4-is
+      (ap (λ (n : ℕ). not (eqb n 0))
+      (of-two (pseudoHeader V4 src dst (length u)) u
+      (bytes-append (src ++ dst) (0 ∷ 17 ∷ bigEndian 2 (length u)) (bytes-append src dst p q) (omega arith)) b (omega arith) (omega arith)))
+
+  sum6-is : length src ≡ 16 → length dst ≡ 16 → not (eqb (rust.«checksum_udp_ipv6_including_checksum» src dst u) 0) ≡ sumWrong V6 src dst u
+  unfolding rust.«checksum_udp_ipv6_including_checksum» sumWrong covered pseudoHeader
+  sum6-is h k =
+      let l : length (pseudoHeader V6 src dst (length u)) ≡ 40 = simp length-append (omega arith) in
+      rw pseudo6-is
+      (ap (λ (n : ℕ). not (eqb n 0))
+      (of-two (pseudoHeader V6 src dst (length u)) u
+      (bytes-append (src ++ dst) (bigEndian 4 (length u) ++ (0 ∷ 0 ∷ 0 ∷ 17 ∷ [])) (bytes-append src dst p q) (omega arith)) b (omega arith) (omega arith)))
+
+payload-bytes : (u : List ℕ) → Bytes u → Bytes (payload u)
+unfolding payload
+payload-bytes u b = bytes-take (field 2 4 u - 8) (drop 8 u) (bytes-drop 8 u b)
+
+-- the UDP reader, in the order of each version
+rest4 : List ℕ → List ℕ → List ℕ → Result rust.DecodedTpdu
+rest4 src dst u = do
+  segment ← rust.«parse_udp_segment» u
+  returnIf (not (eqb («u16_at» u 6) 0) && not (eqb (rust.«checksum_udp_ipv4_including_checksum» src dst u) 0)) (InvalidPacket error.invalid-IPv4-UDP-checksum)
+  measurement ← rust.decode (segment .payload)
+  Ok (record { flow = rust.Ipv4 src dst (segment .src-port) (segment .dst-port); measurement = measurement })
+
+rest6 : List ℕ → List ℕ → List ℕ → Result rust.DecodedTpdu
+rest6 src dst u = do
+  returnIf (eqb («u16_at» u 6) 0) (InvalidPacket error.IPv6-UDP-checksum-is-zero)
+  returnIf (not (eqb (rust.«checksum_udp_ipv6_including_checksum» src dst u) 0)) (InvalidPacket error.invalid-IPv6-UDP-checksum)
+  segment ← rust.«parse_udp_segment» u
+  measurement ← rust.decode (segment .payload)
+  Ok (record { flow = rust.Ipv6 src dst (segment .src-port) (segment .dst-port); measurement = measurement })
+
+module _ (src dst u : List ℕ) (p : Bytes src) (q : Bytes dst) (b : Bytes u) (short : length u < 65536) (long : 8 ≤ length u) where
+  udp4 : length src ≡ 4 → length dst ≡ 4 → outcomeBy tpduOf (rest4 src dst u) ≡ readUdp V4 src dst u
+  unfolding rest4 readUdp udpCauses readProbe
+  udp4 h k =
+      parsed tpduOf _ u _ _ long
+      (λ right. row tpduOf (not (eqb («u16_at» u 6) 0) && not (eqb (rust.«checksum_udp_ipv4_including_checksum» src dst u) 0)) _ _ [] (readProbe V4 src dst u)
+      (ap₂ (λ (x : ℕ) (y : Bool). not (eqb x 0) && y) (u16-is u 6) (sum4-is src dst u p q b short h k))
+      (λ c. probed tpduOf _ (payload u) (payload-bytes u b) _ (λ w. refl) ∙ passes (readProbe V4 src dst u) none))
+
+  udp6 : length src ≡ 16 → length dst ≡ 16 → outcomeBy tpduOf (rest6 src dst u) ≡ readUdp V6 src dst u
+  unfolding rest6 readUdp udpCauses readProbe
+  udp6 h k =
+      row tpduOf (eqb («u16_at» u 6) 0) _ _ _ _ (ap (λ (x : ℕ). eqb x 0) (u16-is u 6))
+      (λ z. row tpduOf (not (eqb (rust.«checksum_udp_ipv6_including_checksum» src dst u) 0)) _ _ _ _ (sum6-is src dst u p q b short h k)
+      (λ c. parsed tpduOf _ u [] (readProbe V6 src dst u) long
+      (λ right. probed tpduOf _ (payload u) (payload-bytes u b) _ (λ w. refl) ∙ passes (readProbe V6 src dst u) none)))
+
+-- tests that are written in two ways
+quarter : (k : ℕ) → ltb (k * 4) 20 ≡ ltb k 5
+quarter k = split k 5 (λ h. lt-ltb (k * 4) 20 (omega arith) ∙ sym (lt-ltb k 5 h)) (λ h. le-ltb (k * 4) 20 (omega arith) ∙ sym (le-ltb k 5 h))
+
+or-turned : (a b : Bool) → a || b ≡ b || a
+or-turned true true = refl
+or-turned true false = refl
+or-turned false true = refl
+or-turned false false = refl
+
+module _ (p : List ℕ) (b : Bytes p) where
+  abbrev header : ℕ
+  header = index p 0 % 16 * 4
+
+  abbrev part4 : List ℕ
+  part4 = range p header («u16_at» p 2)
+
+  header-sum : not (eqb (rust.checksum (range p 0 header ∷ [])) 0) ≡ not (eqb (checksumOf (take (ihl p * 4) p)) 0)
+  unfolding ihl
+  header-sum =
+      let e : header - 0 ≡ header = omega arith in
+      rw e (ap (λ (n : ℕ). not (eqb n 0)) (of-one (take header p) (bytes-take header p b) (omega (arith, length-take header p))))
+
+  read4 : 20 ≤ length p → header + 8 ≤ «u16_at» p 2 → «u16_at» p 2 ≤ length p
+      → outcomeBy tpduOf (rest4 (bytesAt 4 12 p) (bytesAt 4 16 p) part4)
+      ≡ readUdp V4 (bytesAt 4 12 p) (bytesAt 4 16 p) (take (field 2 2 p - ihl p * 4) (drop (ihl p * 4) p))
+  unfolding ihl
+  read4 h k l =
+      let n = length-take («u16_at» p 2 - header) (drop header p) in
+      let m = length-drop header p in
+      udp4 (bytesAt 4 12 p) (bytesAt 4 16 p) part4 (bytes-at 4 12 p b) (bytes-at 4 16 p b)
+      (bytes-take («u16_at» p 2 - header) (drop header p) (bytes-drop header p b)) (omega (arith, u16-below p 2 b)) (omega arith) refl refl
+      ∙ ap (λ (n : ℕ). readUdp V4 (bytesAt 4 12 p) (bytesAt 4 16 p) (take (n - header) (drop header p))) (u16-is p 2)
+
+  ipv4-read : outcomeBy tpduOf (rust.«decode_ipv4_measurement» p) ≡ readIpv4 p
+  unfolding rust.«decode_ipv4_measurement» readIpv4 ipv4Causes rest4
+  ipv4-read =
+      row tpduOf (ltb (length p) 20) _ _ _ _ refl
+      (λ c3. row tpduOf (ltb header 20 || ltb (length p) (header + 8)) _ _ _ _ test4
+      (λ c4. row tpduOf (ltb («u16_at» p 2) (header + 8) || ltb (length p) («u16_at» p 2)) _ _ _ _ test5
+      (λ c5. row tpduOf (not (eqb (index p 9) 17)) _ _ _ _ refl
+      (λ c6. row tpduOf (not (eqb (rust.checksum (range p 0 header ∷ [])) 0)) _ _ [] onward header-sum
+      (λ c7.
+      let low = or-neither (ltb («u16_at» p 2) (header + 8)) (ltb (length p) («u16_at» p 2)) (test5 ∙ c5) in
+      read4 (ltb-false (length p) 20 c3) (ltb-false («u16_at» p 2) (header + 8) (low .0)) (ltb-false (length p) («u16_at» p 2) (low .1))
+      ∙ passes onward none)))))
+    where
+      onward : Outcome DecodedTpdu
+      onward = readUdp V4 (bytesAt 4 12 p) (bytesAt 4 16 p) (take (field 2 2 p - ihl p * 4) (drop (ihl p * 4) p))
+
+      test4 : ltb header 20 || ltb (length p) (header + 8) ≡ ltb (ihl p) 5 || ltb (length p) (ihl p * 4 + 8)
+      test4 = unfold ihl in rw (quarter (index p 0 % 16))
+
+      test5 : ltb («u16_at» p 2) (header + 8) || ltb (length p) («u16_at» p 2) ≡ ltb (field 2 2 p) (ihl p * 4 + 8) || ltb (length p) (field 2 2 p)
+      test5 = unfold ihl in rw (u16-is p 2)
+
+  abbrev part6 : List ℕ
+  part6 = range p 40 (40 + «u16_at» p 4)
+
+  read6 : 48 ≤ length p → 8 ≤ «u16_at» p 4 → 40 + «u16_at» p 4 ≤ length p
+      → outcomeBy tpduOf (rest6 (range p 8 24) (range p 24 40) part6) ≡ readUdp V6 (bytesAt 16 8 p) (bytesAt 16 24 p) (take (field 2 4 p) (drop 40 p))
+  read6 h k l =
+      let e : 40 + «u16_at» p 4 - 40 ≡ «u16_at» p 4 = omega arith in
+      let n = length-take («u16_at» p 4) (drop 40 p) in
+      let m = length-drop 40 p in
+      rw (range-is p 8 16 (omega arith), range-is p 24 16 (omega arith), e)
+      (udp6 (bytesAt 16 8 p) (bytesAt 16 24 p) (take («u16_at» p 4) (drop 40 p)) (bytes-at 16 8 p b) (bytes-at 16 24 p b)
+      (bytes-take («u16_at» p 4) (drop 40 p) (bytes-drop 40 p b)) (omega (arith, u16-below p 4 b)) (omega arith) refl refl
+      ∙ ap (λ (n : ℕ). readUdp V6 (bytesAt 16 8 p) (bytesAt 16 24 p) (take n (drop 40 p))) (u16-is p 4))
+
+  ipv6-read : outcomeBy tpduOf (rust.«decode_ipv6_measurement» p) ≡ readIpv6 p
+  unfolding rust.«decode_ipv6_measurement» readIpv6 ipv6Causes rest6
+  ipv6-read =
+      row tpduOf (ltb (length p) 48) _ _ _ _ refl
+      (λ c8. row tpduOf (not (eqb (index p 6) 17)) _ _ _ _ refl
+      (λ c6. row tpduOf (ltb (length p) (40 + «u16_at» p 4) || ltb («u16_at» p 4) 8) _ _ [] onward test9
+      (λ c9.
+      let low = or-neither (ltb (length p) (40 + «u16_at» p 4)) (ltb («u16_at» p 4) 8) (test9 ∙ c9) in
+      read6 (ltb-false (length p) 48 c8) (ltb-false («u16_at» p 4) 8 (low .1)) (ltb-false (length p) (40 + «u16_at» p 4) (low .0))
+      ∙ passes onward none)))
+    where
+      onward : Outcome DecodedTpdu
+      onward = readUdp V6 (bytesAt 16 8 p) (bytesAt 16 24 p) (take (field 2 4 p) (drop 40 p))
+
+      test9 : ltb (length p) (40 + «u16_at» p 4) || ltb («u16_at» p 4) 8 ≡ ltb (field 2 4 p) 8 || ltb (length p) (field 2 4 p + 40)
+      test9 =
+          let e : 40 + field 2 4 p ≡ field 2 4 p + 40 = omega arith in
+          rw (u16-is p 4, e) (or-turned (ltb (length p) (field 2 4 p + 40)) (ltb (field 2 4 p) 8))
+
+-- the whole
+pub decoded : DecodeMeasurementTpdu
+unfolding rust.«decode_measurement_tpdu»
+decoded p b =
+    unless tpduOf (eqb (length p) 0) _ _ _ (λ e. row-1 p (eqb-true (length p) 0 e))
+    (λ e. by (eqb-false (length p) 0 e) (eqb (index p 0 / 16) 4) refl (eqb (index p 0 / 16) 6) refl)
+  where
+    by : (length p ≡ 0 → ⊥) → (t : Bool) → eqb (index p 0 / 16) 4 ≡ t → (u : Bool) → eqb (index p 0 / 16) 6 ≡ u
+        → outcomeBy tpduOf (elim t [
+          | true ↦ rust.«decode_ipv4_measurement» p
+          | false ↦ elim u [ true ↦ rust.«decode_ipv6_measurement» p | false ↦ Err (UnsupportedIpVersion (index p 0 / 16)) ]
+        ]) ≡ readOf p
+    by h true e u f = ipv4-read p b ∙ version-4 p h refl (eqb-true (index p 0 / 16) 4 e)
+    by h false e true f = ipv6-read p b ∙ version-6 p h refl (eqb-true (index p 0 / 16) 6 f)
+    by h false e false f = row-2 p h refl (eqb-false (index p 0 / 16) 4 e) (eqb-false (index p 0 / 16) 6 f)

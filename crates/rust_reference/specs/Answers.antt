@@ -1,0 +1,83 @@
+-- The Rust's values as the port has them ("What must change shape", document 01): flows and T-PDUs; `Vec`s in a lent buffer;
+-- the report.
+-- Assumes nothing.
+use Prim.Native.Nat.{ℕ}
+use mathlib.Core.List.{List, [], _∷_, _++_, map}
+use lib.ListN.{length, drop}
+use Rattle.error.specs.Outcome.{refused, gives}
+use Rattle.measurement.specs.Answer.{Writing}
+use Rattle.measurement.specs.Packet.{address, padded}
+use Rattle.measurement.specs.declared.DecodedTpdu.{DecodedTpdu}
+use Rattle.measurement.specs.declared.InnerIpFlow.{InnerIpFlow}
+use Rattle.measurement.specs.declared.MeasurementHeader.{MeasurementHeader}
+use Rattle.measurement.specs.declared.IpVersion.{IpVersion}
+use Rattle.measurement.specs.declared.IpVersion.the-variants.{V4, V6}
+use Rattle.evidence.specs.declared.Latency.{Latency}
+use Rattle.evidence.specs.declared.Latency.the-variants.{Absent, Summary}
+use Rattle.evidence.specs.declared.LatencySummary.{LatencySummary}
+use Rattle.evidence.specs.declared.PacketContinuityReport.{PacketContinuityReport}
+use Rattle.rust_reference.specs.Error.{Result, Ok, Err}
+use Rattle.rust_reference.specs.Number.{errorNumber}
+use Rattle.rust_reference.specs.Evidence as evidence
+use Rattle.rust_reference.specs.Map.{Option, None, Some}
+use Rattle.rust_reference.specs.Measurement as rust
+use Rattle.rust_reference.specs.Traffic.{GeneratedPacket}
+use Rattle.traffic.specs.Generate.{Generating}
+
+-- A flow of the port, handed to the Rust: "of an IPv4 address only the first 4 bytes count".
+abbrev pub rustFlowOf : IpVersion → List ℕ → List ℕ → ℕ → ℕ → rust.InnerIpFlow
+rustFlowOf V4 src dst src-port dst-port = rust.Ipv4 (address V4 src) (address V4 dst) src-port dst-port
+rustFlowOf V6 src dst src-port dst-port = rust.Ipv6 (address V6 src) (address V6 dst) src-port dst-port
+
+abbrev pub rustFlow : InnerIpFlow → rust.InnerIpFlow
+rustFlow flow = rustFlowOf (flow .version) (flow .src) (flow .dst) (flow .«src_port») (flow .«dst_port»)
+
+-- A flow that the Rust answers: "what makes one leaves the rest 0".
+abbrev pub flowOf : rust.InnerIpFlow → InnerIpFlow
+flowOf (rust.Ipv4 src dst src-port dst-port) = record { version = V4; src = padded src; dst = padded dst; «src_port» = src-port; «dst_port» = dst-port }
+flowOf (rust.Ipv6 src dst src-port dst-port) = record { version = V6; src = padded src; dst = padded dst; «src_port» = src-port; «dst_port» = dst-port }
+
+abbrev pub tpduOf : rust.DecodedTpdu → DecodedTpdu
+tpduOf decoded = record { flow = flowOf (decoded .flow); measurement = decoded .measurement }
+
+-- The Rust's `Vec` at the front of the lent buffer, what lies past it kept; an error, as its number, leaves every byte.
+abbrev pub inBuffer : Result (List ℕ) → List ℕ → Writing
+inBuffer (Ok vec) buffer = record { outcome = gives (length vec); buffer = vec ++ drop (length vec) buffer }
+inBuffer (Err error) buffer = record { outcome = refused (errorNumber error); buffer = buffer }
+
+-- The Rust's packets, one behind the other.
+abbrev pub vecs : List GeneratedPacket → List ℕ
+vecs [] = []
+vecs (p ∷ packets) = p .tpdu ++ vecs packets
+
+-- Their sequences and times.
+abbrev pub headersOf : List GeneratedPacket → List MeasurementHeader
+headersOf packets = map (λ p. record { sequence = p .sequence; «send_timestamp_ns» = p .«send_timestamp_ns» }) packets
+
+-- Likewise of the Rust's packets: end to end at the front of the lent buffer. The engine's next sequence is the Rust's, after an error too.
+abbrev pub packetsInBuffer : Result (List GeneratedPacket) → ℕ → List ℕ → Generating
+packetsInBuffer (Ok packets) next buffer = record { outcome = gives (length (vecs packets)); next = next; buffer = vecs packets ++ drop (length (vecs packets)) buffer }
+packetsInBuffer (Err error) next buffer = record { outcome = refused (errorNumber error); next = next; buffer = buffer }
+
+-- The Rust's report as the port's: `Option` is an enum there ("`Option` becomes an enum").
+abbrev pub latencyOf : Option LatencySummary → Latency
+latencyOf None = Absent
+latencyOf (Some summary) = Summary summary
+
+abbrev pub reportOf : evidence.PacketContinuityReport → PacketContinuityReport
+reportOf rust = record {
+  «window_start_ns» = rust .«window_start_ns»;
+  «window_end_ns» = rust .«window_end_ns»;
+  «sent_packets» = rust .«sent_packets»;
+  «received_packets» = rust .«received_packets»;
+  «lost_packets» = rust .«lost_packets»;
+  «duplicate_packets» = rust .«duplicate_packets»;
+  «out_of_order_packets» = rust .«out_of_order_packets»;
+  «gtpu_error_indications» = rust .«gtpu_error_indications»;
+  «max_consecutive_lost_packets» = rust .«max_consecutive_lost_packets»;
+  «max_gap_duration_ns» = rust .«max_gap_duration_ns»;
+  latency = latencyOf (rust .latency);
+  budget = rust .budget;
+  «forwarding_proven» = rust .«forwarding_proven»;
+  «packet_continuity_proven» = rust .«packet_continuity_proven»;
+}

@@ -1,0 +1,162 @@
+-- Demand 2: "where no refusal marked added is due, the results equal the Rust's". For each ported function of the Rust, by its name, what it
+-- comes to, its errors as numbers, beside document 01's definition, which is the one on the contract of the call. proofs/ proves each claim.
+-- Assumes nothing.
+use Prim.Native.Nat.{ℕ, _≤_}
+use mathlib.Core.Path.{_≡_}
+use mathlib.Core.List.{List, [], _∷_}
+use mathlib.Core.Logic.{_⊎_}
+use mathlib.Core.Bool.{true}
+use lib.ListN.{length}
+use Rattle.error.specs.Number.{outputTooShort, tooManyPackets, malformedObserver, observerFull}
+use Rattle.error.specs.Outcome.{Outcome, refused, gives}
+use Rattle.gtpu.specs.Element.{elementsOf}
+use Rattle.field.specs.Field.{Bytes}
+use Rattle.measurement.specs.Packet.{buildOf}
+use Rattle.measurement.specs.Read.{readOf}
+use Rattle.measurement.specs.Echo.{echoOf}
+use Rattle.measurement.specs.Answer.{writing, writingOf}
+use Rattle.measurement.specs.Claims.{InRange}
+use Rattle.measurement.specs.declared.InnerIpFlow.{InnerIpFlow}
+use Rattle.traffic.specs.Plan.{intervalOf, judgePlan}
+use Rattle.traffic.specs.Generate.{generateOf}
+use Rattle.traffic.specs.declared.TrafficPlan.{TrafficPlan}
+use Rattle.observer.specs.Answer.{observerOf}
+use Rattle.observer.specs.Counts.{fresh}
+use Rattle.observer.specs.Judge.{wellFormed}
+use Rattle.observer.specs.Observer.{Observer, rows}
+use Rattle.observer.specs.Sending.{recordSent}
+use Rattle.continuity.specs.Returns.{recordReceivedTpdu, recordReturnMessage}
+use Rattle.continuity.specs.declared.GtpuReturnDatagramOutcome.{GtpuReturnDatagramOutcome}
+use Rattle.report.specs.Report.{reporting}
+use Rattle.evidence.specs.Budget.{zeroLoss}
+use Rattle.evidence.specs.declared.PacketContinuityBudget.{PacketContinuityBudget}
+use Rattle.rust_reference.specs.Values.{«u64_max»}
+use Rattle.rust_reference.specs.Sheet.{receivedOf, ValuesFit, Same, rustObserver}
+use Rattle.rust_reference.specs.Runs.{Call, Typed, answerTo, afterCall, answersTo, rustAnswersTo, rustAfter}
+use Rattle.rust_reference.specs.Number.{outcomeBy, outcomeOf}
+use Rattle.rust_reference.specs.Answers.{rustFlow, tpduOf, inBuffer, headersOf, packetsInBuffer, reportOf}
+use Rattle.rust_reference.specs.Evidence as evidence
+use Rattle.rust_reference.specs.Gtpu as gtpu
+use Rattle.rust_reference.specs.Measurement as measurement
+use Rattle.rust_reference.specs.Traffic as traffic
+
+-- The numbers that the card marks "added". (30 and 31 are the reflector's.)
+abbrev pub Added : ℕ → Type 0
+Added n = (n ≡ outputTooShort) ⊎ (n ≡ tooManyPackets) ⊎ (n ≡ malformedObserver) ⊎ (n ≡ observerFull)
+
+-- "where no refusal marked added is due"
+abbrev pub NoneAdded : {A : Type 0} → Outcome A → Type 0
+NoneAdded o = (n : ℕ) → Added n → o ≡ refused n → ⊥
+
+-- ---- evidence.rs
+
+abbrev pub ZeroLoss : Type 0
+ZeroLoss = evidence.«zero_loss» ≡ zeroLoss
+
+-- ---- measurement.rs
+
+-- Every flow, sequence and time.
+abbrev pub BuildMeasurementTpdu : Type 0
+BuildMeasurementTpdu = (flow : InnerIpFlow) (sequence time : ℕ) → InRange flow sequence time → (buffer : List ℕ)
+    → NoneAdded (writing (buildOf flow sequence time) buffer .outcome)
+    → inBuffer (measurement.«build_measurement_tpdu» (rustFlow flow) sequence time) buffer ≡ writing (buildOf flow sequence time) buffer
+
+-- Every T-PDU, whatever its bytes and its length.
+abbrev pub DecodeMeasurementTpdu : Type 0
+DecodeMeasurementTpdu = (tpdu : List ℕ) → Bytes tpdu → outcomeBy tpduOf (measurement.«decode_measurement_tpdu» tpdu) ≡ readOf tpdu
+
+abbrev pub EchoTpdu : Type 0
+EchoTpdu = (tpdu : List ℕ) → Bytes tpdu → (buffer : List ℕ) → NoneAdded (writingOf (echoOf tpdu) buffer .outcome)
+    → inBuffer (measurement.«echo_tpdu» tpdu) buffer ≡ writingOf (echoOf tpdu) buffer
+
+-- ---- gtpu.rs
+
+-- Every payload.
+abbrev pub ValidateErrorIndicationIes : Type 0
+ValidateErrorIndicationIes = (payload : List ℕ) → outcomeOf (gtpu.«validate_error_indication_ies» payload) ≡ elementsOf payload
+
+-- ---- traffic.rs
+
+-- Every rate.
+abbrev pub IntervalNs : Type 0
+IntervalNs = (plan : TrafficPlan) → outcomeOf (traffic.«interval_ns» plan) ≡ intervalOf (plan .«target_rate_pps»)
+
+-- Every flow, plan and next sequence: the answer, the engine's next sequence and every byte of the buffer; and each packet's sequence and time.
+abbrev pub Generate : Type 0
+Generate = (flow : InnerIpFlow) (plan : TrafficPlan) (next : ℕ) → InRange flow next (plan .«first_send_timestamp_ns») → (buffer : List ℕ)
+    → NoneAdded (generateOf flow plan next buffer .outcome)
+    → let rust : traffic.Generated = traffic.generate next (rustFlow flow) plan in
+    (packetsInBuffer (rust .result) (rust .«next_sequence») buffer ≡ generateOf flow plan next buffer)
+    × (outcomeBy headersOf (rust .result) ≡ judgePlan plan next .outcome)
+
+-- `Same` relates the Rust's maps and the sheet; a fresh sheet of any columns is the Rust's new observer, and each call on
+-- related ones has the same answer and leaves related ones.
+abbrev pub New : Type 0
+New = (qs ts ls ms : List ℕ) → Same traffic.new (observerOf qs ts ls ms fresh)
+
+-- Every sheet on which 21 is not due is related to an observer of the Rust's type, whether or not calls lead there; its latencies are u64s.
+abbrev pub EverySheet : Type 0
+EverySheet = (o : Observer) → wellFormed o ≡ true → ValuesFit (receivedOf (rows o)) → Same (rustObserver o) o
+
+-- The Rust's `record_sent` answers nothing.
+abbrev pub RecordSent : Type 0
+RecordSent = (rust : traffic.ContinuityObserver) (o : Observer) → Same rust o → (sequence time : ℕ)
+    → NoneAdded (recordSent o sequence time .outcome)
+    → (gives tt ≡ recordSent o sequence time .outcome) × Same (traffic.«record_sent» rust sequence time) (recordSent o sequence time .observer)
+
+-- Neither return call has an added refusal: 21 is not due on a related sheet.
+abbrev pub RecordReceivedTpdu : Type 0
+RecordReceivedTpdu = (rust : traffic.ContinuityObserver) (o : Observer) → Same rust o → (time : ℕ) → time ≤ «u64_max» → (tpdu : List ℕ) → Bytes tpdu
+    → let after : traffic.Recorded (Unit {0}) = traffic.«record_received_tpdu» rust time tpdu in
+    (outcomeOf (after .result) ≡ recordReceivedTpdu o time tpdu .outcome) × Same (after .observer) (recordReceivedTpdu o time tpdu .observer)
+
+abbrev pub RecordReturnGtpuDatagram : Type 0
+RecordReturnGtpuDatagram = (rust : traffic.ContinuityObserver) (o : Observer) → Same rust o → (time : ℕ) → time ≤ «u64_max»
+    → (messageType : ℕ) (payload : List ℕ) → Bytes payload
+    → let after : traffic.Recorded GtpuReturnDatagramOutcome = traffic.«record_return_gtpu_datagram» rust time messageType payload in
+    (outcomeOf (after .result) ≡ recordReturnMessage o time messageType payload .outcome) × Same (after .observer) (recordReturnMessage o time messageType payload .observer)
+
+-- Every window and budget.
+abbrev pub Report : Type 0
+Report = (rust : traffic.ContinuityObserver) (o : Observer) → Same rust o → (windowStart windowEnd : ℕ) (budget : PacketContinuityBudget)
+    → gives (reportOf (traffic.report rust windowStart windowEnd budget)) ≡ reporting o windowStart windowEnd budget
+
+-- ---- whole runs
+
+abbrev pub AllTyped : List Call → Type 0
+AllTyped [] = Unit {0}
+AllTyped (call ∷ calls) = Typed call × AllTyped calls
+
+-- No refusal marked added is due at any call of the list.
+abbrev pub NoneAddedIn : Observer → List Call → Type 0
+NoneAddedIn o [] = Unit {0}
+NoneAddedIn o (call ∷ calls) = NoneAdded (answerTo o call) × NoneAddedIn (afterCall o call) calls
+
+-- Every list of calls on a fresh sheet of any columns: every answer, each report on the way among them, is the Rust's.
+abbrev pub Runs : Type 0
+Runs = (qs ts ls ms : List ℕ) (calls : List Call) → AllTyped calls → NoneAddedIn (observerOf qs ts ls ms fresh) calls
+    → rustAnswersTo traffic.new calls ≡ answersTo (observerOf qs ts ls ms fresh) calls
+
+-- "runs up to 2,048 sequences": with columns of 2,048 entries, all that is asked is that the Rust's map of what was sent ends with no more.
+abbrev pub RunsUpTo2048 : Type 0
+RunsUpTo2048 = (qs ts ls ms : List ℕ) → 2048 ≤ length qs → 2048 ≤ length ts → 2048 ≤ length ls → 2048 ≤ length ms
+    → (calls : List Call) → AllTyped calls → length (rustAfter traffic.new calls .sent) ≤ 2048
+    → rustAnswersTo traffic.new calls ≡ answersTo (observerOf qs ts ls ms fresh) calls
+
+-- All of it, by the Rust's names.
+pub record EqualsTheRust : Type 0 where
+  pub «zero_loss» : ZeroLoss
+  pub «build_measurement_tpdu» : BuildMeasurementTpdu
+  pub «decode_measurement_tpdu» : DecodeMeasurementTpdu
+  pub «echo_tpdu» : EchoTpdu
+  pub «validate_error_indication_ies» : ValidateErrorIndicationIes
+  pub «interval_ns» : IntervalNs
+  pub generate : Generate
+  pub new : New
+  pub every-sheet : EverySheet
+  pub «record_sent» : RecordSent
+  pub «record_received_tpdu» : RecordReceivedTpdu
+  pub «record_return_gtpu_datagram» : RecordReturnGtpuDatagram
+  pub report : Report
+  pub runs : Runs
+  pub runs-up-to-2048 : RunsUpTo2048

@@ -1,0 +1,74 @@
+-- The Rust's gtpu.rs: the message types that the observer names, lines 17 to 26, and `validate_error_indication_ies`, lines 109 to 189.
+-- Offsets are `usize` there, and every `checked_add` succeeds: an offset is at most the payload's length when 65,538 at most is added to it,
+-- and a slice of bytes has fewer than 2^63.
+-- Assumes nothing.
+use Prim.Native.Nat.{ℕ, zero, suc, _+_}
+use mathlib.Core.List.{List}
+use mathlib.Core.Bool.{Bool, true, false, not, _&&_}
+use lib.Dec.{eqb, ltb, leb}
+use lib.ListN.{length}
+use Rattle.rust_reference.specs.Values.{index, «u16_at»}
+use Rattle.rust_reference.specs.Error.{Result, Ok, Truncated, InvalidPacket, Err, returnIf, _>>_, TEID-Data-I-IE, GTP-U-Peer-Address-IE, GTP-U-TLV-IE, GTP-U-Peer-Address-IE-length-must-be-IPv4-or-IPv6, unsupported-fixed-length-GTP-U-IE, Error-Indication-missing-TEID-Data-I-IE, Error-Indication-missing-GTP-U-Peer-Address-IE}
+
+abbrev pub «GTPU_MSG_ECHO_RESPONSE» : ℕ
+«GTPU_MSG_ECHO_RESPONSE» = 2
+
+abbrev pub «GTPU_MSG_ERROR_INDICATION» : ℕ
+«GTPU_MSG_ERROR_INDICATION» = 26
+
+abbrev pub «GTPU_MSG_SUPPORTED_EXTENSION_HEADERS_NOTIFICATION» : ℕ
+«GTPU_MSG_SUPPORTED_EXTENSION_HEADERS_NOTIFICATION» = 31
+
+abbrev pub «GTPU_MSG_END_MARKER» : ℕ
+«GTPU_MSG_END_MARKER» = 254
+
+abbrev pub «GTPU_MSG_GPDU» : ℕ
+«GTPU_MSG_GPDU» = 255
+
+-- lines 178 to 188: behind the loop
+unfoldable pub «required_ies» : Bool → Bool → Result (Unit {0})
+«required_ies» has-teid-data has-peer-address = do
+  returnIf (not has-teid-data) (InvalidPacket Error-Indication-missing-TEID-Data-I-IE)
+  returnIf (not has-peer-address) (InvalidPacket Error-Indication-missing-GTP-U-Peer-Address-IE)
+  Ok tt
+
+-- lines 114 to 176: `while offset < payload.len()`, at most so many turns. Each turn raises the offset, so the payload's length is enough of
+-- them.
+unfoldable pub «while_ies» : ℕ → List ℕ → ℕ → Bool → Bool → Result (Unit {0})
+«while_ies» zero payload offset has-teid-data has-peer-address = «required_ies» has-teid-data has-peer-address
+«while_ies» (suc turns) payload offset has-teid-data has-peer-address =
+    elim (ltb offset (length payload)) [
+      | false ↦ «required_ies» has-teid-data has-peer-address
+      | true ↦
+          let ie-type : ℕ = index payload offset in
+          elim (eqb ie-type 16) [
+            | true ↦ do
+              let end : ℕ = offset + 1 + 4
+              returnIf (ltb (length payload) end) (Truncated TEID-Data-I-IE)
+              «while_ies» turns payload end true has-peer-address
+            | false ↦
+                elim (eqb ie-type 133) [
+                  | true ↦ do
+                    let len-end : ℕ = offset + 1 + 2
+                    returnIf (ltb (length payload) len-end) (Truncated GTP-U-Peer-Address-IE)
+                    let len : ℕ = «u16_at» payload (offset + 1)
+                    returnIf (not (eqb len 4) && not (eqb len 16)) (InvalidPacket GTP-U-Peer-Address-IE-length-must-be-IPv4-or-IPv6)
+                    let value-end : ℕ = len-end + len
+                    returnIf (ltb (length payload) value-end) (Truncated GTP-U-Peer-Address-IE)
+                    «while_ies» turns payload value-end has-teid-data true
+                  | false ↦
+                      elim (leb 128 ie-type) [
+                        | true ↦ do
+                          let len-end : ℕ = offset + 1 + 2
+                          returnIf (ltb (length payload) len-end) (Truncated GTP-U-TLV-IE)
+                          let end : ℕ = len-end + «u16_at» payload (offset + 1)
+                          returnIf (ltb (length payload) end) (Truncated GTP-U-TLV-IE)
+                          «while_ies» turns payload end has-teid-data has-peer-address
+                        | false ↦ Err (InvalidPacket unsupported-fixed-length-GTP-U-IE)
+                      ]
+                ]
+          ]
+    ]
+
+unfoldable pub «validate_error_indication_ies» : List ℕ → Result (Unit {0})
+«validate_error_indication_ies» payload = «while_ies» (length payload) payload 0 false false

@@ -1,0 +1,13 @@
+-- The Rust, a file for each of its files; its errors as document 01's numbers; and what is claimed.
+pub mod Error
+pub mod Values
+pub mod Map
+pub mod Number
+pub mod Gtpu
+pub mod Measurement
+pub mod Evidence
+pub mod Traffic
+pub mod Sheet
+pub mod Answers
+pub mod Runs
+pub mod Claims
