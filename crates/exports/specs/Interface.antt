@@ -34,10 +34,6 @@ use Rattle.exports.specs.declared.TestkitRecorded.{TestkitRecorded}
 use Rattle.exports.specs.declared.TestkitTpdu.{TestkitTpdu}
 use Rattle.exports.specs.declared.TestkitWritten.{TestkitWritten}
 
--- 4 stands for IPv4, and every other number for IPv6: the card has no number for a third version.
-unfoldable pub versionNumbered : ℕ → IpVersion
-versionNumbered n = elim (eqb n 4) [ true ↦ V4 | false ↦ V6 ]
-
 abbrev pub versionNumber : IpVersion → ℕ
 versionNumber V4 = 4
 versionNumber V6 = 6

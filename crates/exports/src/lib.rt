@@ -36,7 +36,7 @@ ghost use Rattle.continuity.specs.Returns.{recordReceivedTpdu, recordReturnMess
 ghost use Rattle.continuity.specs.Answer.{messageMeans};
 ghost use Rattle.report.specs.Report.{reporting};
 ghost use Rattle.report.specs.Answer.{reportedMeans};
-ghost use Rattle.exports.specs.Interface.{versionNumbered, versionNumber, flowOf, writtenNumbers, decodingNumber, tpduNumbers, planOf, generatedNumbers, outcomeNumber, countsOf, recordedNumbers, RecordedStep, kindNumber, ignoredType, messageNumbers, MessageStepNumbers, latencyNumbers, budgetOf, reportNumbers};
+ghost use Rattle.exports.specs.Interface.{versionNumber, flowOf, writtenNumbers, decodingNumber, tpduNumbers, planOf, generatedNumbers, outcomeNumber, countsOf, recordedNumbers, RecordedStep, kindNumber, ignoredType, messageNumbers, MessageStepNumbers, latencyNumbers, budgetOf, reportNumbers};
 
 // What a call that writes into a lent buffer answers: 0 and how many bytes it wrote, or a refusal's number and 0 bytes.
 #[repr(C)]
@@ -54,16 +54,6 @@ pub struct TestkitTpdu {
     pub dst_port: u16,
     pub sequence: u64,
     pub send_timestamp_ns: u64,
-}
-
-// The version that a number stands for: 4 is IPv4, every other number IPv6. The card has no number for a third.
-fn version_of(number: u8) -> IpVersion
-    ensures { λ r. ⌜ r ≡ versionNumbered number ⌝ }
-{
-    if number == 4 {
-        return IpVersion::V4;
-    }
-    IpVersion::V6
 }
 
 // A writer's answer in numbers.
@@ -141,7 +131,7 @@ pub extern "C" fn testkit_build(
     ensures buffer { λ _. ⌜ now (out .exit) ≡ writing (buildOf (flowOf version (now (src .entry)) (now (dst .entry)) «src_port» «dst_port») sequence «send_timestamp_ns») (now (out .entry)) .buffer ⌝ }
 {
     let flow = InnerIpFlow {
-        version: version_of(version),
+        version: measurement::version_of(version),
         src: *src,
         dst: *dst,
         src_port: src_port,
@@ -217,7 +207,7 @@ pub extern "C" fn testkit_generate(
     ensures buffer { λ _. ⌜ now (out .exit) ≡ generateOf (flowOf version (now (src .entry)) (now (dst .entry)) «src_port» «dst_port») (planOf «packet_count» «target_rate_pps» «first_send_timestamp_ns») «next_sequence» (now (out .entry)) .buffer ⌝ }
 {
     let flow = InnerIpFlow {
-        version: version_of(version),
+        version: measurement::version_of(version),
         src: *src,
         dst: *dst,
         src_port: src_port,

@@ -12,6 +12,10 @@ use Rattle.measurement.specs.declared.InnerIpFlow.{InnerIpFlow}
 use Rattle.measurement.specs.declared.IpVersion.{IpVersion}
 use Rattle.measurement.specs.declared.IpVersion.the-variants.{V4, V6}
 
+-- A version as a number: 4 stands for IPv4, and every other number for IPv6. The card has no number for a third version.
+unfoldable pub versionNumbered : ℕ → IpVersion
+versionNumbered n = elim (eqb n 4) [ true ↦ V4 | false ↦ V6 ]
+
 -- Addresses: "of an IPv4 address only the first 4 bytes count, and what makes one leaves the rest 0" (document 01).
 unfoldable pub addressLength : IpVersion → ℕ
 addressLength V4 = 4

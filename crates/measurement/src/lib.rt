@@ -3,12 +3,22 @@
 // measurement_build, measurement_decode and measurement_echo.
 ghost use mathlib.Core.Path.{_≡_};
 ghost use Rattle.checksum.specs.Sum.{sumOf, foldOf};
-ghost use Rattle.measurement.specs.Packet.{address, pseudoHeader, probe};
+ghost use Rattle.measurement.specs.Packet.{versionNumbered, address, pseudoHeader, probe};
 ghost use Rattle.measurement.specs.Echo.{reversedOf};
 
 pub enum IpVersion {
     V4,
     V6,
+}
+
+// The version that a number stands for: 4 is IPv4, every other number IPv6. The card has no number for a third.
+pub fn version_of(number: u8) -> IpVersion
+    ensures { λ r. ⌜ r ≡ versionNumbered number ⌝ }
+{
+    if number == 4 {
+        return IpVersion::V4;
+    }
+    IpVersion::V6
 }
 
 // An inner IP/UDP flow. Of an IPv4 address only the first 4 bytes count.

@@ -1,10 +1,10 @@
--- `exports::version_of` meets its contract.
+-- `measurement::version_of` meets its contract.
 -- Assumes nothing.
 use mathlib.Core.Path.{sym}
 use borrow.Author.Tests.{eq-eqb, ne-eqb}
-use Rattle.exports.specs.Interface.{versionNumbered}
-use Rattle.exports.proofs.version_of.Statement.{statement}
-use Rattle.exports.proofs.version_of.Tie as tie
+use Rattle.measurement.specs.Packet.{versionNumbered}
+use Rattle.measurement.proofs.version_of.Statement.{statement}
+use Rattle.measurement.proofs.version_of.Tie as tie
 
 returns : tie.Need-returns
 unfolding versionNumbered

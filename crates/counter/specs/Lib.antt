@@ -1,0 +1,2 @@
+-- Counts that saturate.
+pub mod Counter

@@ -1,0 +1,2 @@
+-- What a message is answered, by what the search for its session found.
+pub mod Handling

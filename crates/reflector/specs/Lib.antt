@@ -1,0 +1,2 @@
+-- The reflector's call that handles a message.
+pub mod Handle

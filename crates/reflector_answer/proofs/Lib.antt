@@ -1,0 +1,3 @@
+-- The reflector's answers at each way out.
+pub mod Answers
+pub mod Payload

@@ -1,0 +1,81 @@
+-- What a call that handles a message hands back: the code's answer, the state and the output. "A refusal returns its number and nothing else",
+-- so what stands beside it is all zeros, and so it is where nothing is sent.
+-- Assumes nothing.
+use Prim.Native.Nat.{ℕ}
+use mathlib.Core.Path.{_≡_}
+use mathlib.Core.List.{List, [], _∷_, _++_}
+use mathlib.Core.Bool.{true, false}
+use mathlib.Core.Option.{Option}
+use lib.Dec.{ltb}
+use lib.ListN.{length, drop, replicate}
+use Rattle.error.specs.Number.{outputTooShort}
+use Rattle.error.specs.Outcome.{Outcome, refused, gives, _⇒_, firstCause}
+use Rattle.measurement.specs.declared.IpVersion.the-variants.{V4}
+use Rattle.gtpu.specs.Message.{gtpuMsgGpdu}
+use Rattle.reflector_answer.specs.State.{stateCounted}
+use Rattle.reflector_answer.specs.declared.ReflectorCounter.the-variants.{GpduForwarded}
+use Rattle.reflector_answer.specs.declared.ReflectorSendReason.{ReflectorSendReason}
+use Rattle.reflector_sessions.specs.Judge.{tableCauses}
+use Rattle.reflector_answer.specs.Answer.{Payload, written, handedOn, Outbound, Action, noop, send, Answer, answer}
+use Rattle.reflector_answer.specs.declared.GtpuMessage.{GtpuMessage}
+use Rattle.reflector_answer.specs.declared.Handled.{Handled}
+use Rattle.reflector_answer.specs.declared.MultiSessionReflectorConfig.{MultiSessionReflectorConfig}
+use Rattle.reflector_answer.specs.declared.OutboundMessage.{OutboundMessage}
+use Rattle.reflector_answer.specs.declared.ReflectorAction.{ReflectorAction}
+use Rattle.reflector_answer.specs.declared.ReflectorAction.the-variants.{Refused, Noop, Send}
+use Rattle.reflector_sessions.specs.declared.ReflectorSession.{ReflectorSession}
+use Rattle.reflector_answer.specs.declared.ReflectorState.{ReflectorState}
+use Rattle.reflector_answer.specs.declared.SequenceNumber.the-variants.{Absent}
+use Rattle.reflector_sessions.specs.declared.SocketAddr.{SocketAddr}
+
+abbrev pub noAddress : SocketAddr
+noAddress = record { version = V4; address = replicate 16 0; port = 0 }
+
+abbrev pub nothingSent : OutboundMessage
+nothingSent = record { destination = noAddress; teid = 0; «message_type» = 0; «sequence_number» = Absent }
+
+-- How many bytes of a payload are in the output.
+abbrev pub writtenLength : Payload → ℕ
+writtenLength (written bytes) = length bytes
+writtenLength handedOn = 0
+
+-- What each case of the code's answer means.
+abbrev pub actionOf : Outcome Action → ReflectorAction
+actionOf (refused number) = Refused number
+actionOf (gives (noop reason)) = Noop reason
+actionOf (gives (send message)) = Send (message .reason) (writtenLength (message .payload))
+
+abbrev pub messageOf : Outcome Action → OutboundMessage
+messageOf (refused number) = nothingSent
+messageOf (gives (noop reason)) = nothingSent
+messageOf (gives (send message)) =
+    record { destination = message .destination; teid = message .teid; «message_type» = message .messageType; «sequence_number» = message .sequence }
+
+abbrev pub handledOf : Answer → Handled
+handledOf a = record { action = actionOf (a .outcome); message = messageOf (a .outcome); state = a .state }
+
+-- A G-PDU that is sent on, with so many bytes in the output.
+abbrev pub forwarded : ReflectorState → ReflectorSendReason → SocketAddr → ℕ → ℕ → Handled
+forwarded state reason destination teid bytes = record {
+  action = Send reason bytes;
+  message = record { destination = destination; teid = teid; «message_type» = gtpuMsgGpdu; «sequence_number» = Absent };
+  state = stateCounted GpduForwarded state;
+}
+
+-- A payload at the front of the output. "On success, output bytes past the answer keep their contents."
+abbrev pub placed : Outcome Action → List ℕ → List ℕ
+placed (refused number) buffer = buffer
+placed (gives (noop reason)) buffer = buffer
+placed (gives (send message)) buffer = elim (message .payload) [ written bytes ↦ bytes ++ drop (length bytes) buffer | handedOn ↦ buffer ]
+
+-- A call's answer and the output as it leaves it are those of an answer on this output.
+abbrev pub Answers : Handled → List ℕ → Answer → List ℕ → Type 0
+Answers r after a before = (r ≡ handledOf a) × (after ≡ placed (a .outcome) before)
+
+-- "It is judged 30, 31, 15 (output under 72 bytes), then by type." A refusal by these leaves all.
+unfoldable pub handleFound : ℕ → ℕ → MultiSessionReflectorConfig → ReflectorState → Option ReflectorSession → SocketAddr → GtpuMessage → List ℕ → List ℕ → Answer
+handleFound rows used config state session source message payload buffer =
+    elim (firstCause (tableCauses rows used (config .«max_sessions») ++ (ltb (length buffer) 72 ⇒ outputTooShort) ∷ []) (gives (tt {0}))) [
+      | refused number ↦ record { outcome = refused number; state = state }
+      | gives u ↦ answer config state session source message payload
+    ]
