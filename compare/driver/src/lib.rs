@@ -5,6 +5,7 @@
 #![deny(unsafe_code)]
 
 pub mod answers;
+pub mod batch;
 pub mod cases;
 pub mod checksum;
 pub mod damage;

@@ -8,7 +8,7 @@ use std::env;
 use std::process::ExitCode;
 
 use driver::part::{grouped, Part};
-use driver::{answers, cases, checksum, gtpu, measurement, observer, tally, traffic};
+use driver::{answers, batch, cases, checksum, gtpu, measurement, observer, tally, traffic};
 
 const USAGE: &str = "usage: compare [--seed N] [--rounds N] [--long]";
 
@@ -100,6 +100,8 @@ fn main() -> ExitCode {
     total.add(observer::runs(seed, rounds));
     total.add(observer::states(seed, rounds));
     total.add(observer::malformed(seed, rounds));
+    total.add(batch::batches(seed, rounds));
+    total.add(batch::malformed_batches(seed, rounds));
     total.add(tally::tallies(seed, rounds));
 
     println!(

@@ -19,7 +19,7 @@ use crate::sheets::{capacity, difference, fresh, holding, questions, MOST_ROWS};
 use crate::wild::any_probe;
 
 /// Numbers that the Rust does not have.
-const SHEET_MALFORMED: u8 = 21;
+pub(crate) const SHEET_MALFORMED: u8 = 21;
 const SHEET_FULL: u8 = 22;
 
 const G_PDU: u8 = 255;
@@ -79,7 +79,7 @@ pub fn states(seed: u64, rounds: u64) -> Part {
 }
 
 /// A sheet of few rows; every 512th has 2,048.
-fn any_rows(random: &mut Random, round: u64) -> usize {
+pub(crate) fn any_rows(random: &mut Random, round: u64) -> usize {
     match round % 512 {
         0 => MOST_ROWS,
         _ => random.length(48),
@@ -206,17 +206,17 @@ impl Call {
 }
 
 /// A sheet of ours beside an observer of the Rust's.
-struct Pair {
-    ours: RunSheet,
+pub(crate) struct Pair {
+    pub(crate) ours: RunSheet,
     rust: Observer,
     /// What the observer holds.
-    contents: Sheet,
+    pub(crate) contents: Sheet,
     /// What stands as latency on rows of ours that have not returned, if it is not 0.
     unmarked_latencies: BTreeMap<u64, u64>,
 }
 
 impl Pair {
-    fn new(sheet: RunSheet, contents: Sheet) -> Self {
+    pub(crate) fn new(sheet: RunSheet, contents: Sheet) -> Self {
         Self {
             ours: holding(&sheet, &contents),
             rust: Observer::from_sheet(&contents),
@@ -235,7 +235,7 @@ impl Pair {
     }
 
     /// Our sheet as it has to be for what the observer holds: every cell past the used rows kept.
-    fn due(&self) -> RunSheet {
+    pub(crate) fn due(&self) -> RunSheet {
         let mut due = holding(&self.ours, &self.contents);
         if !self.unmarked_latencies.is_empty() {
             for (at, row) in self.contents.rows.iter().enumerate() {
@@ -261,8 +261,8 @@ impl Pair {
                 .is_err()
     }
 
-    /// Makes a call on both: the answers, the counts and every cell must be equal afterwards.
-    fn call(&mut self, part: &mut Part, seen: &mut Seen, call: &Call) {
+    /// Makes a call on the Rust's observer: what ours has to answer.
+    pub(crate) fn due_answer(&mut self, seen: &mut Seen, call: &Call) -> Noted {
         let due_answer = if self.full_for(call) {
             Noted {
                 number: SHEET_FULL,
@@ -271,17 +271,23 @@ impl Pair {
         } else {
             call.on_rust(&mut self.rust)
         };
+        self.contents = self.rust.sheet();
+        seen.add(due_answer.number);
+        due_answer
+    }
+
+    /// Makes a call on both: the answers, the counts and every cell must be equal afterwards.
+    fn call(&mut self, part: &mut Part, seen: &mut Seen, call: &Call) {
+        let due_answer = self.due_answer(seen, call);
         let mut ours = self.ours.clone();
         let answer = call.on_ours(&mut ours);
-        self.contents = self.rust.sheet();
         let due = self.due();
-        seen.add(due_answer.number);
         let answer = (answer, difference(&ours, &due));
         part.case(call.input(), answer, (due_answer, None));
         self.ours = due;
     }
 
-    fn reports(&self, part: &mut Part, random: &mut Random) {
+    pub(crate) fn reports(&self, part: &mut Part, random: &mut Random) {
         let report = |(start, end, budget)| Report::from(self.rust.report(start, end, budget));
         for question in questions(random, &self.contents, report) {
             let (start, end, budget) = question;
@@ -407,7 +413,7 @@ pub(crate) fn any_call(random: &mut Random, rows: &[Row], base: u64, capacity: u
 }
 
 /// A time soon after another, as a rule; or just before it, the same, or any.
-fn time_near(random: &mut Random, time: u64) -> u64 {
+pub(crate) fn time_near(random: &mut Random, time: u64) -> u64 {
     match random.below(16) {
         0 => [0, u64::MAX, random.number()][random.below(3)],
         1 => time.saturating_sub(1),
@@ -470,7 +476,7 @@ pub(crate) fn any_contents(random: &mut Random, rows: usize) -> Sheet {
 }
 
 /// Makes a full sheet of at least two rows malformed, in one of the four ways.
-fn spoil(random: &mut Random, sheet: &mut RunSheet, way: u64) {
+pub(crate) fn spoil(random: &mut Random, sheet: &mut RunSheet, way: u64) {
     let used = sheet.counts.used;
     let at = random.below(used - 1);
     match way {

@@ -47,6 +47,42 @@ unsafe extern "C" {
         tpdu: *const u8,
         length: usize,
     ) -> TestkitRecorded;
+    fn testkit_record_sent_plan(
+        sequences: *mut u64,
+        sequences_length: usize,
+        send_timestamps: *mut u64,
+        send_timestamps_length: usize,
+        latencies: *mut u64,
+        latencies_length: usize,
+        marks: *mut u8,
+        marks_length: usize,
+        counts: Counts,
+        first_sequence: u64,
+        first_send_timestamp_ns: u64,
+        interval_ns: u64,
+        packet_count: u64,
+    ) -> TestkitPlanRecorded;
+    fn testkit_record_received_tpdus(
+        sequences: *const u64,
+        sequences_length: usize,
+        send_timestamps: *const u64,
+        send_timestamps_length: usize,
+        latencies: *mut u64,
+        latencies_length: usize,
+        marks: *mut u8,
+        marks_length: usize,
+        counts: Counts,
+        return_timestamps: *const u64,
+        return_timestamps_length: usize,
+        lengths: *const usize,
+        lengths_length: usize,
+        tpdus: *const u8,
+        tpdus_length: usize,
+        returned: *mut u64,
+        returned_length: usize,
+        numbers: *mut u8,
+        numbers_length: usize,
+    ) -> TestkitReturnsRecorded;
     fn testkit_record_return_gtpu_datagram(
         sequences: *const u64,
         sequences_length: usize,
@@ -105,6 +141,21 @@ pub struct Counts {
 #[repr(C)]
 struct TestkitRecorded {
     number: u8,
+    counts: Counts,
+}
+
+/// How many packets of a plan were entered, and 0 or the number of the first that was refused.
+#[repr(C)]
+struct TestkitPlanRecorded {
+    entered: u64,
+    number: u8,
+    counts: Counts,
+}
+
+/// How many returns a list had.
+#[repr(C)]
+struct TestkitReturnsRecorded {
+    returns: usize,
     counts: Counts,
 }
 
@@ -235,6 +286,61 @@ impl RunSheet {
             )
         };
         self.recorded(recorded)
+    }
+
+    /// Enters the packets of a plan: how many were entered, and 0 or the first refusal's number.
+    pub fn record_sent_plan(
+        &mut self,
+        first_sequence: u64,
+        first_send_time: u64,
+        interval: u64,
+        packet_count: u64,
+    ) -> (u64, u8) {
+        // SAFETY: as in `record_sent`.
+        let recorded = unsafe {
+            on_sheet!(
+                testkit_record_sent_plan,
+                self,
+                first_sequence,
+                first_send_time,
+                interval,
+                packet_count
+            )
+        };
+        self.counts = recorded.counts;
+        (recorded.entered, recorded.number)
+    }
+
+    /// Takes a list of T-PDUs that came back, end to end in `tpdus`: how many they were. What each
+    /// reads as and its number are written to the last two columns.
+    pub fn record_received_tpdus(
+        &mut self,
+        return_times: &[u64],
+        lengths: &[usize],
+        tpdus: &[u8],
+        returned: &mut [u64],
+        numbers: &mut [u8],
+    ) -> usize {
+        // SAFETY: as in `record_sent`; the call reads three more columns and writes two, each lent
+        // with its length for as long as it runs.
+        let recorded = unsafe {
+            on_sheet!(
+                testkit_record_received_tpdus,
+                self,
+                return_times.as_ptr(),
+                return_times.len(),
+                lengths.as_ptr(),
+                lengths.len(),
+                tpdus.as_ptr(),
+                tpdus.len(),
+                returned.as_mut_ptr(),
+                returned.len(),
+                numbers.as_mut_ptr(),
+                numbers.len()
+            )
+        };
+        self.counts = recorded.counts;
+        recorded.returns
     }
 
     pub fn record_return_gtpu_datagram(

@@ -30,7 +30,7 @@ pub type Timing = (String, f64, f64);
 
 pub fn speed() -> Vec<Timing> {
     let mut timings: Vec<Timing> = [16, 256, 2_048].map(pairs).into();
-    timings.extend([report(), walk(), generator()]);
+    timings.extend([whole_run(), report(), walk(), generator()]);
     timings
 }
 
@@ -59,6 +59,54 @@ fn pairs(rows: usize) -> Timing {
     );
     let name = format!("sending and its return, in a run of {rows}");
     (name, ours / rows as f64, rust / rows as f64)
+}
+
+/// A whole run of 2,048 packets: all are entered, all return, and the report is made. Ours enters
+/// the plan in one call and takes the list of returns in another.
+fn whole_run() -> Timing {
+    let packets = packets(MOST_ROWS);
+    let mut sheet = sheet(MOST_ROWS);
+    let times: Vec<u64> = packets
+        .iter()
+        .map(|packet| packet.send_timestamp_ns + 7)
+        .collect();
+    let lengths: Vec<usize> = packets.iter().map(|packet| packet.tpdu.len()).collect();
+    let tpdus: Vec<u8> = packets
+        .iter()
+        .flat_map(|packet| packet.tpdu.to_vec())
+        .collect();
+    let (mut returned, mut numbers) = (vec![0; MOST_ROWS], vec![0; MOST_ROWS]);
+    let interval = packets[1].send_timestamp_ns;
+    let budget = PacketContinuityBudget::zero_loss();
+    let our_budget = testkit_open::evidence::PacketContinuityBudget::zero_loss();
+    let (ours, rust) = take_turns(
+        || {
+            sheet.counts = Counts::default();
+            let entered = sheet.record_sent_plan(1, 0, interval, MOST_ROWS as u64);
+            let taken =
+                sheet.record_received_tpdus(&times, &lengths, &tpdus, &mut returned, &mut numbers);
+            let report = sheet.report(0, black_box(9_000), our_budget);
+            assert!(report.received_packets == MOST_ROWS as u64 && report.lost_packets == 0);
+            (entered, taken, report)
+        },
+        || {
+            let mut observer = ContinuityObserver::default();
+            for packet in &packets {
+                observer.record_sent(packet);
+            }
+            for packet in &packets {
+                let returned_at = packet.send_timestamp_ns + 7;
+                black_box(observer.record_received_tpdu(returned_at, &packet.tpdu)).unwrap();
+            }
+            let report = observer.report("", 0, black_box(9_000), budget);
+            (observer, report)
+        },
+    );
+    (
+        "a whole run of 2,048: enter, return all, report".to_string(),
+        ours,
+        rust,
+    )
 }
 
 /// The report of 2,048 rows, every third of them lost.

@@ -1,3 +1,4 @@
 -- The two return calls, and what their answers mean.
 pub mod Returns
 pub mod Answer
+pub mod Batch

@@ -14,6 +14,8 @@ ghost use Rattle.observer.specs.Answer.{observerOf, recorded, returnedMeans, wa
 ghost use Rattle.continuity.specs.Returns.{sequenceRead, recordReceivedTpdu, unchanged, recordReturnMessage};
 ghost use Rattle.continuity.specs.Answer.{messageMeans, messageRecorded, messageOfKind, noticed};
 
+pub mod batch; // batch.rt: a list of T-PDUs that came back, in one call
+
 // What a returned message was.
 pub enum GtpuReturnDatagramOutcome {
     MeasurementTpdu,

@@ -9,6 +9,11 @@ pub data Outcome (A : Type 0) : Type 0 where
   refused : ℕ → Outcome A
   gives : A → Outcome A
 
+-- The number of a call that is answered in numbers: its refusal's, or 0 where it was taken.
+abbrev pub outcomeNumber : {A : Type 0} → Outcome A → ℕ
+outcomeNumber (refused n) = n
+outcomeNumber (gives x) = 0
+
 -- A cause of refusal: its test, and its number.
 pub data Cause : Type 0 where
   _⇒_ : Bool → ℕ → Cause

@@ -4,7 +4,7 @@ use Prim.Native.Nat.{ℕ}
 use mathlib.Core.List.{List}
 use mathlib.Core.Bool.{true, false}
 use lib.Dec.{eqb}
-use Rattle.error.specs.Outcome.{Outcome, refused, gives}
+use Rattle.error.specs.Outcome.{Outcome, refused, gives, outcomeNumber}
 use Rattle.measurement.specs.declared.DecodeResult.{DecodeResult}
 use Rattle.measurement.specs.declared.DecodedTpdu.{DecodedTpdu}
 use Rattle.measurement.specs.declared.Decoding.{Decoding}
@@ -15,6 +15,8 @@ use Rattle.measurement.specs.declared.IpVersion.the-variants.{V4, V6}
 use mathlib.Core.Path.{_≡_}
 use Rattle.observer.specs.Judge.{Step}
 use Rattle.observer.specs.declared.ObserverCounts.{ObserverCounts}
+use Rattle.observer.specs.declared.batch.PlanRecorded.{PlanRecorded}
+use Rattle.observer.specs.declared.batch.ReturnsRecorded.{ReturnsRecorded}
 use Rattle.traffic.specs.Generate.{Generating}
 use Rattle.traffic.specs.declared.TrafficPlan.{TrafficPlan}
 use Rattle.continuity.specs.Returns.{MessageStep}
@@ -31,6 +33,8 @@ use Rattle.exports.specs.declared.TestkitReport.{TestkitReport}
 use Rattle.exports.specs.declared.TestkitCounts.{TestkitCounts}
 use Rattle.exports.specs.declared.TestkitGenerated.{TestkitGenerated}
 use Rattle.exports.specs.declared.TestkitRecorded.{TestkitRecorded}
+use Rattle.exports.specs.declared.TestkitPlanRecorded.{TestkitPlanRecorded}
+use Rattle.exports.specs.declared.TestkitReturnsRecorded.{TestkitReturnsRecorded}
 use Rattle.exports.specs.declared.TestkitTpdu.{TestkitTpdu}
 use Rattle.exports.specs.declared.TestkitWritten.{TestkitWritten}
 
@@ -69,11 +73,6 @@ planOf count rate first = record { «packet_count» = count; «target_rate_pps»
 abbrev pub generatedNumbers : Generating → TestkitGenerated
 generatedNumbers g = record { number = writtenNumbers (g .outcome) .number; bytes = writtenNumbers (g .outcome) .bytes; «next_sequence» = g .next }
 
--- 0 where a call was taken, or its refusal's number.
-abbrev pub outcomeNumber : {A : Type 0} → Outcome A → ℕ
-outcomeNumber (refused n) = n
-outcomeNumber (gives x) = 0
-
 abbrev pub countsOf : TestkitCounts → ObserverCounts
 countsOf c = record {
   used = c .used;
@@ -89,6 +88,30 @@ recordedNumbers outcome c = record {
   «duplicate_packets» = c .«duplicate_packets»;
   «out_of_order_packets» = c .«out_of_order_packets»;
   «gtpu_error_indications» = c .«gtpu_error_indications»;
+}
+
+-- The batch calls' answers, which C has with the counts as fields of their own.
+abbrev pub planAnswer : TestkitPlanRecorded → PlanRecorded
+planAnswer r = record {
+  entered = r .entered;
+  number = r .number;
+  counts = record {
+    used = r .used;
+    «duplicate_packets» = r .«duplicate_packets»;
+    «out_of_order_packets» = r .«out_of_order_packets»;
+    «gtpu_error_indications» = r .«gtpu_error_indications»;
+  };
+}
+
+abbrev pub returnsAnswer : TestkitReturnsRecorded → ReturnsRecorded
+returnsAnswer r = record {
+  returns = r .returns;
+  counts = record {
+    used = r .used;
+    «duplicate_packets» = r .«duplicate_packets»;
+    «out_of_order_packets» = r .«out_of_order_packets»;
+    «gtpu_error_indications» = r .«gtpu_error_indications»;
+  };
 }
 
 -- The answer and the four columns of an observer's call, as its step has them.

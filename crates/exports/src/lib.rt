@@ -21,7 +21,7 @@ ghost use mathlib.Core.Path.{_≡_};
 ghost use Prim.Native.Nat.{_+_};
 ghost use mathlib.Core.Bool.{true};
 ghost use lib.Dec.{eqb};
-ghost use Rattle.error.specs.Outcome.{refused, gives};
+ghost use Rattle.error.specs.Outcome.{refused, gives, outcomeNumber};
 ghost use Rattle.checksum.specs.Sum.{sumOf, foldOf, checksumOf};
 ghost use Rattle.checksum.specs.Claims.{Undamaged};
 ghost use Rattle.measurement.specs.Packet.{buildOf};
@@ -32,11 +32,14 @@ ghost use Rattle.traffic.specs.Generate.{generateOf};
 ghost use Rattle.gtpu.specs.Element.{elementsOf};
 ghost use Rattle.observer.specs.Sending.{recordSent};
 ghost use Rattle.observer.specs.Answer.{observerOf, recordingMeans};
+ghost use Rattle.observer.specs.InTurn.{recordSentPlan};
+ghost use Rattle.observer.specs.BatchAnswer.{planRecorded};
 ghost use Rattle.continuity.specs.Returns.{recordReceivedTpdu, recordReturnMessage};
 ghost use Rattle.continuity.specs.Answer.{messageMeans};
+ghost use Rattle.continuity.specs.Batch.{recordReceivedTpdus, receivedAll};
 ghost use Rattle.report.specs.Report.{reporting};
 ghost use Rattle.report.specs.Answer.{reportedMeans};
-ghost use Rattle.exports.specs.Interface.{versionNumber, flowOf, writtenNumbers, decodingNumber, tpduNumbers, planOf, generatedNumbers, outcomeNumber, countsOf, recordedNumbers, RecordedStep, kindNumber, ignoredType, messageNumbers, MessageStepNumbers, latencyNumbers, budgetOf, reportNumbers};
+ghost use Rattle.exports.specs.Interface.{versionNumber, flowOf, writtenNumbers, decodingNumber, tpduNumbers, planOf, generatedNumbers, countsOf, recordedNumbers, RecordedStep, planAnswer, returnsAnswer, kindNumber, ignoredType, messageNumbers, MessageStepNumbers, latencyNumbers, budgetOf, reportNumbers};
 
 // What a call that writes into a lent buffer answers: 0 and how many bytes it wrote, or a refusal's number and 0 bytes.
 #[repr(C)]
@@ -340,6 +343,106 @@ pub extern "C" fn testkit_record_received_tpdu(
         return_timestamp_ns,
         tpdu,
     ))
+}
+
+// What entering a plan answers: how many packets were entered, 0 or the number of the first refusal, and the counts afterwards.
+#[repr(C)]
+pub struct TestkitPlanRecorded {
+    pub entered: u64,
+    pub number: u8,
+    pub used: usize,
+    pub duplicate_packets: u64,
+    pub out_of_order_packets: u64,
+    pub gtpu_error_indications: u64,
+}
+
+// `observer::batch::record_sent_plan`
+#[no_mangle]
+pub extern "C" fn testkit_record_sent_plan(
+    sequences: &mut [u64],
+    send_timestamps: &mut [u64],
+    latencies: &mut [u64],
+    marks: &mut [u8],
+    counts: TestkitCounts,
+    first_sequence: u64,
+    first_send_timestamp_ns: u64,
+    interval_ns: u64,
+    packet_count: u64,
+) -> TestkitPlanRecorded
+    ensures { λ r. ⌜ planRecorded (planAnswer r) (now (sequences .exit)) (now («send_timestamps» .exit)) (now (latencies .exit)) (now (marks .exit))
+        ≡ recordSentPlan (observerOf (now (sequences .entry)) (now («send_timestamps» .entry)) (now (latencies .entry)) (now (marks .entry)) (countsOf counts))
+        «first_sequence» «first_send_timestamp_ns» «interval_ns» «packet_count» ⌝ }
+{
+    let recorded = observer::batch::record_sent_plan(
+        sequences,
+        send_timestamps,
+        latencies,
+        marks,
+        counts_of(counts),
+        first_sequence,
+        first_send_timestamp_ns,
+        interval_ns,
+        packet_count,
+    );
+    let after = recorded.counts;
+    TestkitPlanRecorded {
+        entered: recorded.entered,
+        number: recorded.number,
+        used: after.used,
+        duplicate_packets: after.duplicate_packets,
+        out_of_order_packets: after.out_of_order_packets,
+        gtpu_error_indications: after.gtpu_error_indications,
+    }
+}
+
+// What a list of returns answers: how many returns it had, and the counts after the last.
+#[repr(C)]
+pub struct TestkitReturnsRecorded {
+    pub returns: usize,
+    pub used: usize,
+    pub duplicate_packets: u64,
+    pub out_of_order_packets: u64,
+    pub gtpu_error_indications: u64,
+}
+
+// `continuity::batch::record_received_tpdus`
+#[no_mangle]
+pub extern "C" fn testkit_record_received_tpdus(
+    sequences: &[u64],
+    send_timestamps: &[u64],
+    latencies: &mut [u64],
+    marks: &mut [u8],
+    counts: TestkitCounts,
+    return_timestamps: &[u64],
+    lengths: &[usize],
+    tpdus: &[u8],
+    returned: &mut [u64],
+    numbers: &mut [u8],
+) -> TestkitReturnsRecorded
+    ensures { λ r. ⌜ receivedAll (returnsAnswer r) (now (returned .exit)) (now (numbers .exit)) (now (sequences .entry)) (now («send_timestamps» .entry)) (now (latencies .exit)) (now (marks .exit))
+        ≡ recordReceivedTpdus (observerOf (now (sequences .entry)) (now («send_timestamps» .entry)) (now (latencies .entry)) (now (marks .entry)) (countsOf counts))
+        (now («return_timestamps» .entry)) (now (lengths .entry)) (now (tpdus .entry)) (now (returned .entry)) (now (numbers .entry)) ⌝ }
+{
+    let recorded = continuity::batch::record_received_tpdus(
+        sequences,
+        send_timestamps,
+        latencies,
+        marks,
+        counts_of(counts),
+        return_timestamps,
+        lengths,
+        tpdus,
+        returned,
+        numbers,
+    );
+    let after = recorded.counts;
+    TestkitReturnsRecorded {
+        returns: recorded.returns,
+        used: after.used,
+        duplicate_packets: after.duplicate_packets,
+        out_of_order_packets: after.out_of_order_packets,
+        gtpu_error_indications: after.gtpu_error_indications,
+    }
 }
 
 // What a message call answers. `kind`: 0 refused, 1 a measurement T-PDU, 2 an Error Indication, 3 an Echo Response, 4 ignored; of an ignored

@@ -10,3 +10,4 @@ pub mod Entering
 pub mod Arriving
 pub mod Keeping
 pub mod Claims
+pub mod InTurn

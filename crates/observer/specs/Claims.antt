@@ -2,7 +2,7 @@
 -- Assumes nothing.
 use Prim.Native.Nat.{ℕ, _≤_, _<_}
 use mathlib.Core.Path.{_≡_}
-use mathlib.Core.List.{List, [], _∷_, _++_}
+use mathlib.Core.List.{List, _∷_, _++_}
 use mathlib.Core.Bool.{true, false}
 use lib.Dec.{ltb}
 use lib.ListN.{length, set, take, drop}
@@ -14,6 +14,7 @@ use Rattle.observer.specs.Judge.{wellFormed, Step}
 use Rattle.observer.specs.Place.{placeOf, wasSent, rowOf, highestMarked, markedAbove}
 use Rattle.observer.specs.Sending.{resent, recordSent}
 use Rattle.observer.specs.Returning.{recordReturn, recordErrorIndication}
+use Rattle.observer.specs.InTurn.{inTurn}
 use Rattle.observer.specs.Answer.{observerOf}
 
 -- The rows that are put back are the used rows, whatever the columns held and however long they are.
@@ -37,8 +38,7 @@ recordCall o (indicating walk) = recordErrorIndication o walk
 
 -- The observer after calls, one after the other, each on what the last one left, refused or not.
 abbrev pub afterCalls : Observer → List Call → Observer
-afterCalls o [] = o
-afterCalls o (call ∷ calls) = afterCalls (recordCall o call .observer) calls
+afterCalls o calls = inTurn recordCall o calls .observer
 
 -- Every call, accepted or refused, leaves a well-formed observer well formed. So 21 is never due on one that is fresh and that only these
 -- calls have written since.

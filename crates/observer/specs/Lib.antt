@@ -5,6 +5,8 @@ pub mod Judge
 pub mod Place
 pub mod Sending
 pub mod Returning
+pub mod InTurn
 pub mod Answer
+pub mod BatchAnswer
 pub mod Columns
 pub mod Claims

@@ -17,6 +17,8 @@ ghost use Rattle.observer.specs.Sending.{recordSent};
 ghost use Rattle.observer.specs.Returning.{recordReturn, recordErrorIndication};
 ghost use Rattle.observer.specs.Answer.{observerOf, acceptance, refusal, recorded, returnedMeans, walkedMeans};
 
+pub mod batch; // batch.rt: the packets of a plan, or a list of returns, in one call
+
 // What stands beside the columns. Fresh: all 0.
 pub struct ObserverCounts {
     // Rows in use, from the front.
@@ -378,6 +380,35 @@ fn arrive(
     counts.out_of_order_if(late).accepted()
 }
 
+// A returned T-PDU, which was read before, on an observer that was judged: the reader's refusal, then `arrive`.
+fn take_return(
+    sequences: &[u64],
+    send_timestamps: &[u64],
+    latencies: &mut [u64],
+    marks: &mut [u8],
+    counts: ObserverCounts,
+    return_timestamp_ns: u64,
+    returned: Returned,
+) -> Recorded
+    requires { ⌜ wellFormed (observerOf (now sequences) (now «send_timestamps») (now latencies) (now marks) counts) ≡ true ⌝ }
+    ensures { λ r. ⌜ recorded r (now (sequences .entry)) (now («send_timestamps» .entry)) (now (latencies .exit)) (now (marks .exit))
+        ≡ recordReturn (observerOf (now (sequences .entry)) (now («send_timestamps» .entry)) (now (latencies .entry)) (now (marks .entry)) counts)
+        «return_timestamp_ns» (returnedMeans returned) ⌝ }
+{
+    match returned {
+        Returned::Refused(number) => counts.refused(number),
+        Returned::Sequence(sequence) => arrive(
+            sequences,
+            send_timestamps,
+            latencies,
+            marks,
+            counts,
+            return_timestamp_ns,
+            sequence,
+        ),
+    }
+}
+
 // Records a returned T-PDU, which was read before: the first return of a sequence marks its row and gives it a latency, a later one is
 // counted as a duplicate. Refuses by 21, then as the reader did, then by 23, 24.
 pub fn record_return(
@@ -396,18 +427,15 @@ pub fn record_return(
     if !well_formed(sequences, send_timestamps, latencies, marks, counts) {
         return counts.refused(error::MALFORMED_OBSERVER);
     }
-    match returned {
-        Returned::Refused(number) => counts.refused(number),
-        Returned::Sequence(sequence) => arrive(
-            sequences,
-            send_timestamps,
-            latencies,
-            marks,
-            counts,
-            return_timestamp_ns,
-            sequence,
-        ),
-    }
+    take_return(
+        sequences,
+        send_timestamps,
+        latencies,
+        marks,
+        counts,
+        return_timestamp_ns,
+        returned,
+    )
 }
 
 // Records an Error Indication, whose elements were walked before. Refuses by 21, then as the walk did.

@@ -7,3 +7,4 @@ pub mod Demand
 pub mod Generated
 pub mod Attained
 pub mod Cases
+pub mod Batches

@@ -3,7 +3,7 @@
 use mathlib.Core.Path.{sym, ap, _∙_}
 use Rattle.gtpu.specs.Answer.{means}
 use Rattle.gtpu.specs.declared.ElementsChecked.{ElementsChecked}
-use Rattle.exports.specs.Interface.{outcomeNumber}
+use Rattle.error.specs.Outcome.{outcomeNumber}
 use borrow.Author.Needs.{needs}
 use Rattle.exports.proofs.testkit_validate_elements.Statement.{statement}
 use Rattle.exports.proofs.testkit_validate_elements.Tie as tie

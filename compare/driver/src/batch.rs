@@ -1,0 +1,198 @@
+//! Our batch calls against the Rust's single calls in a loop: the packets of a plan, and lists of
+//! returns. The Rust has no batch calls.
+
+use crate::observer::{
+    any_call, any_contents, any_rows, spoil, time_near, Call, Pair, SHEET_MALFORMED,
+};
+use crate::ours_traffic::RunSheet;
+use crate::part::Part;
+use crate::random::Random;
+use crate::rust_side::measurement::decode;
+use crate::rust_side::traffic::Sheet;
+use crate::seen::Seen;
+use crate::sheets::{difference, fresh, holding, MOST_ROWS};
+
+/// A plan: its first sequence and time, its interval and how many packets.
+type Plan = (u64, u64, u64, u64);
+
+/// Plans entered and lists of returns taken, on sheets in any state.
+pub fn batches(seed: u64, rounds: u64) -> Part {
+    let mut part = Part::new("run sheet, batches", "batch calls and reports");
+    let mut seen = Seen::default();
+    let mut random = Random::new(seed);
+    for round in 0..rounds / 10 {
+        let rows = any_rows(&mut random, round);
+        let used = rows - random.length(rows).min(rows);
+        let contents = any_contents(&mut random, used);
+        let mut pair = Pair::new(fresh(&mut random, rows), contents);
+        for _ in 0..3 {
+            enter(&mut part, &mut seen, &mut random, &mut pair, rows);
+            take(&mut part, &mut seen, &mut random, &mut pair, rows);
+        }
+        pair.reports(&mut part, &mut random);
+    }
+    seen.require(&mut part, (0..=14).chain(22..=24));
+    part
+}
+
+/// Malformed sheets: every packet and every return is refused by 21, and the sheet is left.
+pub fn malformed_batches(seed: u64, rounds: u64) -> Part {
+    let mut part = Part::new("run sheet, malformed, batches", "batch calls");
+    let mut random = Random::new(seed);
+    for round in 0..rounds / 10 {
+        let rows = match round % 128 {
+            0..4 => MOST_ROWS,
+            _ => 2 + random.length(30),
+        };
+        let contents = any_contents(&mut random, rows);
+        let mut sheet = holding(&fresh(&mut random, rows), &contents);
+        spoil(&mut random, &mut sheet, round % 4);
+
+        let plan = any_plan(&mut random, 0, rows);
+        let mut ours = sheet.clone();
+        let answer = send(&mut ours, plan);
+        let number = if plan.3 == 0 { 0 } else { SHEET_MALFORMED };
+        let answer = (answer, difference(&ours, &sheet));
+        part.case(&[], answer, ((0, number), None));
+
+        let returns = any_returns(&mut random, &contents, rows);
+        let due = Due::of(&mut random, &returns, |_| SHEET_MALFORMED);
+        due.compare(&mut part, sheet.clone(), &sheet, &returns);
+    }
+    part
+}
+
+fn send(sheet: &mut RunSheet, (sequence, time, interval, count): Plan) -> (u64, u8) {
+    sheet.record_sent_plan(sequence, time, interval, count)
+}
+
+/// A plan near a sequence, near the tops, or anywhere.
+fn any_plan(random: &mut Random, near: u64, rows: usize) -> Plan {
+    let count = random.length(rows + 4) as u64;
+    let sequence = match random.below(4) {
+        0 => u64::MAX - random.length(rows + 4) as u64,
+        1 => random.number(),
+        _ => near.saturating_add(random.below(4) as u64),
+    };
+    let interval = [0, 1, 1_000_000_000, random.number()][random.below(4)];
+    let time = match random.below(4) {
+        0 => u64::MAX.wrapping_sub(interval.wrapping_mul(random.length(rows + 4) as u64)),
+        1 => random.number(),
+        _ => random.length(1 << 20) as u64,
+    };
+    (sequence, time, interval, count)
+}
+
+/// Enters a plan on both sides: the Rust is sent its packets one after the other, up to the first
+/// whose sequence or time does not fit.
+fn enter(part: &mut Part, seen: &mut Seen, random: &mut Random, pair: &mut Pair, rows: usize) {
+    let near = pair.contents.rows.last().map_or(0, |row| row.sequence);
+    let plan = any_plan(random, near, rows);
+    let (sequence, time, interval, count) = plan;
+    let (mut entered, mut first) = (0, 0);
+    for k in 0..count {
+        let packet_time = interval
+            .checked_mul(k)
+            .and_then(|since| time.checked_add(since));
+        let (Some(sequence), Some(send_time)) = (sequence.checked_add(k), packet_time) else {
+            break;
+        };
+        let call = Call::Sent {
+            sequence,
+            send_time,
+        };
+        match pair.due_answer(seen, &call).number {
+            0 => entered += 1,
+            number if first == 0 => first = number,
+            _ => {}
+        }
+    }
+    let mut ours = pair.ours.clone();
+    let answer = send(&mut ours, plan);
+    let due = pair.due();
+    part.case(
+        &[],
+        (answer, difference(&ours, &due)),
+        ((entered, first), None),
+    );
+    pair.ours = due;
+}
+
+/// T-PDUs that came back, and their times.
+type Returns = Vec<(u64, Vec<u8>)>;
+
+/// Returns of rows of a sheet, most of them whole.
+fn any_returns(random: &mut Random, contents: &Sheet, rows: usize) -> Returns {
+    let mut returns = Vec::new();
+    for _ in 0..random.length(rows + 8) {
+        match any_call(random, &contents.rows, 0, rows) {
+            Call::Tpdu { time, tpdu } => returns.push((time, tpdu)),
+            Call::Message { time, payload, .. } => returns.push((time, payload)),
+            Call::Sent { send_time, .. } => returns.push((time_near(random, send_time), vec![])),
+        }
+    }
+    returns
+}
+
+/// What a list of returns has to leave in its two columns, which are longer or shorter than it.
+struct Due {
+    returned: Vec<u64>,
+    numbers: Vec<u8>,
+    /// What stood in them before.
+    before: (Vec<u64>, Vec<u8>),
+    returns: usize,
+}
+
+impl Due {
+    fn of(random: &mut Random, returns: &Returns, mut number: impl FnMut(usize) -> u8) -> Self {
+        let most = returns.len() + random.length(4);
+        let mut length = || most - random.length(2).min(most);
+        let (returned_length, numbers_length) = (length(), length());
+        let before: (Vec<u64>, Vec<u8>) = (
+            (0..returned_length).map(|_| random.number()).collect(),
+            (0..numbers_length).map(|_| random.number() as u8).collect(),
+        );
+        let (mut returned, mut numbers) = before.clone();
+        let taken = returns.len().min(returned_length).min(numbers_length);
+        for (k, (_, tpdu)) in returns.iter().take(taken).enumerate() {
+            returned[k] = decode(tpdu).map_or(0, |probe| probe.sequence);
+            numbers[k] = number(k);
+        }
+        Self {
+            returned,
+            numbers,
+            before,
+            returns: taken,
+        }
+    }
+
+    /// Takes the list on our sheet and compares every column.
+    fn compare(&self, part: &mut Part, mut ours: RunSheet, due: &RunSheet, returns: &Returns) {
+        let times: Vec<u64> = returns.iter().map(|(time, _)| *time).collect();
+        let lengths: Vec<usize> = returns.iter().map(|(_, tpdu)| tpdu.len()).collect();
+        let tpdus: Vec<u8> = returns.iter().flat_map(|(_, tpdu)| tpdu.clone()).collect();
+        let (mut returned, mut numbers) = self.before.clone();
+        let answer =
+            ours.record_received_tpdus(&times, &lengths, &tpdus, &mut returned, &mut numbers);
+        let answer = (answer, returned, numbers, difference(&ours, due));
+        let due = (
+            self.returns,
+            self.returned.clone(),
+            self.numbers.clone(),
+            None,
+        );
+        part.case(&tpdus, answer, due);
+    }
+}
+
+/// Takes a list of returns on both sides.
+fn take(part: &mut Part, seen: &mut Seen, random: &mut Random, pair: &mut Pair, rows: usize) {
+    let returns = any_returns(random, &pair.contents, rows);
+    let due = Due::of(random, &returns, |k| {
+        let (time, tpdu) = returns[k].clone();
+        pair.due_answer(seen, &Call::Tpdu { time, tpdu }).number
+    });
+    let sheet = pair.due();
+    due.compare(part, pair.ours.clone(), &sheet, &returns);
+    pair.ours = sheet;
+}

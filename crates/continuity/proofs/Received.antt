@@ -1,0 +1,195 @@
+-- A list of T-PDUs: how it is read, and that what goes to the observer is the single calls in turn.
+-- Assumes nothing.
+use Prim.Native.Nat.{ℕ, zero, suc, _+_, _-_, _≤_, _<_, min}
+use mathlib.Core.Path.{_≡_, refl, sym, ap, _∙_}
+use mathlib.Core.Bool.{Bool, true, false}
+use mathlib.Core.List.{List, [], _∷_, _++_, map}
+use native.Mathlib.Nat.{le-of-suc-le-suc}
+use native.Mathlib.Numerals.{add-one}
+use native.Mathlib.Omega.{arith}
+use lib.Dec.{eqb}
+use lib.ListN.{length, getD, set, take, drop, length-drop, length-map, drop-of-length-le}
+use lib.Seq.{take-all, drop-cons, drop-drop, drop-at, length-take-le}
+use borrow.Author.Tests.{ne-eqb}
+use Rattle.error.specs.Outcome.{Outcome, refused, gives, Cause, _⇒_, firstCause, outcomeNumber}
+use Rattle.measurement.specs.Read.{readOf, tpduCauses, versionOf, readIpv4, ipv4Causes, readIpv6, ipv6Causes, readUdp, udpCauses, readProbe, probeCauses, payload, tpduOf}
+use Rattle.measurement.specs.declared.DecodedTpdu.{DecodedTpdu}
+use Rattle.measurement.specs.declared.IpVersion.{IpVersion}
+use Rattle.measurement.specs.declared.IpVersion.the-variants.{V4, V6}
+use Rattle.observer.specs.Observer.{Observer}
+use Rattle.observer.specs.Judge.{Step}
+use Rattle.observer.specs.Returning.{recordReturn}
+use Rattle.observer.specs.InTurn.{Steps, inTurn, Arrival, recordArrival, readAs, arrivalsOf, Arrived, arrivedIn, recordReturns}
+use Rattle.observer.proofs.InTurn.{number-each}
+use Rattle.continuity.specs.Returns.{sequenceRead, recordReceivedTpdu}
+use Rattle.continuity.specs.Batch.{tpdusOf, Received, receivedOf, recordReceived, returnsIn, sequenceOrZero, ReceivedAll, recordReceivedTpdus}
+
+-- ---- no refusal of the reader is numbered 0, which stands for none
+
+abbrev Numbered : {A : Type 0} → Outcome A → Type 0
+Numbered (refused n) = n ≡ 0 → ⊥
+Numbered (gives x) = Unit {0}
+
+abbrev AllNumbered : List Cause → Type 0
+AllNumbered [] = Unit {0}
+AllNumbered ((test ⇒ n) ∷ rows) = (n ≡ 0 → ⊥) × AllNumbered rows
+
+first-numbered : {A : Type 0} (rows : List Cause) (o : Outcome A) → AllNumbered rows → Numbered o → Numbered (firstCause rows o)
+unfolding firstCause
+first-numbered [] o h g = g
+first-numbered ((true ⇒ n) ∷ rows) o h g = h .0
+first-numbered ((false ⇒ n) ∷ rows) o h g = first-numbered rows o (h .1) g
+
+udp-numbered : (v : IpVersion) (source destination part : List ℕ) → Numbered (readUdp v source destination part)
+unfolding readUdp readProbe probeCauses udpCauses
+udp-numbered v source destination part =
+    first-numbered (udpCauses v source destination part) (readProbe v source destination part) (rows v)
+    (first-numbered (probeCauses (payload part)) (gives (tpduOf v source destination part)) ((λ e. omega arith), ((λ e. omega arith), tt)) tt)
+  where
+    rows : (v : IpVersion) → AllNumbered (udpCauses v source destination part)
+    rows V4 = ((λ e. omega arith), ((λ e. omega arith), tt))
+    rows V6 = ((λ e. omega arith), ((λ e. omega arith), ((λ e. omega arith), tt)))
+
+read-numbered : (tpdu : List ℕ) → Numbered (readOf tpdu)
+unfolding readOf tpduCauses readIpv4 ipv4Causes readIpv6 ipv6Causes
+read-numbered tpdu = first-numbered (tpduCauses tpdu) _ ((λ e. omega arith), ((λ e. omega arith), tt)) (by (eqb (versionOf tpdu) 4))
+  where
+    by : (b : Bool) → Numbered {A = DecodedTpdu} (elim b [ true ↦ readIpv4 tpdu | false ↦ readIpv6 tpdu ])
+    by true =
+        first-numbered (ipv4Causes tpdu) _ ((λ e. omega arith), ((λ e. omega arith), ((λ e. omega arith), ((λ e. omega arith), ((λ e. omega arith), tt)))))
+        (udp-numbered V4 _ _ _)
+    by false = first-numbered (ipv6Causes tpdu) _ ((λ e. omega arith), ((λ e. omega arith), ((λ e. omega arith), tt))) (udp-numbered V6 _ _ _)
+
+-- so its two numbers say what a T-PDU reads as
+read-back : (tpdu : List ℕ) → readAs (sequenceOrZero (sequenceRead tpdu)) (outcomeNumber (sequenceRead tpdu)) ≡ sequenceRead tpdu
+unfolding sequenceRead
+read-back tpdu = go (readOf tpdu) (read-numbered tpdu)
+  where
+    read-of : Outcome DecodedTpdu → Outcome ℕ
+    read-of o = elim o [ refused n ↦ refused n | gives t ↦ gives (t .measurement .sequence) ]
+
+    go : (o : Outcome DecodedTpdu) → Numbered o → readAs (sequenceOrZero (read-of o)) (outcomeNumber (read-of o)) ≡ read-of o
+    go (refused n) h = ap (λ (b : Bool). elim b [ true ↦ gives 0 | false ↦ refused n ]) (ne-eqb n 0 h)
+    go (gives t) h = refl
+
+-- ---- reading
+
+-- a list cut past its end
+take-whole : {A : Type 0} (n m : ℕ) (l : List A) → m ≡ min n (length l) → take m l ≡ take n l
+take-whole n m [] e = rw (let z : m ≡ 0 = omega arith in z) (sym (take-all n [] (omega arith)))
+take-whole zero m (x ∷ l) e = rw (let z : m ≡ 0 = omega arith in z)
+take-whole (suc n) zero (x ∷ l) e = absurd (omega arith)
+take-whole (suc n) (suc m) (x ∷ l) e = ap (λ (r : List _). x ∷ r) (take-whole n m l (omega arith))
+
+drop-whole : {A : Type 0} (n m : ℕ) (l : List A) → m ≡ min n (length l) → drop m l ≡ drop n l
+drop-whole n m [] e = rw (let z : m ≡ 0 = omega arith in z) (sym (drop-of-length-le [] {i = n} (omega arith)))
+drop-whole zero m (x ∷ l) e = rw (let z : m ≡ 0 = omega arith in z)
+drop-whole (suc n) zero (x ∷ l) e = absurd (omega arith)
+drop-whole (suc n) (suc m) (x ∷ l) e = drop-whole n m l (omega arith)
+
+-- T-PDU i, and those behind it
+pub tpdu-next : (lengths bytes : List ℕ) (tpdus : List (List ℕ)) (i at end : ℕ) → i < length lengths → at ≤ length bytes
+    → end ≡ min (at + getD lengths i 0) (length bytes) → tpdusOf (drop i lengths) (drop at bytes) ≡ drop i tpdus
+    → drop i tpdus ≡ take (end - at) (drop at bytes) ∷ tpdusOf (drop (i + 1) lengths) (drop end bytes)
+tpdu-next lengths bytes tpdus i at end h g e s =
+    let n : ℕ = getD lengths i 0 in
+    let left : length (drop at bytes) ≡ length bytes - at = length-drop at bytes in
+    sym s
+    ∙ ap (λ (l : List ℕ). tpdusOf l (drop at bytes)) (drop-cons lengths i 0 h)
+    ∙ (λ j. sym (take-whole n (end - at) (drop at bytes) (omega arith)) j
+    ∷ tpdusOf (drop (sym (add-one i) j) lengths) ((drop-drop n at bytes ∙ sym (drop-whole (at + n) end bytes e)) j))
+
+-- behind T-PDU i
+pub tpdus-behind : (tpdus rest : List (List ℕ)) (x : List ℕ) (i : ℕ) → drop i tpdus ≡ x ∷ rest → rest ≡ drop (i + 1) tpdus
+tpdus-behind tpdus rest x i e = rw add-one (ap (drop 1) (sym e) ∙ drop-drop 1 i tpdus ∙ ap (λ (k : ℕ). drop k tpdus) (add-one i))
+
+-- a number of T-PDU i is stored in a column
+module _ {A : Type 0} (field : A → ℕ) (x : A) (rest : List A) where
+  stored-at : (i : ℕ) (tpdus : List A) (column : List ℕ) → drop i tpdus ≡ x ∷ rest → i < length column
+      → set (map field (take i tpdus) ++ drop i column) i (field x) ≡ map field (take (suc i) tpdus) ++ drop (suc i) column
+  stored-at zero [] column s h = absurd (let z : _≡_ {A = ℕ} 0 1 = cc in omega arith)
+  stored-at zero (y ∷ tpdus) [] s h = absurd (omega arith)
+  stored-at zero (y ∷ tpdus) (m ∷ column) s h = ap (λ (z : A). field z ∷ column) (let e : x ≡ y = cc in e)
+  stored-at (suc i) [] column s h = absurd (let z : _≡_ {A = ℕ} 0 1 = cc in omega arith)
+  stored-at (suc i) (y ∷ tpdus) [] s h = absurd (omega arith)
+  stored-at (suc i) (y ∷ tpdus) (m ∷ column) s h = ap (λ (l : List ℕ). field y ∷ l) (stored-at i tpdus column s (le-of-suc-le-suc h))
+
+  pub stored : (tpdus : List A) (column₀ column : List ℕ) (i n : ℕ) → drop i tpdus ≡ x ∷ rest → i < length column₀
+      → column ≡ map field (take i tpdus) ++ drop i column₀ → n ≡ field x → set column i n ≡ map field (take (i + 1) tpdus) ++ drop (i + 1) column₀
+  stored tpdus column₀ column i n s h e f = rw (e, f, add-one) (stored-at i tpdus column₀ s h)
+
+-- ---- what goes to the observer
+
+abbrev asArrival : Received → Arrival
+asArrival r = record { time = r .time; read = sequenceRead (r .tpdu) }
+
+-- T-PDUs that were read are the returns that the observer is handed
+module _ (qs ns : List ℕ) where
+  handed : (n : ℕ) (ts : List ℕ) (tpdus : List (List ℕ)) → n ≤ length ts → n ≤ length tpdus
+      → arrivalsOf (take n ts) (map (λ tpdu. sequenceOrZero (sequenceRead tpdu)) (take n tpdus) ++ qs)
+      (map (λ tpdu. outcomeNumber (sequenceRead tpdu)) (take n tpdus) ++ ns)
+      ≡ map asArrival (receivedOf ts (take n tpdus))
+  handed zero [] tpdus h g = refl
+  handed zero (t ∷ ts) tpdus h g = refl
+  handed (suc n) [] tpdus h g = absurd (omega arith)
+  handed (suc n) (t ∷ ts) [] h g = absurd (omega arith)
+  handed (suc n) (t ∷ ts) (tpdu ∷ tpdus) h g =
+      λ i. record { time = t; read = read-back tpdu i } ∷ handed n ts tpdus (le-of-suc-le-suc h) (le-of-suc-le-suc g) i
+
+-- a return of what was read is the single call
+in-turn : (o : Observer) (rs : List Received) → inTurn recordArrival o (map asArrival rs) ≡ inTurn recordReceived o rs
+unfolding recordReceivedTpdu
+in-turn o [] = refl
+in-turn o (r ∷ rs) =
+    ap (λ (s : Steps). record { numbers = outcomeNumber (recordReceived o r .outcome) ∷ s .numbers; observer = s .observer })
+    (in-turn (recordReceived o r .observer) rs)
+
+tpdus-count : (lengths bytes : List ℕ) → length (tpdusOf lengths bytes) ≡ length lengths
+tpdus-count [] bytes = refl
+tpdus-count (n ∷ lengths) bytes = ap suc (tpdus-count lengths (drop n bytes))
+
+received-count : (ts : List ℕ) (tpdus : List (List ℕ)) → length tpdus ≤ length ts → length (receivedOf ts tpdus) ≡ length tpdus
+received-count [] [] h = refl
+received-count [] (tpdu ∷ tpdus) h = absurd (omega arith)
+received-count (t ∷ ts) [] h = refl
+received-count (t ∷ ts) (tpdu ∷ tpdus) h = ap suc (received-count ts tpdus (le-of-suc-le-suc h))
+
+module _ (o : Observer) (times lengths bytes returned numbers : List ℕ) (n : ℕ) (e : n ≡ returnsIn times lengths returned numbers) where
+  abbrev tpdus : List (List ℕ)
+  tpdus = take n (tpdusOf lengths bytes)
+
+  count : length tpdus ≡ n
+  count = length-take-le n (tpdusOf lengths bytes) (omega (arith, tpdus-count lengths bytes))
+
+  -- the column of numbers, read and then recorded
+  column-kept : (s : Steps) → length (s .numbers) ≡ n
+      → arrivedIn (map (λ tpdu. outcomeNumber (sequenceRead tpdu)) tpdus ++ drop n numbers) s ≡ arrivedIn numbers s
+  column-kept s l =
+      let first : List ℕ = map (λ tpdu. outcomeNumber (sequenceRead tpdu)) tpdus in
+      let same : drop (length (s .numbers)) (first ++ drop n numbers) ≡ drop (length (s .numbers)) numbers =
+      drop-at first (drop n numbers) (length (s .numbers)) (length-map tpdus (λ tpdu. outcomeNumber (sequenceRead tpdu)) ∙ count ∙ sym l)
+      ∙ ap (λ (k : ℕ). drop k numbers) (sym l) in
+      ap (λ (l : List ℕ). record { returns = length (s .numbers); numbers = s .numbers ++ l; observer = s .observer }) same
+
+  pub received-all : (returned-then numbers-then : List ℕ)
+      → returned-then ≡ map (λ tpdu. sequenceOrZero (sequenceRead tpdu)) tpdus ++ drop n returned
+      → numbers-then ≡ map (λ tpdu. outcomeNumber (sequenceRead tpdu)) tpdus ++ drop n numbers
+      → record { returned = returned-then; arrived = recordReturns o (take n times) returned-then numbers-then }
+      ≡ recordReceivedTpdus o times lengths bytes returned numbers
+  unfolding recordReceivedTpdus recordReturns
+  received-all returned-then numbers-then r m =
+      let rs : List Received = receivedOf times tpdus in
+      let steps =
+      ap (inTurn recordArrival o) (handed (drop n returned) (drop n numbers) n times (tpdusOf lengths bytes) (omega arith) (omega (arith, tpdus-count lengths bytes)))
+      ∙ in-turn o rs in
+      rw (r, m)
+      (ap (λ (s : Steps). record {
+        returned = map (λ tpdu. sequenceOrZero (sequenceRead tpdu)) tpdus ++ drop n returned;
+        arrived = arrivedIn (map (λ tpdu. outcomeNumber (sequenceRead tpdu)) tpdus ++ drop n numbers) s;
+      }) steps
+      ∙ ap (λ (a : Arrived). record { returned = map (λ tpdu. sequenceOrZero (sequenceRead tpdu)) tpdus ++ drop n returned; arrived = a })
+      (column-kept (inTurn recordReceived o rs) (number-each recordReceived o rs ∙ received-count times tpdus (omega (arith, count)) ∙ count))
+      ∙ ap (λ (k : ℕ). record {
+        returned = map (λ tpdu. sequenceOrZero (sequenceRead tpdu)) (take k (tpdusOf lengths bytes)) ++ drop k returned;
+        arrived = arrivedIn numbers (inTurn recordReceived o (receivedOf times (take k (tpdusOf lengths bytes))));
+      }) e)

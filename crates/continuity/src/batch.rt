@@ -1,0 +1,109 @@
+// A list of T-PDUs that came back, taken in one call: they are read one after the other, and what they read as goes to the observer, which judges
+// 21 once. The Rust has no such call: the contract says that it comes to what the single calls come to (specs/Batch.antt).
+use observer::ObserverCounts;
+use observer::Returned;
+use observer::batch::ReturnsRecorded;
+ghost use mathlib.Core.Path.{_≡_};
+ghost use mathlib.Core.List.{_++_, map};
+ghost use Prim.Native.Nat.{_+_, _≤_, min};
+ghost use lib.ListN.{length, take, drop};
+ghost use Rattle.error.specs.Outcome.{outcomeNumber};
+ghost use Rattle.observer.specs.Answer.{observerOf, returnedMeans};
+ghost use Rattle.continuity.specs.Returns.{sequenceRead};
+ghost use Rattle.continuity.specs.Batch.{tpdusOf, sequenceOrZero, recordReceivedTpdus, receivedAll};
+
+// The sequence that a T-PDU reads as, 0 beside a refusal.
+fn read_value(read: Returned) -> u64
+    ensures { λ r. ⌜ r ≡ sequenceOrZero (returnedMeans read) ⌝ }
+{
+    match read {
+        Returned::Sequence(sequence) => sequence,
+        Returned::Refused(_) => 0,
+    }
+}
+
+// The number of the reader's refusal, 0 beside a sequence.
+fn read_number(read: Returned) -> u8
+    ensures { λ r. ⌜ r ≡ outcomeNumber (returnedMeans read) ⌝ }
+{
+    match read {
+        Returned::Sequence(_) => 0,
+        Returned::Refused(number) => number,
+    }
+}
+
+fn least(a: usize, b: usize) -> usize
+    ensures { λ r. ⌜ r ≡ min a b ⌝ }
+{
+    if a < b { a } else { b }
+}
+
+// Where a T-PDU of this length ends that starts at `at`: not past the end of the bytes.
+fn tpdu_end(at: usize, length: usize, bytes: usize) -> usize
+    requires { ⌜ at ≤ bytes ⌝ }
+    ensures { λ r. ⌜ r ≡ min (at + length) bytes ⌝ }
+{
+    if bytes - at < length {
+        bytes
+    } else {
+        at + length
+    }
+}
+
+// Reads the first T-PDUs: the sequence and the number of each at the front of the two columns.
+fn read_tpdus(
+    lengths: &[usize],
+    tpdus: &[u8],
+    returns: usize,
+    returned: &mut [u64],
+    numbers: &mut [u8],
+)
+    requires { ⌜ (returns ≤ length (now lengths)) × (returns ≤ length (now returned)) × (returns ≤ length (now numbers)) ⌝ }
+    ensures sequences { λ _. ⌜ now (returned .exit) ≡ map (λ tpdu. sequenceOrZero (sequenceRead tpdu)) (take returns (tpdusOf (now (lengths .entry)) (now (tpdus .entry)))) ++ drop returns (now (returned .entry)) ⌝ }
+    ensures refusals { λ _. ⌜ now (numbers .exit) ≡ map (λ tpdu. outcomeNumber (sequenceRead tpdu)) (take returns (tpdusOf (now (lengths .entry)) (now (tpdus .entry)))) ++ drop returns (now (numbers .entry)) ⌝ }
+{
+    let mut at = 0;
+    let mut i = 0;
+    while i < returns {
+        let end = tpdu_end(at, lengths[i], tpdus.len());
+        let read = crate::read_sequence(&tpdus[at..end]);
+        returned[i] = read_value(read);
+        numbers[i] = read_number(read);
+        at = end;
+        i += 1;
+    }
+}
+
+// Records T-PDUs that came back: T-PDU k has the k-th length, lies behind those before it, and came at the k-th time. Each is taken or refused as
+// `record_received_tpdu` would, and its number, 0 for none, is written to `numbers`; `returned` gets the sequence that it reads as, 0 beside a
+// refusal of the reader. The list is as long as the shortest of these columns.
+pub fn record_received_tpdus(
+    sequences: &[u64],
+    send_timestamps: &[u64],
+    latencies: &mut [u64],
+    marks: &mut [u8],
+    counts: ObserverCounts,
+    return_timestamps: &[u64],
+    lengths: &[usize],
+    tpdus: &[u8],
+    returned: &mut [u64],
+    numbers: &mut [u8],
+) -> ReturnsRecorded
+    ensures { λ r. ⌜ receivedAll r (now (returned .exit)) (now (numbers .exit)) (now (sequences .entry)) (now («send_timestamps» .entry)) (now (latencies .exit)) (now (marks .exit))
+        ≡ recordReceivedTpdus (observerOf (now (sequences .entry)) (now («send_timestamps» .entry)) (now (latencies .entry)) (now (marks .entry)) counts)
+        (now («return_timestamps» .entry)) (now (lengths .entry)) (now (tpdus .entry)) (now (returned .entry)) (now (numbers .entry)) ⌝ }
+{
+    let columns = least(returned.len(), numbers.len());
+    let returns = least(return_timestamps.len(), least(lengths.len(), columns));
+    read_tpdus(lengths, tpdus, returns, returned, numbers);
+    observer::batch::record_returns(
+        sequences,
+        send_timestamps,
+        latencies,
+        marks,
+        counts,
+        &return_timestamps[..returns],
+        returned,
+        numbers,
+    )
+}
