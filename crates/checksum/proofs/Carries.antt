@@ -33,6 +33,10 @@ like-add {a} {b} n p = record { some = λ h. split 0 a (λ l. omega (arith, p .s
 pub like-once : (n : ℕ) → Like n (n % 65536 + n / 65536)
 like-once n = record { some = λ h. omega arith; times = n / 65536; same = omega arith }
 
+-- the upper 32 bits of a number added to the lower
+pub like-halves : (n : ℕ) → Like n (n % 4294967296 + n / 4294967296)
+like-halves n = record { some = λ h. omega arith; times = 65537 * (n / 4294967296); same = omega arith }
+
 folding-is : (k n : ℕ) → n ≤ k → (folding k n < 65536) × Like n (folding k n)
 unfolding folding
 folding-is zero n h = (omega arith, like-refl n)
@@ -67,6 +71,18 @@ fold-of-like {n} {m} p = like-one (fold-low m) (fold-low n) (like-trans p (fold-
 
 pub fold-is : {n f : ℕ} → Like n f → f < 65536 → foldOf n ≡ f
 fold-is {n} {f} p h = like-one (fold-low n) h (fold-like n) p
+
+-- what is below 2 ^ 32 has no carry left after two folds
+pub fold-twice : (n : ℕ) {once twice : ℕ} → n < 4294967296 → once ≡ n % 65536 + n / 65536 → twice ≡ once % 65536 + once / 65536
+    → (twice < 65536) × (twice ≡ foldOf n)
+fold-twice n {once} {twice} h e f =
+    let low : twice < 65536 = omega arith in
+    let like : Like n twice = record { some = λ p. omega arith; times = n / 65536 + once / 65536; same = omega arith } in
+    (low, sym (fold-is like low))
+
+-- two 16-bit words as one number of 32 bits, in the middle of a sum
+pub fold-words : (n a b : ℕ) → foldOf (n + (a * 65536 + b)) ≡ foldOf (n + (a + b))
+fold-words n a b = sym (fold-of-like (record { some = λ h. omega arith; times = a; same = omega arith }))
 
 -- in closed form; and when it is nothing but ones
 pub fold-suc : (n : ℕ) → foldOf (suc n) ≡ suc (n % 65535)

@@ -8,15 +8,21 @@ ghost use lib.ListN.{length};
 ghost use Rattle.checksum.specs.Sum.{sumOf, foldOf, checksumOf};
 ghost use Rattle.checksum.specs.Claims.{Undamaged};
 
-// The carries of a sum folded into 16 bits, until none is left.
+// The carries of a sum folded into 16 bits: one fold leaves at most one carry, and a second none.
 pub fn fold(sum: u32) -> u16
     ensures { λ r. ⌜ r ≡ foldOf sum ⌝ }
 {
-    let mut s = sum;
-    while s >> 16 != 0 {
-        s = (s & 0xffff) + (s >> 16);
-    }
-    s as u16
+    let once = (sum & 0xffff) + (sum >> 16);
+    let twice = (once & 0xffff) + (once >> 16);
+    twice as u16
+}
+
+// The same of a sum in 64 bits.
+pub fn fold_u64(sum: u64) -> u16
+    ensures { λ r. ⌜ r ≡ foldOf sum ⌝ }
+{
+    let halves = (sum & 0xffff_ffff) + (sum >> 32);
+    fold(((halves & 0xffff) + (halves >> 16)) as u32)
 }
 
 // `start` and the words of `bytes`. The bound is met by a whole segment, so that a u32 never wraps.
@@ -36,21 +42,19 @@ fn sum_words(start: u32, bytes: &[u8]) -> u32
     sum
 }
 
-// The same, four words a turn.
-fn sum_block(start: u32, bytes: &[u8]) -> u32
-    requires { ⌜ start + 32768 * (length (now bytes) + 1) < 2 ^ 32 ⌝ }
-    ensures { λ r. ⌜ r ≡ start + sumOf (now (bytes .entry)) ⌝ }
+// A sum that folds to what the words of a block fold to. Four bytes are added at once, as one number: it differs from the sum of its
+// two words by a multiple of 65,535.
+fn sum_block(bytes: &[u8]) -> u64
+    requires { ⌜ length (now bytes) ≤ 65536 ⌝ }
+    ensures { λ r. ⌜ (foldOf r ≡ foldOf (sumOf (now (bytes .entry)))) × (r < 2 ^ 47) ⌝ }
 {
-    let mut sum = start;
+    let mut sum = 0;
     let mut i = 0;
-    while i + 7 < bytes.len() {
-        sum += (field::word(bytes[i], bytes[i + 1]) as u32)
-            + (field::word(bytes[i + 2], bytes[i + 3]) as u32)
-            + (field::word(bytes[i + 4], bytes[i + 5]) as u32)
-            + (field::word(bytes[i + 6], bytes[i + 7]) as u32);
-        i += 8;
+    while i + 3 < bytes.len() {
+        sum += field::double_word(bytes[i], bytes[i + 1], bytes[i + 2], bytes[i + 3]) as u64;
+        i += 4;
     }
-    sum_words(sum, &bytes[i..])
+    sum + (sum_words(0, &bytes[i..]) as u64)
 }
 
 // The ones' complement sum of `start` and the words of `bytes`, which stand at an even offset of the whole message. Sums in parts go
@@ -62,10 +66,10 @@ pub fn sum(start: u16, bytes: &[u8]) -> u16
     let mut i = 0;
     while 65536 < bytes.len() - i {
         let end = i + 65536;
-        sum = fold(sum_block(sum as u32, &bytes[i..end]));
+        sum = fold_u64(sum_block(&bytes[i..end]) + (sum as u64));
         i = end;
     }
-    fold(sum_block(sum as u32, &bytes[i..]))
+    fold_u64(sum_block(&bytes[i..]) + (sum as u64))
 }
 
 // The checksum of a message whose checksum field is 0.

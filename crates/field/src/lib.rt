@@ -1,4 +1,4 @@
-// The two bytes of a 16-bit big-endian field. The wider fields are defined and proved in specs/ and proofs/, over the width.
+// The two bytes of a 16-bit big-endian field, and the number in four. The wider fields are defined and proved in specs/ and proofs/, over the width.
 ghost use mathlib.Core.Path.{_≡_};
 ghost use Prim.Native.Nat.{_+_, _*_, _/_, _%_, _^_};
 
@@ -21,4 +21,11 @@ pub fn low(x: u16) -> u8
     ensures { λ r. ⌜ r ≡ x / 256 ^ 0 % 256 ⌝ }
 {
     (x % 256) as u8
+}
+
+// The number of four bytes, the highest first.
+pub fn double_word(a: u8, b: u8, c: u8, d: u8) -> u32
+    ensures { λ r. ⌜ r ≡ a * 16777216 + b * 65536 + c * 256 + d ⌝ }
+{
+    (word(a, b) as u32) * 65536 + (word(c, d) as u32)
 }

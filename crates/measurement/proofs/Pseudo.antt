@@ -4,12 +4,12 @@ use Prim.Native.Nat.{ℕ, _+_, _*_, _/_, _%_, _<_}
 use native.Mathlib.Omega.{arith}
 use mathlib.Core.Path.{_≡_, refl, sym, ap, ap₂, _∙_}
 use mathlib.Core.List.{List, [], _∷_, _++_}
-use lib.ListN.{length, length-append}
+use lib.ListN.{length, getD, length-append}
 use Rattle.field.specs.Field.{bigEndian, bytesAt}
 use Rattle.field.proofs.Fields.{length-bytesAt}
 use Rattle.checksum.specs.Sum.{sumOf, foldOf}
 use Rattle.checksum.proofs.Sums.{sum-append}
-use Rattle.checksum.proofs.Carries.{fold-add}
+use Rattle.checksum.proofs.Carries.{fold-words}
 use Rattle.measurement.specs.Packet.{addressLength, address, pseudoHeader}
 use Rattle.measurement.specs.declared.IpVersion.{IpVersion}
 use Rattle.measurement.specs.declared.IpVersion.the-variants.{V4, V6}
@@ -46,19 +46,68 @@ pub address-length : (v : IpVersion) (l : List ℕ) → length (address v l) ≡
 unfolding address
 address-length v l = length-bytesAt (addressLength v) 0 l
 
--- the sum as the code takes it: the length first, then one address after the other, carries folded between
-module _ {v : IpVersion} (w : IpVersion) (e : v ≡ w) (src dst : List ℕ) (n : ℕ) (fits : n < 65536) where
-  pub pseudo-folded : {x y : List ℕ} {start first all : ℕ} → x ≡ address w src → y ≡ address w dst
-      → start ≡ foldOf (17 + n) → first ≡ foldOf (start + sumOf x) → all ≡ foldOf (first + sumOf y)
-      → all ≡ foldOf (sumOf (pseudoHeader v (address v src) (address v dst) n))
-  pseudo-folded {x} {y} {start} {first} {all} ex ey es ef ea =
-      let a = address w src in
-      let b = address w dst in
-      let f : first ≡ foldOf (17 + n + sumOf a) =
-      ef ∙ ap₂ (λ (m : ℕ) (l : List ℕ). foldOf (m + sumOf l)) es ex ∙ fold-add (17 + n) (sumOf a) in
-      ea ∙ ap₂ (λ (m : ℕ) (l : List ℕ). foldOf (m + sumOf l)) f ey ∙ fold-add (17 + n + sumOf a) (sumOf b)
-      ∙ ap foldOf (plus (17 + n) (sumOf a) (sumOf b) ∙ sym (pseudo-sum w a b n (address-length w src) (address-length w dst) fits))
-      ∙ ap (λ (u : IpVersion). foldOf (sumOf (pseudoHeader u (address u src) (address u dst) n))) (sym e)
-    where
-      plus : (a b c : ℕ) → a + b + c ≡ b + c + a
-      plus a b c = omega arith
+-- one number in place of another, in any sum that is folded
+abbrev pub Folds : ℕ → ℕ → Type 0
+Folds x y = (n : ℕ) → foldOf (n + x) ≡ foldOf (n + y)
+
+folds-both : (x y z w : ℕ) → Folds x y → Folds z w → Folds (x + z) (y + w)
+folds-both x y z w p q n =
+    ap foldOf (turn n x z) ∙ p (n + z) ∙ ap foldOf (turn' n z y) ∙ q (n + y) ∙ ap foldOf (back n y w)
+  where
+    turn : (a b c : ℕ) → a + (b + c) ≡ a + c + b
+    turn a b c = omega arith
+
+    turn' : (a b c : ℕ) → a + b + c ≡ a + c + b
+    turn' a b c = omega arith
+
+    back : (a b c : ℕ) → a + b + c ≡ a + (b + c)
+    back a b c = omega arith
+
+-- four bytes as one number, and as two words
+four-bytes : (a b c d : ℕ) {x : ℕ} → x ≡ a * 16777216 + b * 65536 + c * 256 + d → Folds x (a * 256 + b + (c * 256 + d))
+four-bytes a b c d e n =
+    ap (λ (y : ℕ). foldOf (n + y)) (e ∙ words a b c d) ∙ fold-words n (a * 256 + b) (c * 256 + d)
+  where
+    words : (a b c d : ℕ) → a * 16777216 + b * 65536 + c * 256 + d ≡ (a * 256 + b) * 65536 + (c * 256 + d)
+    words a b c d = omega arith
+
+-- an address, four bytes at once
+abbrev Four : List ℕ → ℕ → ℕ → Type 0
+Four l at x = x ≡ getD l at 0 * 16777216 + getD l (at + 1) 0 * 65536 + getD l (at + 2) 0 * 256 + getD l (at + 3) 0
+
+module _ {v : IpVersion} (l : List ℕ) where
+  pub ipv4-folds : {x : ℕ} → v ≡ V4 → Four l 0 x → Folds x (sumOf (address v l))
+  unfolding address addressLength sumOf
+  ipv4-folds {x} e p n =
+      let g : ℕ → ℕ = λ k. getD l k 0 in
+      let all : g 0 * 256 + g 1 + (g 2 * 256 + g 3) ≡ sumOf (address V4 l) = omega arith in
+      four-bytes (g 0) (g 1) (g 2) (g 3) p n ∙ ap (λ (m : ℕ). foldOf (n + m)) all ∙ ap (λ (u : IpVersion). foldOf (n + sumOf (address u l))) (sym e)
+
+  pub ipv6-folds : {x y z w : ℕ} → v ≡ V6 → Four l 0 x → Four l 4 y → Four l 8 z → Four l 12 w → Folds (x + y + z + w) (sumOf (address v l))
+  unfolding address addressLength sumOf
+  ipv6-folds {x} {y} {z} {w} e p q r t n =
+      let g : ℕ → ℕ = λ k. getD l k 0 in
+      let a = g 0 * 256 + g 1 + (g 2 * 256 + g 3) in
+      let b = g 4 * 256 + g 5 + (g 6 * 256 + g 7) in
+      let c = g 8 * 256 + g 9 + (g 10 * 256 + g 11) in
+      let d = g 12 * 256 + g 13 + (g 14 * 256 + g 15) in
+      let two = folds-both x a y b (four-bytes (g 0) (g 1) (g 2) (g 3) p) (four-bytes (g 4) (g 5) (g 6) (g 7) q) in
+      let three = folds-both (x + y) (a + b) z c two (four-bytes (g 8) (g 9) (g 10) (g 11) r) in
+      let four = folds-both (x + y + z) (a + b + c) w d three (four-bytes (g 12) (g 13) (g 14) (g 15) t) in
+      let all : a + b + c + d ≡ sumOf (address V6 l) = omega arith in
+      four n ∙ ap (λ (m : ℕ). foldOf (n + m)) all ∙ ap (λ (u : IpVersion). foldOf (n + sumOf (address u l))) (sym e)
+
+-- the sum as the code takes it
+pub pseudo-folded : (v : IpVersion) (src dst : List ℕ) (n x y : ℕ) {r : ℕ} → n < 65536 → Folds x (sumOf (address v src)) → Folds y (sumOf (address v dst))
+    → r ≡ foldOf (17 + n + x + y) → r ≡ foldOf (sumOf (pseudoHeader v (address v src) (address v dst) n))
+pseudo-folded v src dst n x y fits p q e =
+    let a = address v src in
+    let b = address v dst in
+    e ∙ q (17 + n + x) ∙ ap foldOf (turn (17 + n) x (sumOf b)) ∙ p (17 + n + sumOf b)
+    ∙ ap foldOf (plus (17 + n) (sumOf b) (sumOf a) ∙ sym (pseudo-sum v a b n (address-length v src) (address-length v dst) fits))
+  where
+    turn : (a b c : ℕ) → a + b + c ≡ a + c + b
+    turn a b c = omega arith
+
+    plus : (a b c : ℕ) → a + b + c ≡ c + b + a
+    plus a b c = omega arith

@@ -2,6 +2,7 @@
 // echoing give is defined in specs/, and proved there to fit together (specs/Claims.antt); the calls are in the crates
 // measurement_build, measurement_decode and measurement_echo.
 ghost use mathlib.Core.Path.{_≡_};
+ghost use Prim.Native.Nat.{ℕ, _+_, _^_, _<_};
 ghost use Rattle.checksum.specs.Sum.{sumOf, foldOf};
 ghost use Rattle.measurement.specs.Packet.{versionNumbered, address, pseudoHeader, probe};
 ghost use Rattle.measurement.specs.Echo.{reversedOf};
@@ -114,13 +115,27 @@ pub enum Written {
     Refused(u8),
 }
 
+// A number that folds, in any sum, as the words of the address do: four bytes at once.
+fn address_sum(version: IpVersion, bytes: [u8; 16]) -> u64
+    ensures { λ r. ⌜ ((n : ℕ) → foldOf (n + r) ≡ foldOf (n + sumOf (address version bytes))) × (r < 2 ^ 34) ⌝ }
+{
+    let front = field::double_word(bytes[0], bytes[1], bytes[2], bytes[3]) as u64;
+    match version {
+        IpVersion::V4 => front,
+        IpVersion::V6 => {
+            front
+                + (field::double_word(bytes[4], bytes[5], bytes[6], bytes[7]) as u64)
+                + (field::double_word(bytes[8], bytes[9], bytes[10], bytes[11]) as u64)
+                + (field::double_word(bytes[12], bytes[13], bytes[14], bytes[15]) as u64)
+        }
+    }
+}
+
 // The folded sum of the pseudo-header of a UDP checksum: RFC 768; RFC 8200, section 8.1.
 pub fn pseudo_header_sum(version: IpVersion, src: [u8; 16], dst: [u8; 16], udp_length: u16) -> u16
     ensures { λ r. ⌜ r ≡ foldOf (sumOf (pseudoHeader version (address version src) (address version dst) «udp_length»)) ⌝ }
 {
-    let start = checksum::fold(17 + (udp_length as u32));
-    match version {
-        IpVersion::V4 => checksum::sum(checksum::sum(start, &src[..4]), &dst[..4]),
-        IpVersion::V6 => checksum::sum(checksum::sum(start, &src), &dst),
-    }
+    checksum::fold_u64(
+        17 + (udp_length as u64) + address_sum(version, src) + address_sum(version, dst),
+    )
 }

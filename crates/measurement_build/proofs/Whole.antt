@@ -4,7 +4,7 @@ use Prim.Native.Nat.{ℕ, _+_, _-_, _%_, _<_, _≤_}
 use native.Mathlib.Omega.{arith}
 use mathlib.Core.Path.{_≡_, refl, sym, ap, ap₂, _∙_}
 use mathlib.Core.List.{List, [], _∷_, _++_}
-use lib.ListN.{length, take, drop, length-append}
+use lib.ListN.{length, take, drop, length-append, length-drop}
 use borrow.Author.Tests.{lt-ltb, le-ltb}
 use Rattle.error.specs.Outcome.{Outcome, refused, gives}
 use Rattle.field.specs.Field.{bytesAt}
@@ -85,3 +85,27 @@ module _ (f : InnerIpFlow) (s t : ℕ) (v : IpVersion) (e : f .version ≡ v) wh
       ap (pair (gives (ipHeaderLength v + 32))) w
       ∙ ap₂ (λ (n : ℕ) (b : List ℕ). pair (gives n) (b ++ drop n out)) (sym build-length) (sym build-is)
       ∙ writing-fits (buildOf f s t) out (omega (arith, build-length))
+
+-- an IP header of either version in a buffer, and what the UDP writer needs: where the header ends, and the pseudo-header's sum
+pub record Headed (f : InnerIpFlow) (out whole : List ℕ) (start p : ℕ) : Type 0 where
+  pub v : IpVersion
+  pub is : f .version ≡ v
+  pub ends : start ≡ ipHeaderLength v
+  pub fits : ipHeaderLength v + 32 ≤ length out
+  pub header : whole ≡ ipHeader v (bytesAt (addressLength v) 0 (f .src)) (bytesAt (addressLength v) 0 (f .dst)) ++ drop (ipHeaderLength v) out
+  pub sum : p ≡ foldOf (sumOf (pseudoHeader (f .version) (address (f .version) (f .src)) (address (f .version) (f .dst)) 32))
+
+pub headed-length : (f : InnerIpFlow) (out whole : List ℕ) (start p : ℕ) → Headed f out whole start p → (start + 32 ≤ length whole) × (length whole ≡ length out)
+headed-length f out whole start p h =
+    let v = h .v in
+    let x = ipHeader v (bytesAt (addressLength v) 0 (f .src)) (bytesAt (addressLength v) 0 (f .dst)) in
+    let e : length whole ≡ ipHeaderLength v + (length out - ipHeaderLength v) =
+    ap length (h .header) ∙ length-append x (drop (ipHeaderLength v) out)
+    ∙ ap₂ (λ (a b : ℕ). a + b) (header-length v (f .src) (f .dst)) (length-drop (ipHeaderLength v) out) in
+    (omega (arith, h .ends, h .fits), omega (arith, h .fits))
+
+pub headed-built : (f : InnerIpFlow) (s t : ℕ) (out part whole : List ℕ) (start p : ℕ) → Headed f out whole start p
+    → part ≡ segmentOver p (f .«src_port») (f .«dst_port») s t ++ drop 32 (take (length whole - start) (drop start whole))
+    → pair (gives (start + 32)) (take start whole ++ (part ++ drop (length whole - start) (drop start whole))) ≡ writing (buildOf f s t) out
+headed-built f s t out part whole start p h e =
+    rw (h .ends) (built f s t (h .v) (h .is) out part whole p (h .fits) (h .header) (h .sum) (rw (h .ends) at e))

@@ -118,23 +118,30 @@ pub fn build_measurement_tpdu(
         sequence: sequence,
         send_timestamp_ns: send_timestamp_ns,
     };
-    let pseudo = measurement::pseudo_header_sum(version, src, dst, 32);
-    match version {
+    let mut start = 20;
+    let pseudo = match version {
         IpVersion::V4 => {
             if out.len() < 52 {
                 return Written::Refused(error::OUTPUT_TOO_SHORT);
             }
             write_ipv4_header(src, dst, out);
-            write_udp_segment(pseudo, flow.src_port, flow.dst_port, header, &mut out[20..]);
-            Written::Bytes(52)
+            measurement::pseudo_header_sum(version, src, dst, 32)
         }
         IpVersion::V6 => {
             if out.len() < 72 {
                 return Written::Refused(error::OUTPUT_TOO_SHORT);
             }
             write_ipv6_header(src, dst, out);
-            write_udp_segment(pseudo, flow.src_port, flow.dst_port, header, &mut out[40..]);
-            Written::Bytes(72)
+            start = 40;
+            measurement::pseudo_header_sum(version, src, dst, 32)
         }
-    }
+    };
+    write_udp_segment(
+        pseudo,
+        flow.src_port,
+        flow.dst_port,
+        header,
+        &mut out[start..],
+    );
+    Written::Bytes(start + 32)
 }

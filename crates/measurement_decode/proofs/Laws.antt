@@ -29,7 +29,7 @@ use Rattle.measurement.proofs.Pseudo.{pseudo-even, address-length}
 pub eight : (s : List ℕ) (at : ℕ) {a b c d e f g h : ℕ}
     → a ≡ getD s at 0 → b ≡ getD s (at + 1) 0 → c ≡ getD s (at + 2) 0 → d ≡ getD s (at + 3) 0
     → e ≡ getD s (at + 4) 0 → f ≡ getD s (at + 5) 0 → g ≡ getD s (at + 6) 0 → h ≡ getD s (at + 7) 0
-    → a * 72057594037927936 + b * 281474976710656 + c * 1099511627776 + d * 4294967296 + e * 16777216 + f * 65536 + g * 256 + h ≡ field 8 at s
+    → a * 72057594037927936 + b * 281474976710656 + c * 1099511627776 + d * 4294967296 + (e * 16777216 + f * 65536 + g * 256 + h) ≡ field 8 at s
 eight s at p0 p1 p2 p3 p4 p5 p6 p7 =
     let x1 = p1 ∙ ap (λ (n : ℕ). getD s n 0) (place 1 (suc at) (omega arith)) in
     let x2 = p2 ∙ ap (λ (n : ℕ). getD s n 0) (place 2 (suc (suc at)) (omega arith)) in

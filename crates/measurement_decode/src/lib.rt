@@ -24,19 +24,20 @@ fn wide(x: u8) -> u64
     x as u64
 }
 
-// The number in the 8 bytes from `at` on.
+// The number in the 8 bytes from `at` on: in halves, of which the compiler makes one load.
 fn read_u64(bytes: &[u8], at: usize) -> u64
     requires { ⌜ (at < 256) × (at + 8 ≤ length (now bytes)) ⌝ }
     ensures { λ r. ⌜ r ≡ field 8 at (now (bytes .entry)) ⌝ }
 {
-    wide(bytes[at]) * 0x100_0000_0000_0000
+    let high = wide(bytes[at]) * 0x100_0000_0000_0000
         + wide(bytes[at + 1]) * 0x1_0000_0000_0000
         + wide(bytes[at + 2]) * 0x100_0000_0000
-        + wide(bytes[at + 3]) * 0x1_0000_0000
-        + wide(bytes[at + 4]) * 0x100_0000
+        + wide(bytes[at + 3]) * 0x1_0000_0000;
+    let low = wide(bytes[at + 4]) * 0x100_0000
         + wide(bytes[at + 5]) * 0x1_0000
         + wide(bytes[at + 6]) * 0x100
-        + wide(bytes[at + 7])
+        + wide(bytes[at + 7]);
+    high + low
 }
 
 // A refusal: its number, and zeros.

@@ -1,40 +1,29 @@
--- `checksum::fold` meets its contract. The loop's invariant: what is left folds to what the sum folds to.
+-- `checksum::fold` meets its contract.
 -- Assumes nothing.
-use Prim.Native.Nat.{_<_, _≤_}
-use mathlib.Core.Path.{_≡_, refl, sym, _∙_}
+use Prim.Native.Nat.{ℕ, _+_, _/_}
 use native.Mathlib.Omega.{arith}
-use lib.Bits.{and-mask}
-use Rattle.checksum.specs.Sum.{foldOf}
-use Rattle.checksum.proofs.Carries.{like-once, like-refl, fold-of-like, fold-is}
+use lib.Bits.{bitAnd, and-mask}
+use Rattle.checksum.proofs.Carries.{fold-twice}
 use Rattle.checksum.proofs.fold.Statement.{statement}
 use Rattle.checksum.proofs.fold.Tie as tie
 
-abbrev Inv-loop : tie.InvT-loop
-Inv-loop sum s₀ s = (s ≤ sum) × (foldOf s ≡ foldOf sum)
+-- one fold
+abbrev once : ℕ → ℕ
+once n = bitAnd n 65535 + n / 65536
 
-abbrev μ-loop : tie.MeasureT-loop
-μ-loop sum s₀ s = s
+add-once : tie.Need-add-once
+add-once c = omega (arith, and-mask (c .args .sum) 16)
 
-loop-holds : tie.Need-loop-holds Inv-loop μ-loop
-loop-holds c = (omega arith, refl)
+add-twice : tie.Need-add-twice
+add-twice c = omega (arith, and-mask (c .args .sum) 16, and-mask (once (c .args .sum)) 16)
 
-add-s : tie.Need-add-s Inv-loop μ-loop
-add-s c = omega (arith, and-mask (c .before .loop .s) 16)
+cast-result : tie.Need-cast-result
+cast-result c = omega (arith, and-mask (c .args .sum) 16, and-mask (once (c .args .sum)) 16)
 
-loop-less : tie.Need-loop-less Inv-loop μ-loop
-loop-less c = omega (arith, and-mask (c .before .loop .s) 16)
-
-loop-again : tie.Need-loop-again Inv-loop μ-loop
-loop-again c =
-    let s = c .before .loop .s in
-    rw (and-mask s 16) (omega arith, fold-of-like (like-once s) ∙ c .before .loop .inv .1)
-
-cast-result : tie.Need-cast-result Inv-loop μ-loop
-cast-result c = omega arith
-
-returns : tie.Need-returns Inv-loop μ-loop
-returns c = sym (fold-is (like-refl (c .before .loop .s)) (omega arith)) ∙ c .before .loop .inv .1
+returns : tie.Need-returns
+returns c =
+    let s = c .args .sum in
+    fold-twice s {once = once s} {twice = once (once s)} (omega arith) (omega (arith, and-mask s 16)) (omega (arith, and-mask (once s) 16)) .1
 
 pub fold-spec : {M : Type 1} → statement M
-fold-spec =
-    tie.close (tie.spec Inv-loop μ-loop loop-holds add-s loop-less loop-again cast-result returns)
+fold-spec = tie.close (tie.spec add-once add-twice cast-result returns)
