@@ -30,7 +30,7 @@ whole : (n : ℕ) (l : List ℕ) → length l ≡ n → l ≡ bytesAt n 0 l
 whole n l h = split-off n 0 l (omega arith) ∙ ap (λ (m : List ℕ). bytesAt n 0 l ++ m) (drop-of-length-le l {i = 0 + n} (omega arith)) ∙ append-nil (bytesAt n 0 l)
 
 pub error-indication-accepted : ErrorIndicationAccepted
-unfolding ErrorIndicationAccepted elementsOf elementsFrom walk elementCauses elementSize endOf firstCause
+unfolding elementsOf elementsFrom walk elementCauses elementSize endOf firstCause
 error-indication-accepted teid address h (inl k) =
     ap₂ (λ (x y : List ℕ). elementsOf (errorIndication x y)) (whole 4 teid h) (whole 4 address k)
 error-indication-accepted teid address h (inr k) =

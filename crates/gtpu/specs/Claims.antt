@@ -32,7 +32,7 @@ abbrev pub errorIndication : List ℕ → List ℕ → List ℕ
 errorIndication teid address = 16 ∷ (teid ++ (133 ∷ (bigEndian 2 (length address) ++ address)))
 
 -- It is accepted, for every TEID and every IPv4 or IPv6 address.
-unfoldable pub ErrorIndicationAccepted : Type 0
+abbrev pub ErrorIndicationAccepted : Type 0
 ErrorIndicationAccepted = (teid address : List ℕ) → length teid ≡ 4 → (length address ≡ 4) ⊎ (length address ≡ 16)
     → elementsOf (errorIndication teid address) ≡ gives tt
 

@@ -2,3 +2,4 @@
 pub mod State
 pub mod Answer
 pub mod Handle
+pub mod Claims

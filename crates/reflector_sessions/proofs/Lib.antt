@@ -6,3 +6,4 @@ pub mod Search
 pub mod Calls
 pub mod Memory
 pub mod Finds
+pub mod Claims

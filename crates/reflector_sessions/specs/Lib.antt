@@ -4,3 +4,4 @@ pub mod Judge
 pub mod Table
 pub mod Register
 pub mod Remove
+pub mod Claims
