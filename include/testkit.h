@@ -19,7 +19,7 @@
  *
  * Answers. `number` is 0 (TESTKIT_ACCEPTED) or says why the call refused: the enum below, and docs/CARD.md for what to do about it. Of
  * several causes it names the first in the order that is given at the call. A refusal leaves every lent byte and every count as it was;
- * the two exceptions are said at their calls, testkit_decode and testkit_generate. On success, output bytes past the answer stay.
+ * the exception is said at its call, testkit_generate. On success, output bytes past the answer stay.
  *
  * Time. Every call ends. Times are in nanoseconds since whatever moment the caller chose.
  *
@@ -170,7 +170,7 @@ struct testkit_tpdu {
 };
 
 /*
- * Reads the T-PDU of a probe. `src` and `dst` get the addresses. They are part of the answer: on a refusal they get zeros.
+ * Reads the T-PDU of a probe. `src` and `dst` get the addresses; on a refusal they stay as they were.
  * Refuses by 1, then 2, then, of IPv4, 3, 4, 5, 6, 7, 10, 12, 13, 14, of IPv6, 8, 6, 9, 11, 12, 10, 13, 14.
  */
 struct testkit_tpdu testkit_decode(const uint8_t *tpdu, size_t tpdu_length, uint8_t src[16], uint8_t dst[16]);

@@ -157,8 +157,8 @@ impl From<Probe> for Values {
 fn as_ours(outcome: Outcome<Probe>) -> (u8, Values) {
     const NONE: Values = Values {
         version: 4,
-        src: [0; 16],
-        dst: [0; 16],
+        src: ours::DIRTY_ADDRESS,
+        dst: ours::DIRTY_ADDRESS,
         src_port: 0,
         dst_port: 0,
         sequence: 0,

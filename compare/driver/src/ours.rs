@@ -108,11 +108,14 @@ pub fn build(values: &Values, out: &mut [u8]) -> Written {
     }
 }
 
+/// What stands in an address that is lent to the reader, and stays there where it refuses.
+pub const DIRTY_ADDRESS: [u8; 16] = [0xa5; 16];
+
 /// What is read from a T-PDU: 0 and the values, or the number of a refusal and no values
-/// (version 4, all else 0). The addresses that are lent are dirty.
+/// (version 4, the addresses as they were lent, all else 0).
 pub fn decode(tpdu: &[u8]) -> (u8, Values) {
     let tpdu = lent(tpdu);
-    let [mut src, mut dst] = [[0xa5; 16]; 2];
+    let [mut src, mut dst] = [DIRTY_ADDRESS; 2];
     // SAFETY: the call reads `length` bytes from `tpdu` and writes two addresses; all are lent
     // for as long as it runs, and the addresses to it alone.
     let read = unsafe { testkit_decode(tpdu.as_ptr(), tpdu.len(), &mut src, &mut dst) };

@@ -8,7 +8,7 @@ use testkit_open::traffic::TrafficPlan;
 use crate::gtpu::any_elements;
 use crate::numbers::NOT_IN_THE_RUST;
 use crate::observer::{any_call, any_contents, Call};
-use crate::ours::Values;
+use crate::ours::{Values, DIRTY_ADDRESS};
 use crate::ours_traffic::{Counts, Noted, Report, RunSheet};
 use crate::random::Random;
 use crate::rust_side::gtpu::validate_error_indication_ies;
@@ -194,12 +194,12 @@ fn draw_decode(random: &mut Random) -> Option<Drawn> {
     Some((number, values.version, rest))
 }
 
-/// What stands beside a refusal: version 4, and zeros.
+/// What stands beside a refusal: version 4, the addresses as they were lent, and zeros.
 fn no_values() -> Values {
     Values {
         version: 4,
-        src: [0; 16],
-        dst: [0; 16],
+        src: DIRTY_ADDRESS,
+        dst: DIRTY_ADDRESS,
         src_port: 0,
         dst_port: 0,
         sequence: 0,

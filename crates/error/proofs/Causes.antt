@@ -2,7 +2,7 @@
 -- Assumes nothing.
 use Prim.Native.Nat.{ℕ}
 use mathlib.Core.Path.{_≡_, refl, sym, _∙_}
-use mathlib.Core.List.{List, [], _∷_}
+use mathlib.Core.List.{List, [], _∷_, _++_}
 use mathlib.Core.Bool.{Bool, true, false}
 use native.Mathlib.Omega.{arith}
 use Rattle.error.specs.Outcome.{Outcome, refused, gives, Cause, _⇒_, firstCause}
@@ -37,3 +37,17 @@ unfolding firstCause
 passed [] o x e = (none, e)
 passed ((true ⇒ n) ∷ rows) o x e = absurd (refused-gives e)
 passed ((false ⇒ n) ∷ rows) o x e = let p = passed rows o x e in (past refl (p .0), p .1)
+
+-- ---- rows behind other rows
+
+pub refuses-front : {rows : List Cause} {n : ℕ} (more : List Cause) → Refuses rows n → Refuses (rows ++ more) n
+refuses-front more (here e) = here e
+refuses-front more (later e r) = later e (refuses-front more r)
+
+pub refuses-behind : {rows more : List Cause} {n : ℕ} → Passes rows → Refuses more n → Refuses (rows ++ more) n
+refuses-behind none r = r
+refuses-behind (past e p) r = later e (refuses-behind p r)
+
+pub passes-both : {rows more : List Cause} → Passes rows → Passes more → Passes (rows ++ more)
+passes-both none q = q
+passes-both (past e p) q = past e (passes-both p q)

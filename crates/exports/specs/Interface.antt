@@ -5,6 +5,7 @@ use mathlib.Core.List.{List}
 use mathlib.Core.Bool.{true, false}
 use lib.Dec.{eqb}
 use Rattle.error.specs.Outcome.{Outcome, refused, gives, outcomeNumber}
+use Rattle.measurement.specs.Packet.{versionNumbered}
 use Rattle.measurement.specs.declared.DecodeResult.{DecodeResult}
 use Rattle.measurement.specs.declared.DecodedTpdu.{DecodedTpdu}
 use Rattle.measurement.specs.declared.Decoding.{Decoding}
@@ -55,6 +56,11 @@ writtenNumbers (gives bytes) = record { number = 0; bytes = bytes }
 abbrev pub decodingNumber : Decoding → ℕ
 decodingNumber decoding.Accepted = 0
 decodingNumber (decoding.Refused n) = n
+
+-- "Left as it was: all": an address that was read, or what was lent where reading refuses.
+abbrev pub readOrLent : Decoding → List ℕ → List ℕ → List ℕ
+readOrLent decoding.Accepted read lent = read
+readOrLent (decoding.Refused n) read lent = lent
 
 -- What reading answers, without the addresses, which go into lent arrays.
 abbrev pub tpduNumbers : DecodeResult → TestkitTpdu

@@ -39,7 +39,7 @@ ghost use Rattle.continuity.specs.Answer.{messageMeans};
 ghost use Rattle.continuity.specs.Batch.{recordReceivedTpdus, receivedAll};
 ghost use Rattle.report.specs.Report.{reporting};
 ghost use Rattle.report.specs.Answer.{reportedMeans};
-ghost use Rattle.exports.specs.Interface.{versionNumber, flowOf, writtenNumbers, decodingNumber, tpduNumbers, planOf, generatedNumbers, countsOf, recordedNumbers, RecordedStep, planAnswer, returnsAnswer, kindNumber, ignoredType, messageNumbers, MessageStepNumbers, latencyNumbers, budgetOf, reportNumbers};
+ghost use Rattle.exports.specs.Interface.{versionNumber, flowOf, writtenNumbers, decodingNumber, readOrLent, tpduNumbers, planOf, generatedNumbers, countsOf, recordedNumbers, RecordedStep, planAnswer, returnsAnswer, kindNumber, ignoredType, messageNumbers, MessageStepNumbers, latencyNumbers, budgetOf, reportNumbers};
 
 // What a call that writes into a lent buffer answers: 0 and how many bytes it wrote, or a refusal's number and 0 bytes.
 #[repr(C)]
@@ -118,6 +118,16 @@ fn decoding_number(decoding: Decoding) -> u8
     }
 }
 
+// An address that was read or, beside a refusal, the one that was lent.
+fn read_or_lent(decoding: Decoding, read: [u8; 16], lent: [u8; 16]) -> [u8; 16]
+    ensures { λ r. ⌜ r ≡ readOrLent decoding read lent ⌝ }
+{
+    match decoding {
+        Decoding::Accepted => read,
+        Decoding::Refused(_) => lent,
+    }
+}
+
 // `measurement_build::build_measurement_tpdu`
 #[no_mangle]
 pub extern "C" fn testkit_build(
@@ -161,8 +171,8 @@ pub extern "C" fn testkit_echo(tpdu: &[u8], out: &mut [u8]) -> TestkitWritten
 #[no_mangle]
 pub extern "C" fn testkit_decode(tpdu: &[u8], src: &mut [u8; 16], dst: &mut [u8; 16]) -> TestkitTpdu
     ensures answer { λ r. ⌜ r ≡ tpduNumbers (decodeResult (readOf (now (tpdu .entry)))) ⌝ }
-    ensures source { λ _. ⌜ now (src .exit) ≡ decodeResult (readOf (now (tpdu .entry))) .tpdu .flow .src ⌝ }
-    ensures destination { λ _. ⌜ now (dst .exit) ≡ decodeResult (readOf (now (tpdu .entry))) .tpdu .flow .dst ⌝ }
+    ensures source { λ _. ⌜ now (src .exit) ≡ readOrLent (decodeResult (readOf (now (tpdu .entry))) .decoding) (decodeResult (readOf (now (tpdu .entry))) .tpdu .flow .src) (now (src .entry)) ⌝ }
+    ensures destination { λ _. ⌜ now (dst .exit) ≡ readOrLent (decodeResult (readOf (now (tpdu .entry))) .decoding) (decodeResult (readOf (now (tpdu .entry))) .tpdu .flow .dst) (now (dst .entry)) ⌝ }
 {
     let read = measurement_decode::decode_measurement_tpdu(tpdu);
     let decoding = read.decoding;
@@ -172,8 +182,8 @@ pub extern "C" fn testkit_decode(tpdu: &[u8], src: &mut [u8; 16], dst: &mut [u8;
     let version = flow.version;
     let source = flow.src;
     let destination = flow.dst;
-    *src = source;
-    *dst = destination;
+    *src = read_or_lent(decoding, source, *src);
+    *dst = read_or_lent(decoding, destination, *dst);
     TestkitTpdu {
         number: decoding_number(decoding),
         version: version_number(version),

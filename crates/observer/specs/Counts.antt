@@ -1,17 +1,14 @@
 -- The counts beside the columns. Document 01, leaf 6: "Beside it stand the used count and counters for duplicates, out-of-order returns and
 -- error indications, which saturate." The record is the declared struct of the code; calls change it by the named updates below.
 -- Assumes nothing.
-use Prim.Native.Nat.{ℕ, _+_, min}
+use Prim.Native.Nat.{ℕ}
 use mathlib.Core.Bool.{Bool, true, false}
+use Rattle.counter.specs.Counter.{oneMore}
 use Rattle.observer.specs.declared.ObserverCounts.{ObserverCounts}
 
 -- "Fresh: all of these 0."
 abbrev pub fresh : ObserverCounts
 fresh = record { used = 0; «duplicate_packets» = 0; «out_of_order_packets» = 0; «gtpu_error_indications» = 0 }
-
--- One more, and no more than the top of a u64: the counters saturate.
-unfoldable pub oneMore : ℕ → ℕ
-oneMore n = min (n + 1) 18446744073709551615
 
 -- so many used rows
 abbrev pub withUsed : ℕ → ObserverCounts → ObserverCounts

@@ -8,7 +8,7 @@ ghost use mathlib.Core.List.{[], _∷_};
 ghost use Prim.Native.Nat.{_+_, _≤_, _<_, min};
 ghost use lib.ListN.{length, take, drop};
 ghost use Rattle.error.specs.Outcome.{gives};
-ghost use Rattle.observer.specs.Counts.{oneMore, withUsed, oneDuplicate, outOfOrderIf, oneErrorIndication};
+ghost use Rattle.observer.specs.Counts.{withUsed, oneDuplicate, outOfOrderIf, oneErrorIndication};
 ghost use Rattle.observer.specs.Observer.{capacityOf};
 ghost use Rattle.observer.specs.Judge.{rising, wellFormed};
 ghost use Rattle.observer.specs.Place.{place, holds};
@@ -49,7 +49,7 @@ impl ObserverCounts {
     {
         Self {
             used: self.used,
-            duplicate_packets: one_more(self.duplicate_packets),
+            duplicate_packets: counter::one_more(self.duplicate_packets),
             out_of_order_packets: self.out_of_order_packets,
             gtpu_error_indications: self.gtpu_error_indications,
         }
@@ -64,7 +64,7 @@ impl ObserverCounts {
         Self {
             used: self.used,
             duplicate_packets: self.duplicate_packets,
-            out_of_order_packets: one_more(self.out_of_order_packets),
+            out_of_order_packets: counter::one_more(self.out_of_order_packets),
             gtpu_error_indications: self.gtpu_error_indications,
         }
     }
@@ -76,7 +76,7 @@ impl ObserverCounts {
             used: self.used,
             duplicate_packets: self.duplicate_packets,
             out_of_order_packets: self.out_of_order_packets,
-            gtpu_error_indications: one_more(self.gtpu_error_indications),
+            gtpu_error_indications: counter::one_more(self.gtpu_error_indications),
         }
     }
 
@@ -123,17 +123,6 @@ pub enum Returned {
 pub enum Walked {
     Accepted,
     Refused(u8),
-}
-
-// One more, unless the counter is at its top.
-fn one_more(count: u64) -> u64
-    ensures { λ r. ⌜ r ≡ oneMore count ⌝ }
-{
-    if count < 18446744073709551615 {
-        count + 1
-    } else {
-        count
-    }
 }
 
 fn least(a: usize, b: usize) -> usize

@@ -11,7 +11,7 @@ use lib.ListN.{length, set, drop}
 use borrow.Author.Tests.{eq-eqb, ne-eqb, lt-ltb, le-ltb}
 use Rattle.error.specs.Number.{outputTooShort, unsupportedMessageType}
 use Rattle.error.specs.Outcome.{Outcome, refused, gives, Cause, _⇒_, firstCause}
-use Rattle.error.proofs.Causes.{Refuses, Passes, here, later, none as no-row, past, refuses, passes, refused-gives}
+use Rattle.error.proofs.Causes.{Refuses, here, none as no-row, past, refuses, passes, refused-gives, refuses-front, refuses-behind, passes-both}
 use Rattle.measurement.specs.Read.{readOf}
 use Rattle.measurement.specs.Echo.{reversedOf, echoOfTpdu, echoOf}
 use Rattle.measurement.specs.declared.DecodedTpdu.{DecodedTpdu}
@@ -47,20 +47,6 @@ use Rattle.reflector_answer.specs.declared.SequenceNumber.the-variants.{
 
 abbrev refusal : ℕ → ReflectorState → Answer
 refusal n state = record { outcome = refused n; state = state }
-
--- ---- rows of causes behind each other
-
-refuses-before : {rows : List Cause} {n : ℕ} (more : List Cause) → Refuses rows n → Refuses (rows ++ more) n
-refuses-before more (here e) = here e
-refuses-before more (later e r) = later e (refuses-before more r)
-
-refuses-behind : {rows more : List Cause} {n : ℕ} → Passes rows → Refuses more n → Refuses (rows ++ more) n
-refuses-behind no-row r = r
-refuses-behind (past e p) r = later e (refuses-behind p r)
-
-passes-both : {rows more : List Cause} → Passes rows → Passes more → Passes (rows ++ more)
-passes-both no-row q = q
-passes-both (past e p) q = past e (passes-both p q)
 
 -- ---- what the echo of a payload leaves in the output, which is long enough for every echo
 
@@ -248,7 +234,7 @@ module _ (rows used : ℕ) (config : MultiSessionReflectorConfig) (state : Refle
   first {n} h = rw (sym (refuses (gives (tt {0})) h), handleFound)
 
   pub handling-refused : {n : ℕ} → refused n ≡ tableOutcome rows used (config .«max_sessions») → refusal n state ≡ handled
-  handling-refused e = first (refuses-before ((ltb (length out) 72 ⇒ outputTooShort) ∷ []) (judged-refused rows used (config .«max_sessions») e))
+  handling-refused e = first (refuses-front ((ltb (length out) 72 ⇒ outputTooShort) ∷ []) (judged-refused rows used (config .«max_sessions») e))
 
   pub handling-short : {n : ℕ} → gives n ≡ tableOutcome rows used (config .«max_sessions») → length out < 72 → refusal outputTooShort state ≡ handled
   handling-short e l = first (refuses-behind (is-sound rows used (config .«max_sessions») (judged-sound rows used (config .«max_sessions») e .0)) (here (lt-ltb (length out) 72 l)))

@@ -15,7 +15,8 @@ use Rattle.field.specs.Field.{Bytes}
 use Rattle.measurement.specs.Read.{readOf}
 use Rattle.gtpu.specs.Element.{elementsOf}
 use Rattle.observer.specs.Claims.{sending, returning, indicating}
-use Rattle.observer.specs.Counts.{oneMore, fresh, oneDuplicate, outOfOrderIf, oneErrorIndication}
+use Rattle.counter.specs.Counter.{oneMore}
+use Rattle.observer.specs.Counts.{fresh, oneDuplicate, outOfOrderIf, oneErrorIndication}
 use Rattle.observer.specs.declared.ObserverCounts.{ObserverCounts}
 use Rattle.observer.specs.Judge.{wellFormed, Step, step}
 use Rattle.observer.specs.Observer.{Row, Observer, capacity, rows, withRows, withCounts, sentRow}

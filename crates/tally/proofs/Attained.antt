@@ -21,7 +21,7 @@ use Rattle.measurement.specs.declared.InnerIpFlow.{InnerIpFlow}
 use Rattle.measurement.proofs.Built.{packet-bytes}
 use Rattle.traffic.specs.Plan.{timeAt, packetsFrom, packetsOf}
 use Rattle.traffic.proofs.Claims.{accepted-if-acceptable, room-decides}
-use Rattle.observer.specs.Counts.{oneMore}
+use Rattle.counter.specs.Counter.{oneMore}
 use Rattle.observer.specs.Observer.{capacity, rows, withRows}
 use Rattle.observer.specs.Judge.{wellFormed, judged}
 use Rattle.observer.specs.Place.{holds}

@@ -11,7 +11,8 @@ use borrow.Author.Tests.{ltb-true, ltb-false, eqb-true, eqb-false}
 use Rattle.error.specs.Outcome.{Outcome, refused, gives}
 use Rattle.measurement.specs.Read.{readOf}
 use Rattle.measurement.specs.declared.DecodedTpdu.{DecodedTpdu}
-use Rattle.observer.specs.Counts.{oneMore, oneDuplicate, outOfOrderIf}
+use Rattle.counter.specs.Counter.{oneMore}
+use Rattle.observer.specs.Counts.{oneDuplicate, outOfOrderIf}
 use Rattle.observer.specs.Observer.{Row, Observer, rows, rowAt, withRows, withCounts}
 use Rattle.observer.specs.Judge.{wellFormed, judged, Step, step}
 use Rattle.observer.specs.Place.{placeOf, wasSent, rowOf, highestMarked}

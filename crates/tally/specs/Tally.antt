@@ -12,7 +12,7 @@ use Rattle.evidence.specs.declared.PacketContinuityBudget.{PacketContinuityBudg
 use Rattle.evidence.specs.declared.PacketContinuityReport.{PacketContinuityReport}
 use Rattle.measurement.specs.Read.{readOf}
 use Rattle.measurement.specs.declared.MeasurementHeader.{MeasurementHeader}
-use Rattle.observer.specs.Counts.{oneMore}
+use Rattle.counter.specs.Counter.{oneMore}
 use Rattle.observer.specs.Observer.{Row}
 use Rattle.observer.specs.declared.ObserverCounts.{ObserverCounts}
 use Rattle.report.specs.Report.{reportOf}

@@ -58,18 +58,6 @@ module _ (next : ℕ) where
   passed-leaving ((t ⇒ n) ∷ rows) (past e p) = causes.past e (passed-leaving rows p)
 
 -- rows in front of others
-pub refuses-front : {rows : List Cause} {n : ℕ} (more : List Cause) → causes.Refuses rows n → causes.Refuses (rows ++ more) n
-refuses-front more (causes.here e) = causes.here e
-refuses-front more (causes.later e r) = causes.later e (refuses-front more r)
-
-pub refuses-behind : {rows more : List Cause} {n : ℕ} → causes.Passes rows → causes.Refuses more n → causes.Refuses (rows ++ more) n
-refuses-behind causes.none r = r
-refuses-behind (causes.past e p) r = causes.later e (refuses-behind p r)
-
-pub passes-both : {rows more : List Cause} → causes.Passes rows → causes.Passes more → causes.Passes (rows ++ more)
-passes-both causes.none q = q
-passes-both (causes.past e p) q = causes.past e (passes-both p q)
-
 pub passed-both : (rows : List Cause) {more : List Cause} → causes.Passes (rows ++ more) → causes.Passes rows × causes.Passes more
 passed-both [] p = (causes.none, p)
 passed-both (r ∷ rows) (causes.past e p) = let q = passed-both rows p in (causes.past e (q .0), q .1)
