@@ -63,6 +63,15 @@ static void call_generate(void)
 static void call_elements(void) { kept = ENTER(testkit_validate_elements)(in, in_length); }
 static void call_sent(void) { kept = ENTER(testkit_record_sent)(SHEET, sequence, 7).number; }
 static void call_received(void) { kept = ENTER(testkit_record_received_tpdu)(SHEET, 9, in, in_length).number; }
+static void call_plan(void) { kept = ENTER(testkit_record_sent_plan)(SHEET, sequence, 7, 1, ROWS).number; }
+static void call_returns(void)
+{
+    static const uint64_t at[2] = {9, 9};
+    static uint64_t read[2];
+    static uint8_t numbers[2];
+    size_t lengths[2] = {in_length / 2, in_length};
+    kept = ENTER(testkit_record_received_tpdus)(SHEET, at, 2, lengths, 2, in, in_length, read, 2, numbers, 2).returns;
+}
 static void call_message(void) { kept = ENTER(testkit_record_return_gtpu_datagram)(SHEET, 9, message_type, in, in_length).number; }
 static void call_report(void) { kept = ENTER(testkit_report)(SHEET, 1, 2, 3, 4, 5).number; }
 
@@ -82,6 +91,8 @@ static struct row {
     {"testkit_validate_elements", call_elements, TESTKIT_STACK_VALIDATE_ELEMENTS, 0},
     {"testkit_record_sent", call_sent, TESTKIT_STACK_RECORD_SENT, 0},
     {"testkit_record_received_tpdu", call_received, TESTKIT_STACK_RECORD_RECEIVED_TPDU, 0},
+    {"testkit_record_sent_plan", call_plan, TESTKIT_STACK_RECORD_SENT_PLAN, 0},
+    {"testkit_record_received_tpdus", call_returns, TESTKIT_STACK_RECORD_RECEIVED_TPDUS, 0},
     {"testkit_record_return_gtpu_datagram", call_message, TESTKIT_STACK_RECORD_RETURN_GTPU_DATAGRAM, 0},
     {"testkit_report", call_report, TESTKIT_STACK_REPORT, 0},
 };
@@ -140,6 +151,7 @@ static void measure_packet(void)
     measure(call_verify);
     measure(call_decode);
     measure(call_received);
+    measure(call_returns);
     message_type = 255;
     measure(call_message);
     for (out_length = 51; out_length <= 72; out_length += 21) {
@@ -247,6 +259,7 @@ static void measure_sheet(size_t used, size_t step)
     for (size_t k = 0; k < sizeof new_sequences / sizeof *new_sequences; k++) {
         sequence = new_sequences[k];
         measure(call_sent);
+        measure(call_plan);
         in_length = testkit_build(k % 2 ? 4 : 6, src, dst, 1, 2, sequence, 4, in, sizeof in).bytes;
         measure_packet();
     }

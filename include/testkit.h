@@ -94,16 +94,18 @@ enum testkit_number {
  * inputs; firmware/run measures again and fails where a call uses more.
  */
 enum testkit_stack {
-    TESTKIT_STACK_SUM = 8,
-    TESTKIT_STACK_CHECKSUM = 24,
-    TESTKIT_STACK_VERIFY = 24,
-    TESTKIT_STACK_BUILD = 248,
-    TESTKIT_STACK_DECODE = 560,
+    TESTKIT_STACK_SUM = 16,
+    TESTKIT_STACK_CHECKSUM = 32,
+    TESTKIT_STACK_VERIFY = 32,
+    TESTKIT_STACK_BUILD = 240,
+    TESTKIT_STACK_DECODE = 608,
     TESTKIT_STACK_ECHO = 704,
-    TESTKIT_STACK_GENERATE = 360,
+    TESTKIT_STACK_GENERATE = 352,
     TESTKIT_STACK_VALIDATE_ELEMENTS = 856,
     TESTKIT_STACK_RECORD_SENT = 56,
     TESTKIT_STACK_RECORD_RECEIVED_TPDU = 848,
+    TESTKIT_STACK_RECORD_SENT_PLAN = 108,
+    TESTKIT_STACK_RECORD_RECEIVED_TPDUS = 456,
     TESTKIT_STACK_RECORD_RETURN_GTPU_DATAGRAM = 1048,
     TESTKIT_STACK_REPORT = 128
 };
@@ -268,6 +270,59 @@ struct testkit_recorded testkit_record_received_tpdu(
     struct testkit_counts counts,
     uint64_t return_timestamp_ns,
     const uint8_t *tpdu, size_t tpdu_length);
+
+/* How many packets were entered, 0 or the first refusal's number, and the counts for the next call. */
+struct testkit_plan_recorded {
+    uint64_t entered;
+    uint8_t number;
+    size_t used;
+    uint64_t duplicate_packets;
+    uint64_t out_of_order_packets;
+    uint64_t gtpu_error_indications;
+};
+
+/*
+ * Enters the packets of a plan that testkit_generate accepted, as testkit_record_sent would one after the other; the sheet is judged (21)
+ * once. `interval_ns` is 1,000,000,000 divided by the rate, rounded down. Past the top of a sequence or a time no packet is entered.
+ * A packet that is refused is not entered, and those behind it are tried all the same.
+ */
+struct testkit_plan_recorded testkit_record_sent_plan(
+    uint64_t *sequences, size_t sequences_length,
+    uint64_t *send_timestamps, size_t send_timestamps_length,
+    uint64_t *latencies, size_t latencies_length,
+    uint8_t *marks, size_t marks_length,
+    struct testkit_counts counts,
+    uint64_t first_sequence,
+    uint64_t first_send_timestamp_ns,
+    uint64_t interval_ns,
+    uint64_t packet_count);
+
+/* How many returns there were, and the counts for the next call. */
+struct testkit_returns_recorded {
+    size_t returns;
+    size_t used;
+    uint64_t duplicate_packets;
+    uint64_t out_of_order_packets;
+    uint64_t gtpu_error_indications;
+};
+
+/*
+ * Enters packets that came back, as testkit_record_received_tpdu would one after the other; the sheet is judged (21) once. The T-PDUs lie
+ * end to end in `tpdus`, each as long as `lengths` says. There are as many returns as the shortest of `return_timestamps`, `lengths`,
+ * `returned` and `numbers` has elements. `numbers` gets each return's answer, 0 or a refusal's number; `returned` the sequence that its
+ * T-PDU reads as, or 0.
+ */
+struct testkit_returns_recorded testkit_record_received_tpdus(
+    const uint64_t *sequences, size_t sequences_length,
+    const uint64_t *send_timestamps, size_t send_timestamps_length,
+    uint64_t *latencies, size_t latencies_length,
+    uint8_t *marks, size_t marks_length,
+    struct testkit_counts counts,
+    const uint64_t *return_timestamps, size_t return_timestamps_length,
+    const size_t *lengths, size_t lengths_length,
+    const uint8_t *tpdus, size_t tpdus_length,
+    uint64_t *returned, size_t returned_length,
+    uint8_t *numbers, size_t numbers_length);
 
 /* What a message was. */
 enum testkit_kind {
