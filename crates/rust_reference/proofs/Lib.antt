@@ -10,4 +10,5 @@ pub mod Maps
 pub mod Observing
 pub mod Reporting
 pub mod Running
+pub mod Registering
 pub mod Claims

@@ -5,10 +5,11 @@ use Prim.Native.Nat.{ℕ, _≤_}
 use mathlib.Core.Path.{_≡_}
 use mathlib.Core.List.{List, [], _∷_}
 use mathlib.Core.Logic.{_⊎_}
-use mathlib.Core.Bool.{true}
+use mathlib.Core.Bool.{Bool, true, _||_}
+use lib.Dec.{eqb, ltb}
 use lib.ListN.{length}
-use Rattle.error.specs.Number.{outputTooShort, tooManyPackets, malformedObserver, observerFull}
-use Rattle.error.specs.Outcome.{Outcome, refused, gives}
+use Rattle.error.specs.Number.{outputTooShort, tooManyPackets, malformedObserver, observerFull, invalidReflectorCapacity, malformedReflectorTable}
+use Rattle.error.specs.Outcome.{Outcome, refused, gives, _⇒_, firstCause}
 use Rattle.gtpu.specs.Element.{elementsOf}
 use Rattle.field.specs.Field.{Bytes}
 use Rattle.measurement.specs.Packet.{buildOf}
@@ -30,19 +31,25 @@ use Rattle.continuity.specs.declared.GtpuReturnDatagramOutcome.{GtpuReturnDatag
 use Rattle.report.specs.Report.{reporting}
 use Rattle.evidence.specs.Budget.{zeroLoss}
 use Rattle.evidence.specs.declared.PacketContinuityBudget.{PacketContinuityBudget}
+use Rattle.reflector_answer.specs.declared.MultiSessionReflectorConfig.{MultiSessionReflectorConfig}
+use Rattle.reflector_sessions.specs.Register.{registerSession}
+use Rattle.reflector_sessions.specs.declared.ReflectorSession.{ReflectorSession}
+use Rattle.rust_reference.specs.Error.{Result}
 use Rattle.rust_reference.specs.Values.{«u64_max»}
 use Rattle.rust_reference.specs.Sheet.{receivedOf, ValuesFit, Same, rustObserver}
 use Rattle.rust_reference.specs.Runs.{Call, Typed, answerTo, afterCall, answersTo, rustAnswersTo, rustAfter}
 use Rattle.rust_reference.specs.Number.{outcomeBy, outcomeOf}
 use Rattle.rust_reference.specs.Answers.{rustFlow, tpduOf, inBuffer, headersOf, packetsInBuffer, reportOf}
+use Rattle.rust_reference.specs.Sessions.{Reflector, tableIn, withTable, freshReflector, rustSession, rustConfig, rustReflector, MaximumFits}
 use Rattle.rust_reference.specs.Evidence as evidence
 use Rattle.rust_reference.specs.Gtpu as gtpu
 use Rattle.rust_reference.specs.Measurement as measurement
+use Rattle.rust_reference.specs.Reflector as reflector
 use Rattle.rust_reference.specs.Traffic as traffic
 
--- The numbers that the card marks "added". (30 and 31 are the reflector's.)
+-- The numbers that the card marks "added".
 abbrev pub Added : ℕ → Type 0
-Added n = (n ≡ outputTooShort) ⊎ (n ≡ tooManyPackets) ⊎ (n ≡ malformedObserver) ⊎ (n ≡ observerFull)
+Added n = (n ≡ outputTooShort) ⊎ (n ≡ tooManyPackets) ⊎ (n ≡ malformedObserver) ⊎ (n ≡ observerFull) ⊎ (n ≡ malformedReflectorTable)
 
 -- "where no refusal marked added is due"
 abbrev pub NoneAdded : {A : Type 0} → Outcome A → Type 0
@@ -143,6 +150,21 @@ RunsUpTo2048 = (qs ts ls ms : List ℕ) → 2048 ≤ length qs → 2048 ≤ leng
     → (calls : List Call) → AllTyped calls → length (rustAfter traffic.new calls .sent) ≤ 2048
     → rustAnswersTo traffic.new calls ≡ answersTo (observerOf qs ts ls ms fresh) calls
 
+-- ---- reflector.rs
+
+-- Every configuration, and every lent slice: 30, or the Rust's reflector that holds what the fresh one holds.
+abbrev pub NewMulti : Type 0
+NewMulti = (sessions : List ReflectorSession) (config : MultiSessionReflectorConfig)
+    → outcomeOf (reflector.«new_multi» (rustConfig config))
+    ≡ firstCause ((eqb (config .«max_sessions») 0 || ltb 4096 (config .«max_sessions») ⇒ invalidReflectorCapacity) ∷ []) (gives (rustReflector (freshReflector sessions config)))
+
+-- Every reflector and session: the answer, and what the Rust's reflector then holds.
+abbrev pub RegisterSession : Type 0
+RegisterSession = (r : Reflector) → MaximumFits r → (session : ReflectorSession) → NoneAdded (registerSession (tableIn r) session .outcome)
+    → let after : reflector.Called (Result Bool) = reflector.«register_session» (rustReflector r) (rustSession session) in
+    (outcomeOf (after .result) ≡ registerSession (tableIn r) session .outcome)
+    × (after .reflector ≡ rustReflector (withTable (registerSession (tableIn r) session .table) r))
+
 -- All of it, by the Rust's names.
 pub record EqualsTheRust : Type 0 where
   pub «zero_loss» : ZeroLoss
@@ -160,3 +182,5 @@ pub record EqualsTheRust : Type 0 where
   pub report : Report
   pub runs : Runs
   pub runs-up-to-2048 : RunsUpTo2048
+  pub «new_multi» : NewMulti
+  pub «register_session» : RegisterSession

@@ -8,6 +8,8 @@ pub mod Measurement
 pub mod Evidence
 pub mod Traffic
 pub mod Sheet
+pub mod Reflector
+pub mod Sessions
 pub mod Answers
 pub mod Runs
 pub mod Claims
