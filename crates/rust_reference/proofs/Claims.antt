@@ -9,6 +9,7 @@ use Rattle.rust_reference.proofs.Elements.{validate}
 use Rattle.rust_reference.proofs.Generating.{interval-ns, generated}
 use Rattle.rust_reference.proofs.Observing.{new-same, every-same, sending-same, received-same, message-same}
 use Rattle.rust_reference.proofs.Registering.{new-multi, registered}
+use Rattle.rust_reference.proofs.Removing.{removed}
 use Rattle.rust_reference.proofs.Reporting.{report-same}
 use Rattle.rust_reference.proofs.Running.{runs-same, runs-of-2048}
 
@@ -31,4 +32,5 @@ equals-the-rust = record {
   runs-up-to-2048 = runs-of-2048;
   «new_multi» = new-multi;
   «register_session» = registered;
+  «remove_session» = removed;
 }

@@ -11,4 +11,5 @@ pub mod Observing
 pub mod Reporting
 pub mod Running
 pub mod Registering
+pub mod Removing
 pub mod Claims

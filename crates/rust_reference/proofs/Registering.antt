@@ -151,56 +151,47 @@ module _ (r : Reflector) (session : ReflectorSession) (s : Sound (length (r .ses
   known-session false = (refl, refl)
 
   -- what the search found
-  looked : (existing : Option ReflectorSession)
-      → Comes (elim (rustRemoved existing) [
-        | map.Some other ↦
-            elim (rust.sameSession other (rustSession session)) [
-              | true ↦ record { result = Ok false; reflector = rustReflector r }
-              | false ↦ record { result = Err ReflectorSessionConflict; reflector = rustReflector r }
-            ]
-        | map.None ↦
-            elim (leb (r .config .«max_sessions») (length (rustReflector r .sessions))) [
-              | true ↦ record { result = Err ReflectorSessionCapacityExceeded; reflector = rustReflector r }
-              | false ↦ record { result = Ok true; reflector = rust.withSessions (rustReflector r .sessions ++ rustSession session ∷ []) (rustReflector r) }
-            ]
-      ]) (elim existing [
-        | some other ↦ firstCause ((not (sameSession other session) ⇒ reflectorSessionConflict) ∷ []) (gives false)
-        | none ↦ firstCause ((eqb (r .used) (r .config .«max_sessions») ⇒ reflectorSessionCapacityExceeded) ∷ []) (gives true)
-      ])
-  looked (some other) = rw (same-session other session) (known-session (sameSession other session))
-  looked none = rw full (new-session (eqb (r .used) (r .config .«max_sessions»)) refl)
+  abbrev onward : map.Option rust.ReflectorSession → rust.Called (Result Bool)
+  onward existing = elim existing [
+    | map.Some other ↦
+        elim (rust.sameSession other (rustSession session)) [
+          | true ↦ record { result = Ok false; reflector = rustReflector r }
+          | false ↦ record { result = Err ReflectorSessionConflict; reflector = rustReflector r }
+        ]
+    | map.None ↦
+        elim (leb (r .config .«max_sessions») (length (rustReflector r .sessions))) [
+          | true ↦ record { result = Err ReflectorSessionCapacityExceeded; reflector = rustReflector r }
+          | false ↦ record { result = Ok true; reflector = rust.withSessions (rustReflector r .sessions ++ rustSession session ∷ []) (rustReflector r) }
+        ]
+  ]
 
-  judged : Comes (rust.«register_session» (rustReflector r) (rustSession session))
-      (sessionOutcome (r .used) (r .config .«max_sessions») (find (session .«local_teid») (usedRows (tableIn r))) session)
+  abbrev asked : Option ReflectorSession → Outcome Bool
+  asked existing = elim existing [
+    | some other ↦ firstCause ((not (sameSession other session) ⇒ reflectorSessionConflict) ∷ []) (gives false)
+    | none ↦ firstCause ((eqb (r .used) (r .config .«max_sessions») ⇒ reflectorSessionCapacityExceeded) ∷ []) (gives true)
+  ]
+
+  looked : (existing : Option ReflectorSession) → Comes (onward (rustRemoved existing)) (asked existing)
+  looked (some other) = rw (same-session other session, onward) (known-session (sameSession other session))
+  looked none = rw (full, onward) (new-session (eqb (r .used) (r .config .«max_sessions»)) refl)
+
+  judged : (existing : Option ReflectorSession) → rust.find (session .«local_teid») (rustReflector r .sessions) ≡ rustRemoved existing
+      → Comes (rust.«register_session» (rustReflector r) (rustSession session)) (sessionOutcome (r .used) (r .config .«max_sessions») existing session)
   unfolding rust.«register_session» rust.«validate_session» sessionOutcome invalidSession firstCause
-  judged = rw (find-same (session .«local_teid») (usedRows (tableIn r))) (by (eqb (session .«local_teid») 0 || (eqb (session .«peer_teid») 0 || eqb (session .«peer_addr» .port) 0)))
+  judged existing e = rw e (by (eqb (session .«local_teid») 0 || (eqb (session .«peer_teid») 0 || eqb (session .«peer_addr» .port) 0)))
     where
-      on : rust.Called (Result Bool)
-      on = elim (rustRemoved (find (session .«local_teid») (usedRows (tableIn r)))) [
-        | map.Some other ↦
-            elim (rust.sameSession other (rustSession session)) [
-              | true ↦ record { result = Ok false; reflector = rustReflector r }
-              | false ↦ record { result = Err ReflectorSessionConflict; reflector = rustReflector r }
-            ]
-        | map.None ↦
-            elim (leb (r .config .«max_sessions») (length (rustReflector r .sessions))) [
-              | true ↦ record { result = Err ReflectorSessionCapacityExceeded; reflector = rustReflector r }
-              | false ↦ record { result = Ok true; reflector = rust.withSessions (rustReflector r .sessions ++ rustSession session ∷ []) (rustReflector r) }
-            ]
-      ]
-
-      by : (t : Bool) → Comes (rust.attempted (_>>_ (returnIf t InvalidReflectorSession) (Ok (tt {0}))) (rustReflector r) (λ u. on))
-          (firstCause ((t ⇒ invalidReflectorSession) ∷ []) (elim (find (session .«local_teid») (usedRows (tableIn r))) [
-            | some other ↦ firstCause ((not (sameSession other session) ⇒ reflectorSessionConflict) ∷ []) (gives false)
-            | none ↦ firstCause ((eqb (r .used) (r .config .«max_sessions») ⇒ reflectorSessionCapacityExceeded) ∷ []) (gives true)
-          ]))
+      by : (t : Bool)
+          → Comes (rust.attempted (_>>_ (returnIf t InvalidReflectorSession) (Ok (tt {0}))) (rustReflector r) (λ u. onward (rustRemoved existing)))
+          (firstCause ((t ⇒ invalidReflectorSession) ∷ []) (asked existing))
       by true = (refl, refl)
-      by false = looked (find (session .«local_teid») (usedRows (tableIn r)))
+      by false = looked existing
 
 pub registered : RegisterSession
 unfolding registerSession registerOutcome
 registered r fits session added =
     let maximum = r .config .«max_sessions» in
-    let o = sessionOutcome (r .used) maximum (find (session .«local_teid») (usedRows (tableIn r))) session in
+    let existing = find (session .«local_teid») (usedRows (tableIn r)) in
+    let o = sessionOutcome (r .used) maximum existing session in
     let s = sound-table (length (r .sessions)) (r .used) maximum o (fits .0) (fits .1) (added 31 (inr (inr (inr (inr refl))))) in
-    subst (Comes r session s (rust.«register_session» (rustReflector r) (rustSession session))) (passes o (is-sound (length (r .sessions)) (r .used) maximum s)) (judged r session s)
+    subst (Comes r session s (rust.«register_session» (rustReflector r) (rustSession session))) (passes o (is-sound (length (r .sessions)) (r .used) maximum s))
+    (judged r session s existing (find-same (session .«local_teid») (usedRows (tableIn r))))

@@ -33,14 +33,16 @@ use Rattle.evidence.specs.Budget.{zeroLoss}
 use Rattle.evidence.specs.declared.PacketContinuityBudget.{PacketContinuityBudget}
 use Rattle.reflector_answer.specs.declared.MultiSessionReflectorConfig.{MultiSessionReflectorConfig}
 use Rattle.reflector_sessions.specs.Register.{registerSession}
+use Rattle.reflector_sessions.specs.Remove.{removeSession}
 use Rattle.reflector_sessions.specs.declared.ReflectorSession.{ReflectorSession}
 use Rattle.rust_reference.specs.Error.{Result}
 use Rattle.rust_reference.specs.Values.{«u64_max»}
 use Rattle.rust_reference.specs.Sheet.{receivedOf, ValuesFit, Same, rustObserver}
 use Rattle.rust_reference.specs.Runs.{Call, Typed, answerTo, afterCall, answersTo, rustAnswersTo, rustAfter}
+use Rattle.rust_reference.specs.Map.{Option}
 use Rattle.rust_reference.specs.Number.{outcomeBy, outcomeOf}
 use Rattle.rust_reference.specs.Answers.{rustFlow, tpduOf, inBuffer, headersOf, packetsInBuffer, reportOf}
-use Rattle.rust_reference.specs.Sessions.{Reflector, tableIn, withTable, freshReflector, rustSession, rustConfig, rustReflector, MaximumFits}
+use Rattle.rust_reference.specs.Sessions.{Reflector, tableIn, withTable, freshReflector, rustSession, rustConfig, rustReflector, rustRemoved, outcomeTo, MaximumFits}
 use Rattle.rust_reference.specs.Evidence as evidence
 use Rattle.rust_reference.specs.Gtpu as gtpu
 use Rattle.rust_reference.specs.Measurement as measurement
@@ -165,6 +167,13 @@ RegisterSession = (r : Reflector) → MaximumFits r → (session : ReflectorSess
     (outcomeOf (after .result) ≡ registerSession (tableIn r) session .outcome)
     × (after .reflector ≡ rustReflector (withTable (registerSession (tableIn r) session .table) r))
 
+-- Every TEID: the session that was removed, or none.
+abbrev pub RemoveSession : Type 0
+RemoveSession = (r : Reflector) → MaximumFits r → (teid : ℕ) → NoneAdded (removeSession (tableIn r) teid .outcome)
+    → let after : reflector.Called (Option reflector.ReflectorSession) = reflector.«remove_session» (rustReflector r) teid in
+    (gives (after .result) ≡ outcomeTo rustRemoved (removeSession (tableIn r) teid .outcome))
+    × (after .reflector ≡ rustReflector (withTable (removeSession (tableIn r) teid .table) r))
+
 -- All of it, by the Rust's names.
 pub record EqualsTheRust : Type 0 where
   pub «zero_loss» : ZeroLoss
@@ -184,3 +193,4 @@ pub record EqualsTheRust : Type 0 where
   pub runs-up-to-2048 : RunsUpTo2048
   pub «new_multi» : NewMulti
   pub «register_session» : RegisterSession
+  pub «remove_session» : RemoveSession
