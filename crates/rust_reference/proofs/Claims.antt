@@ -7,6 +7,7 @@ use Rattle.rust_reference.proofs.Decoding.{decoded}
 use Rattle.rust_reference.proofs.Echoing.{echoed}
 use Rattle.rust_reference.proofs.Elements.{validate}
 use Rattle.rust_reference.proofs.Generating.{interval-ns, generated}
+use Rattle.rust_reference.proofs.Handling.{handled}
 use Rattle.rust_reference.proofs.Observing.{new-same, every-same, sending-same, received-same, message-same}
 use Rattle.rust_reference.proofs.Registering.{new-multi, registered}
 use Rattle.rust_reference.proofs.Removing.{removed}
@@ -33,4 +34,5 @@ equals-the-rust = record {
   «new_multi» = new-multi;
   «register_session» = registered;
   «remove_session» = removed;
+  «handle_datagram» = handled;
 }

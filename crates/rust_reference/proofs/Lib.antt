@@ -12,4 +12,5 @@ pub mod Reporting
 pub mod Running
 pub mod Registering
 pub mod Removing
+pub mod Handling
 pub mod Claims

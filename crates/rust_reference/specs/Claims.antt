@@ -31,10 +31,13 @@ use Rattle.continuity.specs.declared.GtpuReturnDatagramOutcome.{GtpuReturnDatag
 use Rattle.report.specs.Report.{reporting}
 use Rattle.evidence.specs.Budget.{zeroLoss}
 use Rattle.evidence.specs.declared.PacketContinuityBudget.{PacketContinuityBudget}
+use Rattle.reflector_answer.specs.Handle.{placed}
+use Rattle.reflector_answer.specs.declared.GtpuMessage.{GtpuMessage}
 use Rattle.reflector_answer.specs.declared.MultiSessionReflectorConfig.{MultiSessionReflectorConfig}
 use Rattle.reflector_sessions.specs.Register.{registerSession}
 use Rattle.reflector_sessions.specs.Remove.{removeSession}
 use Rattle.reflector_sessions.specs.declared.ReflectorSession.{ReflectorSession}
+use Rattle.reflector_sessions.specs.declared.SocketAddr.{SocketAddr}
 use Rattle.rust_reference.specs.Error.{Result}
 use Rattle.rust_reference.specs.Values.{«u64_max»}
 use Rattle.rust_reference.specs.Sheet.{receivedOf, ValuesFit, Same, rustObserver}
@@ -42,7 +45,7 @@ use Rattle.rust_reference.specs.Runs.{Call, Typed, answerTo, afterCall, 
 use Rattle.rust_reference.specs.Map.{Option}
 use Rattle.rust_reference.specs.Number.{outcomeBy, outcomeOf}
 use Rattle.rust_reference.specs.Answers.{rustFlow, tpduOf, inBuffer, headersOf, packetsInBuffer, reportOf}
-use Rattle.rust_reference.specs.Sessions.{Reflector, tableIn, withTable, freshReflector, rustSession, rustConfig, rustReflector, rustRemoved, outcomeTo, MaximumFits}
+use Rattle.rust_reference.specs.Sessions.{Reflector, tableIn, withTable, withState, freshReflector, handling, rustAddress, rustSession, rustConfig, rustReflector, rustMessage, rustRemoved, rustAction, outcomeTo, inOutput, MaximumFits, SequenceFits}
 use Rattle.rust_reference.specs.Evidence as evidence
 use Rattle.rust_reference.specs.Gtpu as gtpu
 use Rattle.rust_reference.specs.Measurement as measurement
@@ -174,6 +177,16 @@ RemoveSession = (r : Reflector) → MaximumFits r → (teid : ℕ) → NoneAdded
     (gives (after .result) ≡ outcomeTo rustRemoved (removeSession (tableIn r) teid .outcome))
     × (after .reflector ≡ rustReflector (withTable (removeSession (tableIn r) teid .table) r))
 
+-- Every message, from every sender: the action, with the payload of what is sent; every byte of the output; and the Rust's reflector, with
+-- its counts and its error sequence.
+abbrev pub HandleDatagram : Type 0
+HandleDatagram = (r : Reflector) → MaximumFits r → SequenceFits r → (source : SocketAddr) (message : GtpuMessage) (payload : List ℕ) → Bytes payload
+    → (buffer : List ℕ) → NoneAdded (handling r source message payload buffer .outcome)
+    → let after : reflector.Called (Result reflector.ReflectorAction) = reflector.«handle_datagram» (rustReflector r) (rustAddress source) (rustMessage message payload) in
+    (outcomeOf (after .result) ≡ outcomeTo (rustAction payload) (handling r source message payload buffer .outcome))
+    × (inOutput (after .result) buffer ≡ placed (handling r source message payload buffer .outcome) buffer)
+    × (after .reflector ≡ rustReflector (withState (handling r source message payload buffer .state) r))
+
 -- All of it, by the Rust's names.
 pub record EqualsTheRust : Type 0 where
   pub «zero_loss» : ZeroLoss
@@ -194,3 +207,4 @@ pub record EqualsTheRust : Type 0 where
   pub «new_multi» : NewMulti
   pub «register_session» : RegisterSession
   pub «remove_session» : RemoveSession
+  pub «handle_datagram» : HandleDatagram

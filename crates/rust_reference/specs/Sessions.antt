@@ -8,11 +8,12 @@ use Rattle.error.specs.Outcome.{Outcome, refused, gives}
 use Rattle.measurement.specs.Packet.{address}
 use Rattle.measurement.specs.declared.IpVersion.{IpVersion}
 use Rattle.measurement.specs.declared.IpVersion.the-variants.{V4, V6}
+use Rattle.reflector.specs.Handle.{handleDatagram}
 use Rattle.reflector_sessions.specs.Session.{valueOf}
 use Rattle.reflector_sessions.specs.Table.{Table, tableOf, usedRows}
 use Rattle.reflector_sessions.specs.declared.ReflectorSession.{ReflectorSession}
 use Rattle.reflector_sessions.specs.declared.SocketAddr.{SocketAddr}
-use Rattle.reflector_answer.specs.Answer.{Payload, written, handedOn, Action, noop, send}
+use Rattle.reflector_answer.specs.Answer.{Payload, written, handedOn, Action, noop, send, Answer}
 use Rattle.reflector_answer.specs.State.{fresh}
 use Rattle.reflector_answer.specs.declared.GtpuMessage.{GtpuMessage}
 use Rattle.reflector_answer.specs.declared.MultiSessionReflectorConfig.{MultiSessionReflectorConfig}
@@ -46,6 +47,10 @@ withTable t r = record { sessions = t .sessions; used = t .used; config = r .con
 
 abbrev pub withState : ReflectorState → Reflector → Reflector
 withState state r = record { sessions = r .sessions; used = r .used; config = r .config; state = state }
+
+-- What a message comes to there.
+abbrev pub handling : Reflector → SocketAddr → GtpuMessage → List ℕ → List ℕ → Answer
+handling r source message payload buffer = handleDatagram (r .sessions) (r .used) (r .config) (r .state) source message payload buffer
 
 -- "Fresh: no used row, all counts 0, error sequence 1."
 abbrev pub freshReflector : List ReflectorSession → MultiSessionReflectorConfig → Reflector
