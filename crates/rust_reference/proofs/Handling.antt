@@ -28,6 +28,7 @@ use Rattle.reflector_answer.specs.declared.ReflectorNoopReason.the-variants as 
 use Rattle.reflector_answer.specs.declared.ReflectorPolicy.{ReflectorPolicy}
 use Rattle.reflector_answer.specs.declared.ReflectorPolicy.the-variants.{Echo, SinkAndCount, Route}
 use Rattle.reflector_answer.specs.declared.ReflectorSendReason.the-variants.{ReflectedGpdu, RoutedGpdu, EchoResponse, ErrorIndication}
+use Rattle.reflector_answer.specs.declared.ReflectorState.{ReflectorState}
 use Rattle.reflector_answer.specs.declared.ReflectorStats.{ReflectorStats}
 use Rattle.reflector_answer.specs.declared.SequenceNumber.{SequenceNumber}
 use Rattle.reflector_answer.specs.declared.SequenceNumber.the-variants.{Present, Absent}
@@ -243,3 +244,50 @@ pub handled : HandleDatagram
 handled r fits sequence source message payload b buffer added =
     subst (Comes r source payload buffer (called r source payload buffer message sequence b)) (by-type r fits source message payload buffer added)
     (answered r source payload buffer message sequence b (find (message .teid) (usedRows (tableIn r))) (find-same (message .teid) (usedRows (tableIn r))))
+
+-- ---- the error sequence stays a u16
+
+next-fits : (n : ℕ) → n < 65536 → nextErrorSequence n < 65536
+unfolding nextErrorSequence
+next-fits n h = by (eqb n 65535) refl
+  where
+    by : (t : Bool) → eqb n 65535 ≡ t → elim t [ true ↦ 1 | false ↦ n + 1 ] < 65536
+    by true e = omega arith
+    by false e = omega (arith, eqb-false n 65535 e)
+
+abbrev Fits : ReflectorState → Type 0
+Fits state = state .«next_error_sequence» < 65536
+
+either-fits : (t : Bool) (a b : Answer) → Fits (a .state) → Fits (b .state) → Fits ((elim t as (λ u. Answer) [ true ↦ a | false ↦ b ]) .state)
+either-fits true a b f g = f
+either-fits false a b f g = g
+
+answer-fits : (r : Reflector) → SequenceFits r → (session : Option ReflectorSession) (source : SocketAddr) (message : GtpuMessage) (payload : List ℕ)
+    → Fits (answer (r .config) (r .state) session source message payload .state)
+unfolding answer gpduKnown gpduUnknown echoRequest otherMessage
+answer-fits r fits session source message payload =
+    either-fits (eqb (message .«message_type») 255) _ _ (gpdu-fits session)
+    (either-fits (eqb (message .«message_type») 1) _ _ (request-fits (echoRequestOutcome (r .config) source message))
+    (either-fits (eqb (message .«message_type») 2) _ _ fits
+    (either-fits (eqb (message .«message_type») 26) _ _ fits
+    (either-fits (eqb (message .«message_type») 254) _ _ fits
+    (either-fits (eqb (message .«message_type») 31) _ _ fits fits)))))
+  where
+    known-fits : (o : Outcome Action) → Fits (gpduCounted o (stateCounted counter.GpduReceived (r .state)))
+    known-fits (refused n) = fits
+    known-fits (gives (noop reason)) = fits
+    known-fits (gives (send message)) = fits
+
+    gpdu-fits : (session : Option ReflectorSession) → Fits (gpduAnswer (r .config) (r .state) session source (message .teid) payload .state)
+    gpdu-fits (some session) = known-fits (gpduOutcome (r .config) session payload)
+    gpdu-fits none = next-fits (r .state .«next_error_sequence») fits
+
+    request-fits : (o : Outcome Action) → Fits (echoRequestCounted o (r .state))
+    request-fits (refused n) = fits
+    request-fits (gives action) = fits
+
+pub handled-fits : (r : Reflector) → MaximumFits r → SequenceFits r → (source : SocketAddr) (message : GtpuMessage) (payload buffer : List ℕ)
+    → NoneAdded (handling r source message payload buffer .outcome) → SequenceFits (withState (handling r source message payload buffer .state) r)
+handled-fits r fits sequence source message payload buffer added =
+    subst (λ (a : Answer). Fits (a .state)) (by-type r fits source message payload buffer added)
+    (answer-fits r sequence (find (message .teid) (usedRows (tableIn r))) source message payload)

@@ -13,4 +13,5 @@ pub mod Running
 pub mod Registering
 pub mod Removing
 pub mod Handling
+pub mod Reflecting
 pub mod Claims

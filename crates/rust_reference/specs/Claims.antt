@@ -38,7 +38,7 @@ use Rattle.reflector_sessions.specs.Register.{registerSession}
 use Rattle.reflector_sessions.specs.Remove.{removeSession}
 use Rattle.reflector_sessions.specs.declared.ReflectorSession.{ReflectorSession}
 use Rattle.reflector_sessions.specs.declared.SocketAddr.{SocketAddr}
-use Rattle.rust_reference.specs.Error.{Result}
+use Rattle.rust_reference.specs.Error.{Result, Ok}
 use Rattle.rust_reference.specs.Values.{«u64_max»}
 use Rattle.rust_reference.specs.Sheet.{receivedOf, ValuesFit, Same, rustObserver}
 use Rattle.rust_reference.specs.Runs.{Call, Typed, answerTo, afterCall, answersTo, rustAnswersTo, rustAfter}
@@ -50,6 +50,7 @@ use Rattle.rust_reference.specs.Evidence as evidence
 use Rattle.rust_reference.specs.Gtpu as gtpu
 use Rattle.rust_reference.specs.Measurement as measurement
 use Rattle.rust_reference.specs.Reflector as reflector
+use Rattle.rust_reference.specs.Reflecting as reflecting
 use Rattle.rust_reference.specs.Traffic as traffic
 
 -- The numbers that the card marks "added".
@@ -187,6 +188,22 @@ HandleDatagram = (r : Reflector) → MaximumFits r → SequenceFits r → (sourc
     × (inOutput (after .result) buffer ≡ placed (handling r source message payload buffer .outcome) buffer)
     × (after .reflector ≡ rustReflector (withState (handling r source message payload buffer .state) r))
 
+abbrev pub AllCallsTyped : List reflecting.Call → Type 0
+AllCallsTyped [] = Unit {0}
+AllCallsTyped (call ∷ calls) = reflecting.Typed call × AllCallsTyped calls
+
+abbrev pub NoneAddedInCalls : Reflector → List reflecting.Call → Type 0
+NoneAddedInCalls r [] = Unit {0}
+NoneAddedInCalls r (call ∷ calls) = NoneAdded (reflecting.answerTo r call .outcome) × NoneAddedInCalls (reflecting.afterCall r call) calls
+
+-- Every list of calls on what `new_multi` made, and on a fresh reflector with any slice: every answer and every output is the Rust's, and so is
+-- what is left.
+abbrev pub ReflectorRuns : Type 0
+ReflectorRuns = (sessions : List ReflectorSession) (config : MultiSessionReflectorConfig) (made : reflector.GtpuReflector) → reflector.«new_multi» (rustConfig config) ≡ Ok made
+    → (calls : List reflecting.Call) → AllCallsTyped calls → NoneAddedInCalls (freshReflector sessions config) calls
+    → (reflecting.rustAnswersTo made calls ≡ reflecting.answersTo (freshReflector sessions config) calls)
+    × (reflecting.rustAfter made calls ≡ rustReflector (reflecting.after (freshReflector sessions config) calls))
+
 -- All of it, by the Rust's names.
 pub record EqualsTheRust : Type 0 where
   pub «zero_loss» : ZeroLoss
@@ -208,3 +225,4 @@ pub record EqualsTheRust : Type 0 where
   pub «register_session» : RegisterSession
   pub «remove_session» : RemoveSession
   pub «handle_datagram» : HandleDatagram
+  pub reflector-runs : ReflectorRuns

@@ -12,4 +12,5 @@ pub mod Reflector
 pub mod Sessions
 pub mod Answers
 pub mod Runs
+pub mod Reflecting
 pub mod Claims
