@@ -9,7 +9,7 @@ use Rattle.rust_reference.proofs.Elements.{validate}
 use Rattle.rust_reference.proofs.Generating.{interval-ns, generated}
 use Rattle.rust_reference.proofs.Handling.{handled}
 use Rattle.rust_reference.proofs.Observing.{new-same, every-same, sending-same, received-same, message-same}
-use Rattle.rust_reference.proofs.Reflecting.{reflector-runs-same}
+use Rattle.rust_reference.proofs.Reflecting.{reflector-runs-same, reflector-runs-in-room}
 use Rattle.rust_reference.proofs.Registering.{new-multi, registered}
 use Rattle.rust_reference.proofs.Removing.{removed}
 use Rattle.rust_reference.proofs.Reporting.{report-same}
@@ -37,4 +37,5 @@ equals-the-rust = record {
   «remove_session» = removed;
   «handle_datagram» = handled;
   reflector-runs = reflector-runs-same;
+  reflector-runs-with-room = reflector-runs-in-room;
 }

@@ -37,7 +37,7 @@ use Rattle.reflector_sessions.specs.Judge.{tableOutcome}
 use Rattle.reflector_sessions.specs.Table.{find, usedRows}
 use Rattle.reflector_sessions.specs.declared.ReflectorSession.{ReflectorSession}
 use Rattle.reflector_sessions.specs.declared.SocketAddr.{SocketAddr}
-use Rattle.reflector_sessions.proofs.Judging.{Sound, table-sound}
+use Rattle.reflector_sessions.proofs.Judging.{table-sound}
 use Rattle.rust_reference.specs.Claims.{NoneAdded, HandleDatagram}
 use Rattle.rust_reference.specs.Error as error
 use Rattle.rust_reference.specs.Error.{Result, Ok, Err, InvalidPacket}
@@ -49,7 +49,7 @@ use Rattle.rust_reference.specs.Reflector as rust
 use Rattle.rust_reference.specs.Sessions.{Reflector, tableIn, withState, handling, rustIp, rustAddress, rustSession, rustPolicy, rustReflector, rustSequence, rustMessage, rustRemoved, rustAction, outcomeTo, inOutput, MaximumFits, SequenceFits}
 use Rattle.rust_reference.specs.Values.{«saturating_add»}
 use Rattle.rust_reference.proofs.Echoing.{echo-outcome}
-use Rattle.rust_reference.proofs.Registering.{sound-table, find-same}
+use Rattle.rust_reference.proofs.Registering.{SoundIn, sound-table, find-same}
 
 -- ---- counts, the error sequence and the payload of an Error Indication
 
@@ -93,7 +93,7 @@ payload-is teid source = by (source .version)
 
 module _ (r : Reflector) (source : SocketAddr) (payload buffer : List ℕ) where
   -- the action, the output and the reflector
-  abbrev Comes : rust.Called (Result rust.ReflectorAction) → Answer → Type 0
+  abbrev pub Comes : rust.Called (Result rust.ReflectorAction) → Answer → Type 0
   Comes after a =
       (outcomeOf (after .result) ≡ outcomeTo (rustAction payload) (a .outcome))
       × (inOutput (after .result) buffer ≡ placed (a .outcome) buffer)
@@ -198,7 +198,7 @@ module _ (r : Reflector) (source : SocketAddr) (payload buffer : List ℕ) where
 
   -- a message, by its type
   module _ (message : GtpuMessage) (fits : SequenceFits r) (b : Bytes payload) where
-    abbrev called : rust.Called (Result rust.ReflectorAction)
+    abbrev pub called : rust.Called (Result rust.ReflectorAction)
     called = rust.«handle_datagram» (rustReflector r) (rustAddress source) (rustMessage message payload)
 
     gpdu-comes : (existing : Option ReflectorSession) (found : map.Option rust.ReflectorSession) → found ≡ rustRemoved existing
@@ -216,34 +216,43 @@ module _ (r : Reflector) (source : SocketAddr) (payload buffer : List ℕ) where
         either (eqb (message .«message_type») 255) _ _ _ _ (gpdu-comes existing _ e)
         (either (eqb (message .«message_type») 1) _ _ _ _ (request message) (other (message .«message_type»)))
 
--- where 31 and 15 are not due, the message is judged by its type
-by-type : (r : Reflector) → MaximumFits r → (source : SocketAddr) (message : GtpuMessage) (payload buffer : List ℕ) → NoneAdded (handling r source message payload buffer .outcome)
-    → answer (r .config) (r .state) (find (message .teid) (usedRows (tableIn r))) source message payload ≡ handling r source message payload buffer
-unfolding handleDatagram tableOutcome
-by-type r fits source message payload buffer added = long (ltb (length buffer) 72) refl
-  where
-    rows : ℕ
-    rows = length (r .sessions)
+-- 30, 31 and 15, before the type
+module _ (r : Reflector) (source : SocketAddr) (message : GtpuMessage) (payload buffer : List ℕ) where
+  abbrev rows : ℕ
+  rows = length (r .sessions)
 
-    maximum : ℕ
-    maximum = r .config .«max_sessions»
+  abbrev session : Option ReflectorSession
+  session = find (message .teid) (usedRows (tableIn r))
 
-    session : Option ReflectorSession
-    session = find (message .teid) (usedRows (tableIn r))
+  by-type : SoundIn r → 72 ≤ length buffer → answer (r .config) (r .state) session source message payload ≡ handling r source message payload buffer
+  unfolding handleDatagram
+  by-type s long = handling-passed rows (r .used) (r .config) (r .state) session source message payload buffer (table-sound rows (r .used) (r .config .«max_sessions») s) long
 
-    s : Sound rows (r .used) maximum
-    s = sound-table rows (r .used) maximum (gives (r .used)) (fits .0) (fits .1)
-        (λ e. added 31 (inr (inr (inr (inr refl)))) (ap (λ (a : Answer). a .outcome) (sym (handling-refused rows (r .used) (r .config) (r .state) session source message payload buffer (sym e)))))
+  -- where 31 and 15 are not due
+  pub handle-ready : MaximumFits r → NoneAdded (handling r source message payload buffer .outcome) → SoundIn r × (72 ≤ length buffer)
+  unfolding handleDatagram tableOutcome
+  handle-ready fits added = (sound, long (ltb (length buffer) 72) refl)
+    where
+      sound : SoundIn r
+      sound =
+          sound-table rows (r .used) (r .config .«max_sessions») (gives (r .used)) (fits .0) (fits .1)
+          (λ e. added 31 (inr (inr (inr (inr refl)))) (ap (λ (a : Answer). a .outcome) (sym (handling-refused rows (r .used) (r .config) (r .state) session source message payload buffer (sym e)))))
 
-    long : (t : Bool) → ltb (length buffer) 72 ≡ t → answer (r .config) (r .state) session source message payload ≡ handling r source message payload buffer
-    long true e =
-        absurd (added 15 (inl refl) (ap (λ (a : Answer). a .outcome) (sym (handling-short rows (r .used) (r .config) (r .state) session source message payload buffer (table-sound rows (r .used) maximum s) (ltb-true (length buffer) 72 e)))))
-    long false e = handling-passed rows (r .used) (r .config) (r .state) session source message payload buffer (table-sound rows (r .used) maximum s) (ltb-false (length buffer) 72 e)
+      long : (t : Bool) → ltb (length buffer) 72 ≡ t → 72 ≤ length buffer
+      long true e =
+          absurd (added 15 (inl refl) (ap (λ (a : Answer). a .outcome) (sym (handling-short rows (r .used) (r .config) (r .state) session source message payload buffer (table-sound rows (r .used) (r .config .«max_sessions») sound) (ltb-true (length buffer) 72 e)))))
+      long false e = ltb-false (length buffer) 72 e
+
+  pub handled-in : SoundIn r → 72 ≤ length buffer → (fits : SequenceFits r) (b : Bytes payload)
+      → Comes r source payload buffer (called r source payload buffer message fits b) (handling r source message payload buffer)
+  handled-in s long fits b =
+      subst (Comes r source payload buffer (called r source payload buffer message fits b)) (by-type s long)
+      (answered r source payload buffer message fits b session (find-same (message .teid) (usedRows (tableIn r))))
 
 pub handled : HandleDatagram
 handled r fits sequence source message payload b buffer added =
-    subst (Comes r source payload buffer (called r source payload buffer message sequence b)) (by-type r fits source message payload buffer added)
-    (answered r source payload buffer message sequence b (find (message .teid) (usedRows (tableIn r))) (find-same (message .teid) (usedRows (tableIn r))))
+    let ready = handle-ready r source message payload buffer fits added in
+    handled-in r source message payload buffer (ready .0) (ready .1) sequence b
 
 -- ---- the error sequence stays a u16
 
@@ -286,8 +295,8 @@ answer-fits r fits session source message payload =
     request-fits (refused n) = fits
     request-fits (gives action) = fits
 
-pub handled-fits : (r : Reflector) → MaximumFits r → SequenceFits r → (source : SocketAddr) (message : GtpuMessage) (payload buffer : List ℕ)
-    → NoneAdded (handling r source message payload buffer .outcome) → SequenceFits (withState (handling r source message payload buffer .state) r)
-handled-fits r fits sequence source message payload buffer added =
-    subst (λ (a : Answer). Fits (a .state)) (by-type r fits source message payload buffer added)
-    (answer-fits r sequence (find (message .teid) (usedRows (tableIn r))) source message payload)
+pub handled-fits : (r : Reflector) (source : SocketAddr) (message : GtpuMessage) (payload buffer : List ℕ) → SoundIn r → 72 ≤ length buffer → SequenceFits r
+    → SequenceFits (withState (handling r source message payload buffer .state) r)
+handled-fits r source message payload buffer s long fits =
+    subst (λ (a : Answer). Fits (a .state)) (by-type r source message payload buffer s long)
+    (answer-fits r fits (find (message .teid) (usedRows (tableIn r))) source message payload)

@@ -8,7 +8,7 @@ use mathlib.Core.List.{List, [], _∷_, _++_, map}
 use mathlib.Core.Bool.{Bool, true, false, not, _||_, _&&_}
 use mathlib.Core.Option.{Option, some, none}
 use lib.Dec.{eqb, leb, ltb}
-use lib.ListN.{length, take, set, length-map}
+use lib.ListN.{length, take, set, length-map, length-set}
 use lib.Seq.{length-take-le, take-suc-set}
 use borrow.Author.Tests.{eqb-true, eqb-false, ltb-true, ltb-false, le-leb, lt-leb}
 use Rattle.error.specs.Number.{invalidReflectorSession, reflectorSessionConflict, reflectorSessionCapacityExceeded}
@@ -59,6 +59,9 @@ sound-table rows used maximum onward above most added = useds (ltb maximum used)
     useds true e = absurd (added (sym (refuses onward (is-31 rows used maximum above most (inl (ltb-true maximum used e))))))
     useds false e = rooms (ltb rows maximum) refl (ltb-false maximum used e)
 
+abbrev pub SoundIn : Reflector → Type 0
+SoundIn r = Sound (length (r .sessions)) (r .used) (r .config .«max_sessions»)
+
 -- ---- sessions
 
 same-bytes : (a b : List ℕ) → same a b ≡ sameBytes a b
@@ -105,14 +108,17 @@ map-snoc f [] x = refl
 map-snoc {B = B} f (y ∷ l) x = ap (λ (r : List B). f y ∷ r) (map-snoc f l x)
 
 -- as many sessions as used rows
-pub vec-length : (r : Reflector) → Sound (length (r .sessions)) (r .used) (r .config .«max_sessions») → length (rustReflector r .sessions) ≡ r .used
+pub vec-length : (r : Reflector) → SoundIn r → length (rustReflector r .sessions) ≡ r .used
 vec-length r s =
     length-map (usedRows (tableIn r)) rustSession ∙ length-take-le (r .used) (r .sessions) (used-within (length (r .sessions)) (r .used) (r .config .«max_sessions») s)
 
-module _ (r : Reflector) (session : ReflectorSession) (s : Sound (length (r .sessions)) (r .used) (r .config .«max_sessions»)) where
-  -- the same answer, and the reflector that it leaves
-  abbrev Comes : rust.Called (Result Bool) → Outcome Bool → Type 0
-  Comes after o = (outcomeOf (after .result) ≡ o) × (after .reflector ≡ rustReflector (withTable (registeredTable o session (tableIn r)) r))
+module _ (r : Reflector) (session : ReflectorSession) (s : SoundIn r) where
+  -- the same answer, and the reflector that it leaves, where 30 and 31 pass again
+  abbrev pub Comes : rust.Called (Result Bool) → Outcome Bool → Type 0
+  Comes after o =
+      (outcomeOf (after .result) ≡ o)
+      × (after .reflector ≡ rustReflector (withTable (registeredTable o session (tableIn r)) r))
+      × SoundIn (withTable (registeredTable o session (tableIn r)) r)
 
   -- the maximum is reached where as many rows are used
   full : leb (r .config .«max_sessions») (length (rustReflector r .sessions)) ≡ eqb (r .used) (r .config .«max_sessions»)
@@ -138,8 +144,18 @@ module _ (r : Reflector) (session : ReflectorSession) (s : Sound (length (r .ses
         | false ↦ record { result = Ok true; reflector = rust.withSessions (rustReflector r .sessions ++ rustSession session ∷ []) (rustReflector r) }
       ]) (firstCause ((t ⇒ reflectorSessionCapacityExceeded) ∷ []) (gives true))
   unfolding firstCause
-  new-session true e = (refl, refl)
-  new-session false e = (refl, pushed (omega (arith, s .enough, s .room, eqb-false (r .used) (r .config .«max_sessions») e)))
+  new-session true e = (refl, refl, s)
+  new-session false e =
+      let differ = eqb-false (r .used) (r .config .«max_sessions») e in (
+        refl,
+        pushed (omega (arith, s .enough, s .room, differ)),
+        record {
+          above = s .above;
+          most = s .most;
+          enough = omega (arith, s .enough, differ);
+          room = omega (arith, s .room, length-set (r .sessions) (r .used) session);
+        },
+      )
 
   known-session : (t : Bool)
       → Comes (elim t [
@@ -147,8 +163,8 @@ module _ (r : Reflector) (session : ReflectorSession) (s : Sound (length (r .ses
         | false ↦ record { result = Err ReflectorSessionConflict; reflector = rustReflector r }
       ]) (firstCause ((not t ⇒ reflectorSessionConflict) ∷ []) (gives false))
   unfolding firstCause
-  known-session true = (refl, refl)
-  known-session false = (refl, refl)
+  known-session true = (refl, refl, s)
+  known-session false = (refl, refl, s)
 
   -- what the search found
   abbrev onward : map.Option rust.ReflectorSession → rust.Called (Result Bool)
@@ -183,15 +199,23 @@ module _ (r : Reflector) (session : ReflectorSession) (s : Sound (length (r .ses
       by : (t : Bool)
           → Comes (rust.attempted (_>>_ (returnIf t InvalidReflectorSession) (Ok (tt {0}))) (rustReflector r) (λ u. onward (rustRemoved existing)))
           (firstCause ((t ⇒ invalidReflectorSession) ∷ []) (asked existing))
-      by true = (refl, refl)
+      by true = (refl, refl, s)
       by false = looked existing
 
-pub registered : RegisterSession
+  abbrev existing : Option ReflectorSession
+  existing = find (session .«local_teid») (usedRows (tableIn r))
+
+  pub registered-in : Comes (rust.«register_session» (rustReflector r) (rustSession session)) (registerSession (tableIn r) session .outcome)
+  unfolding registerSession registerOutcome
+  registered-in =
+      let o = sessionOutcome (r .used) (r .config .«max_sessions») existing session in
+      subst (Comes (rust.«register_session» (rustReflector r) (rustSession session))) (passes o (is-sound (length (r .sessions)) (r .used) (r .config .«max_sessions») s))
+      (judged existing (find-same (session .«local_teid») (usedRows (tableIn r))))
+
+pub register-sound : (r : Reflector) → MaximumFits r → (session : ReflectorSession) → NoneAdded (registerSession (tableIn r) session .outcome) → SoundIn r
 unfolding registerSession registerOutcome
-registered r fits session added =
-    let maximum = r .config .«max_sessions» in
-    let existing = find (session .«local_teid») (usedRows (tableIn r)) in
-    let o = sessionOutcome (r .used) maximum existing session in
-    let s = sound-table (length (r .sessions)) (r .used) maximum o (fits .0) (fits .1) (added 31 (inr (inr (inr (inr refl))))) in
-    subst (Comes r session s (rust.«register_session» (rustReflector r) (rustSession session))) (passes o (is-sound (length (r .sessions)) (r .used) maximum s))
-    (judged r session s existing (find-same (session .«local_teid») (usedRows (tableIn r))))
+register-sound r fits session added = sound-table (length (r .sessions)) (r .used) (r .config .«max_sessions») _ (fits .0) (fits .1) (added 31 (inr (inr (inr (inr refl)))))
+
+pub registered : RegisterSession
+unfolding registerSession
+registered r fits session added = let c = registered-in r session (register-sound r fits session added) in (c .0, c .1)

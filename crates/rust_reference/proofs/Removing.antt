@@ -8,7 +8,7 @@ use mathlib.Core.List.{List, [], _∷_, map}
 use mathlib.Core.Bool.{Bool, true, false}
 use mathlib.Core.Option.{Option, some, none}
 use lib.Dec.{eqb}
-use lib.ListN.{length, take, set, getD}
+use lib.ListN.{length, take, set, getD, length-set}
 use lib.Seq.{length-take-le, take-set-lt, take-take, getD-take}
 use Rattle.error.specs.Outcome.{Outcome, refused, gives, firstCause}
 use Rattle.error.proofs.Causes.{passes}
@@ -17,13 +17,13 @@ use Rattle.reflector_sessions.specs.Remove.{removeOutcome, removeSession, remov
 use Rattle.reflector_sessions.specs.Session.{noSession}
 use Rattle.reflector_sessions.specs.Table.{find, placeOf, usedRows}
 use Rattle.reflector_sessions.specs.declared.ReflectorSession.{ReflectorSession}
-use Rattle.reflector_sessions.proofs.Judging.{Sound, is-sound}
+use Rattle.reflector_sessions.proofs.Judging.{is-sound}
 use Rattle.reflector_sessions.proofs.Search.{used-within}
-use Rattle.rust_reference.specs.Claims.{RemoveSession}
+use Rattle.rust_reference.specs.Claims.{NoneAdded, RemoveSession}
 use Rattle.rust_reference.specs.Map as map
 use Rattle.rust_reference.specs.Reflector as rust
-use Rattle.rust_reference.specs.Sessions.{Reflector, tableIn, withTable, rustSession, rustReflector, rustRemoved, outcomeTo}
-use Rattle.rust_reference.proofs.Registering.{sound-table, vec-length}
+use Rattle.rust_reference.specs.Sessions.{Reflector, tableIn, withTable, rustSession, rustReflector, rustRemoved, outcomeTo, MaximumFits}
+use Rattle.rust_reference.proofs.Registering.{SoundIn, sound-table, vec-length}
 
 -- ---- lists
 
@@ -60,15 +60,18 @@ place teid (row ∷ rows) = by (eqb (row .«local_teid») teid) refl (place teid
 
 -- ---- removal
 
-module _ (r : Reflector) (teid : ℕ) (s : Sound (length (r .sessions)) (r .used) (r .config .«max_sessions»)) where
+module _ (r : Reflector) (teid : ℕ) (s : SoundIn r) where
   abbrev used-rows : List ReflectorSession
   used-rows = usedRows (tableIn r)
 
   abbrev hole : ℕ
   hole = placeOf teid used-rows
 
-  abbrev Comes : rust.Called (map.Option rust.ReflectorSession) → Outcome (Option ReflectorSession) → Type 0
-  Comes after o = (gives (after .result) ≡ outcomeTo rustRemoved o) × (after .reflector ≡ rustReflector (withTable (removedTable o hole (tableIn r)) r))
+  abbrev pub Comes : rust.Called (map.Option rust.ReflectorSession) → Outcome (Option ReflectorSession) → Type 0
+  Comes after o =
+      (gives (after .result) ≡ outcomeTo rustRemoved o)
+      × (after .reflector ≡ rustReflector (withTable (removedTable o hole (tableIn r)) r))
+      × SoundIn (withTable (removedTable o hole (tableIn r)) r)
 
   count : length used-rows ≡ r .used
   count = length-take-le (r .used) (r .sessions) (used-within (length (r .sessions)) (r .used) (r .config .«max_sessions») s)
@@ -98,13 +101,25 @@ module _ (r : Reflector) (teid : ℕ) (s : Sound (length (r .sessions)) (r .used
       rw (p, f, rust.«remove_session») (
         ap (λ (x : rust.ReflectorSession). gives (map.Some x)) (getD-map rustSession used-rows hole noSession _ l ∙ ap rustSession g),
         ap (λ (v : List rust.ReflectorSession). rust.withSessions v (rustReflector r)) (swapped l),
+        record {
+          above = s .above;
+          most = s .most;
+          enough = omega (arith, s .enough);
+          room = omega (arith, s .room, length-set (r .sessions) hole last);
+        },
       )
-  taken (missing f p) = rw (p, f, rust.«remove_session») (refl, refl)
+  taken (missing f p) = rw (p, f, rust.«remove_session») (refl, refl, s)
+
+  pub removed-in : Comes (rust.«remove_session» (rustReflector r) teid) (removeSession (tableIn r) teid .outcome)
+  unfolding removeSession removeOutcome
+  removed-in =
+      subst (Comes (rust.«remove_session» (rustReflector r) teid)) (passes (gives (find teid used-rows)) (is-sound (length (r .sessions)) (r .used) (r .config .«max_sessions») s))
+      (taken (place teid used-rows))
+
+pub remove-sound : (r : Reflector) → MaximumFits r → (teid : ℕ) → NoneAdded (removeSession (tableIn r) teid .outcome) → SoundIn r
+unfolding removeSession removeOutcome
+remove-sound r fits teid added = sound-table (length (r .sessions)) (r .used) (r .config .«max_sessions») _ (fits .0) (fits .1) (added 31 (inr (inr (inr (inr refl)))))
 
 pub removed : RemoveSession
-unfolding removeSession removeOutcome
-removed r fits teid added =
-    let maximum = r .config .«max_sessions» in
-    let o = gives (find teid (usedRows (tableIn r))) in
-    let s = sound-table (length (r .sessions)) (r .used) maximum o (fits .0) (fits .1) (added 31 (inr (inr (inr (inr refl))))) in
-    subst (Comes r teid s (rust.«remove_session» (rustReflector r) teid)) (passes o (is-sound (length (r .sessions)) (r .used) maximum s)) (taken r teid s (place teid (usedRows (tableIn r))))
+unfolding removeSession
+removed r fits teid added = let c = removed-in r teid (remove-sound r fits teid added) in (c .0, c .1)

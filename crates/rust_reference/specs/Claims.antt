@@ -204,6 +204,17 @@ ReflectorRuns = (sessions : List ReflectorSession) (config : MultiSessionReflect
     → (reflecting.rustAnswersTo made calls ≡ reflecting.answersTo (freshReflector sessions config) calls)
     × (reflecting.rustAfter made calls ≡ rustReflector (reflecting.after (freshReflector sessions config) calls))
 
+abbrev pub AllOutputsFit : List reflecting.Call → Type 0
+AllOutputsFit [] = Unit {0}
+AllOutputsFit (call ∷ calls) = reflecting.OutputFits call × AllOutputsFit calls
+
+-- The same where the slice has a row for each session of the maximum and the outputs have 72 bytes: then neither 31 nor 15 is ever due.
+abbrev pub ReflectorRunsWithRoom : Type 0
+ReflectorRunsWithRoom = (sessions : List ReflectorSession) (config : MultiSessionReflectorConfig) (made : reflector.GtpuReflector) → reflector.«new_multi» (rustConfig config) ≡ Ok made
+    → config .«max_sessions» ≤ length sessions → (calls : List reflecting.Call) → AllCallsTyped calls → AllOutputsFit calls
+    → (reflecting.rustAnswersTo made calls ≡ reflecting.answersTo (freshReflector sessions config) calls)
+    × (reflecting.rustAfter made calls ≡ rustReflector (reflecting.after (freshReflector sessions config) calls))
+
 -- All of it, by the Rust's names.
 pub record EqualsTheRust : Type 0 where
   pub «zero_loss» : ZeroLoss
@@ -226,3 +237,4 @@ pub record EqualsTheRust : Type 0 where
   pub «remove_session» : RemoveSession
   pub «handle_datagram» : HandleDatagram
   pub reflector-runs : ReflectorRuns
+  pub reflector-runs-with-room : ReflectorRunsWithRoom

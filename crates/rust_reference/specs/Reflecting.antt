@@ -1,8 +1,9 @@
 -- Lists of the reflector's calls, each on what the last one left, by document 01's definitions and by the Rust's.
 -- Assumes nothing.
-use Prim.Native.Nat.{ℕ}
+use Prim.Native.Nat.{ℕ, _≤_}
 use mathlib.Core.List.{List, [], _∷_}
 use mathlib.Core.Bool.{Bool}
+use lib.ListN.{length}
 use Rattle.error.specs.Outcome.{Outcome, refused, gives}
 use Rattle.field.specs.Field.{Bytes}
 use Rattle.reflector_answer.specs.Handle.{placed}
@@ -27,6 +28,12 @@ abbrev pub Typed : Call → Type 0
 Typed (register session) = Unit {0}
 Typed (remove teid) = Unit {0}
 Typed (handle source message payload buffer) = Bytes payload
+
+-- Its output, where it is lent one, has the 72 bytes that document 01 asks for: 15 is not due.
+abbrev pub OutputFits : Call → Type 0
+OutputFits (register session) = Unit {0}
+OutputFits (remove teid) = Unit {0}
+OutputFits (handle source message payload buffer) = 72 ≤ length buffer
 
 -- What a call gives, in the Rust's terms.
 pub data Given : Type 0 where
