@@ -2,7 +2,7 @@
 -- Assumes nothing.
 use Prim.Native.Nat.{ℕ, _+_, _%_, _<_, _≤_, max}
 use native.Mathlib.Omega.{arith}
-use mathlib.Core.Path.{_≡_, refl, sym, ap, _∙_, subst}
+use mathlib.Core.Path.{_≡_, refl, sym, ap, ap₂, _∙_, subst}
 use mathlib.Core.Logic.{inl, inr}
 use mathlib.Core.List.{List, [], _∷_}
 use mathlib.Core.Bool.{Bool, true, false, not}
@@ -72,13 +72,22 @@ count-is c r =
 count-twice : (c d : ReflectorCounter) (r : Reflector) → rust.count d (rust.count c (rustReflector r)) ≡ rustReflector (counting d (counting c r))
 count-twice c d r = ap (rust.count d) (count-is c r) ∙ count-is d (counting c r)
 
-next-is : (n : ℕ) → n < 65536 → max ((n + 1) % 65536) 1 ≡ nextErrorSequence n
-unfolding nextErrorSequence
-next-is n h = by (eqb n 65535) refl
+next-is : (g : rust.GtpuReflector) → g .«next_error_sequence» < 65536
+    → rust.«take_error_sequence» g .reflector .«next_error_sequence» ≡ nextErrorSequence (g .«next_error_sequence»)
+unfolding rust.«take_error_sequence» nextErrorSequence
+next-is g h = by (eqb (g .«next_error_sequence») 65535) refl
   where
-    by : (t : Bool) → eqb n 65535 ≡ t → max ((n + 1) % 65536) 1 ≡ elim t [ true ↦ 1 | false ↦ n + 1 ]
-    by true e = omega (arith, eqb-true n 65535 e)
-    by false e = omega (arith, eqb-false n 65535 e)
+    by : (t : Bool) → eqb (g .«next_error_sequence») 65535 ≡ t
+        → rust.«take_error_sequence» g .reflector .«next_error_sequence» ≡ elim t [ true ↦ 1 | false ↦ g .«next_error_sequence» + 1 ]
+    by true e = omega (arith, eqb-true (g .«next_error_sequence») 65535 e)
+    by false e = omega (arith, eqb-false (g .«next_error_sequence») 65535 e)
+
+taken-is : (r : Reflector) → SequenceFits r
+    → rust.«take_error_sequence» (rust.count counter.ErrorIndicationsSent (rustReflector r)) .reflector ≡ rustReflector (withState (errorIndicationSent (r .state)) r)
+unfolding rust.«take_error_sequence»
+taken-is r fits =
+    ap₂ (λ (stats : ReflectorStats) (next : ℕ). rustReflector (withState (record { stats = stats; «next_error_sequence» = next }) r))
+    (raised-is counter.ErrorIndicationsSent (r .state .stats)) (next-is (rustReflector r) fits)
 
 payload-is : (teid : ℕ) (source : SocketAddr) → rust.«error_indication_payload» teid (rustAddress source .ip) ≡ errorIndicationTo teid source
 unfolding rust.«error_indication_payload» address addressLength
@@ -147,7 +156,7 @@ module _ (r : Reflector) (source : SocketAddr) (payload buffer : List ℕ) where
   -- a G-PDU of an unknown TEID
   unknown : (message : GtpuMessage) → SequenceFits r → Comes (rust.«unknown_teid» (rustReflector r) (rustAddress source) (rustMessage message payload)) (gpduUnknown (r .state) source (message .teid))
   unfolding rust.«unknown_teid» rust.«take_error_sequence» gpduUnknown
-  unknown message fits = rw (payload-is (message .teid) source, next-is (r .state .«next_error_sequence») fits, raised-is counter.ErrorIndicationsSent (r .state .stats)) (refl, refl, refl)
+  unknown message fits = rw (payload-is (message .teid) source) (refl, refl, taken-is r fits)
 
   -- an Echo Request
   request : (message : GtpuMessage) → Comes (rust.«echo_request» (rustReflector r) (rustAddress source) (rustMessage message payload)) (echoRequest (r .config) (r .state) source message)

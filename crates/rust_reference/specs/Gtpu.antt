@@ -31,7 +31,8 @@ abbrev pub «GTPU_MSG_GPDU» : ℕ
 «GTPU_MSG_GPDU» = 255
 
 -- A message, of its header the three fields that the reflector reads and writes. The codec is not among the sources, so a datagram is the
--- message that `decode_gtpu` makes of it, and `encode_message` (lines 191 to 228) answers the message that it encodes: so the stand-in.
+-- message that `decode_gtpu` makes of it, and `encode_message` (lines 191 to 227) answers the message that it encodes. So does the stand-in
+-- of document 01, for payloads of at most 65,535 bytes.
 pub record GtpuMessage : Type 0 where
   pub «message_type» : ℕ
   pub teid : ℕ
