@@ -1,6 +1,6 @@
 -- A message: each arm of the Rust's match has document 01's answer, counts and error sequence.
 -- Assumes nothing.
-use Prim.Native.Nat.{ℕ, _+_, _%_, _<_, _≤_, max}
+use Prim.Native.Nat.{ℕ, _+_, _<_, _≤_}
 use native.Mathlib.Omega.{arith}
 use mathlib.Core.Path.{_≡_, refl, sym, ap, ap₂, _∙_, subst}
 use mathlib.Core.Logic.{inl, inr}
@@ -18,8 +18,8 @@ use Rattle.measurement.specs.Packet.{address, addressLength}
 use Rattle.measurement.specs.declared.IpVersion.{IpVersion}
 use Rattle.measurement.specs.declared.IpVersion.the-variants.{V4, V6}
 use Rattle.reflector.specs.Handle.{handleDatagram}
-use Rattle.reflector_answer.specs.Answer.{Payload, written, handedOn, Action, noop, send, Answer, gpdu, reflected, gpduOutcome, gpduCounted, gpduKnown, errorIndicationTo, gpduUnknown, isAbsent, echoRequestOutcome, echoRequestCounted, echoRequest, ignored, otherMessage, gpduAnswer, answer}
-use Rattle.reflector_answer.specs.Handle.{placed, handleFound}
+use Rattle.reflector_answer.specs.Answer.{written, handedOn, Action, noop, send, Answer, gpdu, reflected, gpduOutcome, gpduCounted, gpduKnown, errorIndicationTo, gpduUnknown, isAbsent, echoRequestOutcome, echoRequestCounted, echoRequest, otherMessage, gpduAnswer, answer}
+use Rattle.reflector_answer.specs.Handle.{placed}
 use Rattle.reflector_answer.specs.State.{counted, stateCounted, nextErrorSequence, errorIndicationSent}
 use Rattle.reflector_answer.specs.declared.GtpuMessage.{GtpuMessage}
 use Rattle.reflector_answer.specs.declared.ReflectorCounter.{ReflectorCounter}
@@ -27,7 +27,7 @@ use Rattle.reflector_answer.specs.declared.ReflectorCounter.the-variants as cou
 use Rattle.reflector_answer.specs.declared.ReflectorNoopReason.the-variants as reason
 use Rattle.reflector_answer.specs.declared.ReflectorPolicy.{ReflectorPolicy}
 use Rattle.reflector_answer.specs.declared.ReflectorPolicy.the-variants.{Echo, SinkAndCount, Route}
-use Rattle.reflector_answer.specs.declared.ReflectorSendReason.the-variants.{ReflectedGpdu, RoutedGpdu, EchoResponse, ErrorIndication}
+use Rattle.reflector_answer.specs.declared.ReflectorSendReason.the-variants.{ReflectedGpdu, RoutedGpdu, EchoResponse}
 use Rattle.reflector_answer.specs.declared.ReflectorState.{ReflectorState}
 use Rattle.reflector_answer.specs.declared.ReflectorStats.{ReflectorStats}
 use Rattle.reflector_answer.specs.declared.SequenceNumber.{SequenceNumber}

@@ -29,7 +29,7 @@ use Rattle.rust_reference.specs.Error.{Result, Ok, Err, InvalidReflector
 use Rattle.rust_reference.specs.Map as map
 use Rattle.rust_reference.specs.Number.{outcomeOf}
 use Rattle.rust_reference.specs.Reflector as rust
-use Rattle.rust_reference.specs.Sessions.{Reflector, tableIn, withTable, freshReflector, rustIp, rustSession, rustConfig, rustReflector, rustRemoved, MaximumFits}
+use Rattle.rust_reference.specs.Sessions.{Reflector, tableIn, withTable, freshReflector, rustIp, rustSession, rustReflector, rustRemoved, MaximumFits}
 use Rattle.rust_reference.specs.Values.{same}
 
 -- ---- a fresh reflector

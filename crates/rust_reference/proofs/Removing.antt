@@ -1,6 +1,6 @@
 -- Removal: the place of a TEID is the same in the `Vec` and among the used rows, and `swap_remove` there leaves the used rows of the port.
 -- Assumes nothing.
-use Prim.Native.Nat.{ℕ, zero, suc, _+_, _-_, _<_, _≤_}
+use Prim.Native.Nat.{ℕ, zero, suc, _-_, _<_}
 use native.Mathlib.Omega.{arith}
 use mathlib.Core.Path.{_≡_, refl, sym, ap, _∙_, subst}
 use mathlib.Core.Logic.{inr}
@@ -10,9 +10,8 @@ use mathlib.Core.Option.{Option, some, none}
 use lib.Dec.{eqb}
 use lib.ListN.{length, take, set, getD, length-set}
 use lib.Seq.{length-take-le, take-set-lt, take-take, getD-take}
-use Rattle.error.specs.Outcome.{Outcome, refused, gives, firstCause}
+use Rattle.error.specs.Outcome.{Outcome, gives}
 use Rattle.error.proofs.Causes.{passes}
-use Rattle.reflector_sessions.specs.Judge.{tableCauses}
 use Rattle.reflector_sessions.specs.Remove.{removeOutcome, removeSession, removedTable}
 use Rattle.reflector_sessions.specs.Session.{noSession}
 use Rattle.reflector_sessions.specs.Table.{find, placeOf, usedRows}

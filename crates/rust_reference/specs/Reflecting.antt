@@ -4,7 +4,7 @@ use Prim.Native.Nat.{ℕ, _≤_}
 use mathlib.Core.List.{List, [], _∷_}
 use mathlib.Core.Bool.{Bool}
 use lib.ListN.{length}
-use Rattle.error.specs.Outcome.{Outcome, refused, gives}
+use Rattle.error.specs.Outcome.{Outcome, gives}
 use Rattle.field.specs.Field.{Bytes}
 use Rattle.reflector_answer.specs.Handle.{placed}
 use Rattle.reflector_answer.specs.declared.GtpuMessage.{GtpuMessage}
