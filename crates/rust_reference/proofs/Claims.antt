@@ -7,7 +7,11 @@ use Rattle.rust_reference.proofs.Decoding.{decoded}
 use Rattle.rust_reference.proofs.Echoing.{echoed}
 use Rattle.rust_reference.proofs.Elements.{validate}
 use Rattle.rust_reference.proofs.Generating.{interval-ns, generated}
+use Rattle.rust_reference.proofs.Handling.{handled}
 use Rattle.rust_reference.proofs.Observing.{new-same, every-same, sending-same, received-same, message-same}
+use Rattle.rust_reference.proofs.Reflecting.{reflector-runs-same, reflector-runs-in-room}
+use Rattle.rust_reference.proofs.Registering.{new-multi, registered}
+use Rattle.rust_reference.proofs.Removing.{removed}
 use Rattle.rust_reference.proofs.Reporting.{report-same}
 use Rattle.rust_reference.proofs.Running.{runs-same, runs-of-2048}
 
@@ -28,4 +32,10 @@ equals-the-rust = record {
   report = report-same;
   runs = runs-same;
   runs-up-to-2048 = runs-of-2048;
+  «new_multi» = new-multi;
+  «register_session» = registered;
+  «remove_session» = removed;
+  «handle_datagram» = handled;
+  reflector-runs = reflector-runs-same;
+  reflector-runs-with-room = reflector-runs-in-room;
 }

@@ -20,7 +20,7 @@ use Rattle.measurement.specs.declared.MeasurementHeader.{MeasurementHeader}
 use Rattle.measurement.specs.declared.IpVersion.the-variants.{V4, V6}
 use Rattle.rust_reference.specs.Claims.{NoneAdded, EchoTpdu}
 use Rattle.rust_reference.specs.Error.{DataplaneTestkitError, Result, Ok, Err, UnsupportedIpVersion, returnIf, _>>=_, _>>_}
-use Rattle.rust_reference.specs.Number.{outcomeBy}
+use Rattle.rust_reference.specs.Number.{outcomeBy, outcomeOf}
 use Rattle.rust_reference.specs.Values.{index, range, «u16_at»}
 use Rattle.rust_reference.specs.Answers.{flowOf, tpduOf, inBuffer}
 use Rattle.rust_reference.specs.Measurement as rust
@@ -137,16 +137,21 @@ built d w = of (d .flow) w
     of (rust.Ipv6 src dst sport dport) w =
         rw (again6 src (unfold Whole in w .2), again6 dst (unfold Whole in w .3)) (made6 dst src dport sport (d .measurement) (turned 16 src dst w))
 
-pub echoed : EchoTpdu
-unfolding rust.«echo_tpdu» echoOf writingOf
-echoed p b buffer added = of (rust.«decode_measurement_tpdu» p) (whole p b) (readOf p) (decoded p b) added
+-- what the Rust's echo comes to
+pub echo-outcome : (p : List ℕ) → Bytes p → outcomeOf (rust.«echo_tpdu» p) ≡ echoOf p
+unfolding rust.«echo_tpdu» echoOf
+echo-outcome p b = of (rust.«decode_measurement_tpdu» p) (whole p b) (readOf p) (decoded p b)
   where
-    echoing : Outcome DecodedTpdu → Outcome (List ℕ)
-    echoing o = elim o [ refused n ↦ refused n | gives t ↦ gives (echoOfTpdu t) ]
+    of : (r : Result rust.DecodedTpdu) → AllOk WholeTpdu r → (o : Outcome DecodedTpdu) → outcomeBy tpduOf r ≡ o
+        → outcomeOf (_>>=_ r (λ d. rust.«build_udp_tpdu» (rust.reversed (d .flow)) (rust.encode (d .measurement))))
+        ≡ elim o [ refused n ↦ refused n | gives t ↦ gives (echoOfTpdu t) ]
+    of (Ok d) (all w) o e = rw (← e) (ap outcomeOf (built d w))
+    of (Err x) none o e = rw (← e)
 
-    of : (r : Result rust.DecodedTpdu) → AllOk WholeTpdu r → (o : Outcome DecodedTpdu) → outcomeBy tpduOf r ≡ o → NoneAdded (writingOf (echoing o) buffer .outcome)
-        → inBuffer (_>>=_ r (λ d. rust.«build_udp_tpdu» (rust.reversed (d .flow)) (rust.encode (d .measurement)))) buffer ≡ writingOf (echoing o) buffer
-    of (Ok d) (all w) o e added =
-        rw (← e)
-        (laid (rust.«build_udp_tpdu» (rust.reversed (d .flow)) (rust.encode (d .measurement))) (echoOfTpdu (tpduOf d)) buffer (built d w) (rw (← e) at added))
-    of (Err x) none o e added = rw (← e)
+pub echoed : EchoTpdu
+unfolding writingOf
+echoed p b buffer added = of (rust.«echo_tpdu» p) (echoOf p) (echo-outcome p b) added
+  where
+    of : (r : Result (List ℕ)) (o : Outcome (List ℕ)) → outcomeOf r ≡ o → NoneAdded (writingOf o buffer .outcome) → inBuffer r buffer ≡ writingOf o buffer
+    of (Ok bytes) o e added = rw (← e) (laid (Ok bytes) bytes buffer refl (rw (← e) at added))
+    of (Err x) o e added = rw (← e)

@@ -10,4 +10,8 @@ pub mod Maps
 pub mod Observing
 pub mod Reporting
 pub mod Running
+pub mod Registering
+pub mod Removing
+pub mod Handling
+pub mod Reflecting
 pub mod Claims

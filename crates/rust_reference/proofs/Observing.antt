@@ -3,7 +3,7 @@
 use Prim.Native.Nat.{ℕ, _+_, _-_, _<_, _≤_, min, max}
 use native.Mathlib.Omega.{arith}
 use mathlib.Core.Path.{_≡_, refl, sym, ap, _∙_, subst}
-use mathlib.Core.Logic.{inr}
+use mathlib.Core.Logic.{inl, inr}
 use mathlib.Core.List.{List, [], _∷_, _++_}
 use mathlib.Core.Bool.{Bool, true, false, _||_}
 use lib.Dec.{eqb, ltb}
@@ -127,7 +127,7 @@ sending-kept rust o same q t free = sending-located rust o same q t free (locate
 pub sending-same : RecordSent
 sending-same rust o same q t added =
     let s = sending-kept rust o same q t
-    (λ w full. added 22 (inr (inr (inr refl))) (ap (λ (x : Step). x .outcome) (sym (sent-full o (same .well) q t w full)))) in
+    (λ w full. added 22 (inr (inr (inr (inl refl)))) (ap (λ (x : Step). x .outcome) (sym (sent-full o (same .well) q t w full)))) in
     (s .0, s .1)
 
 -- ---- a return

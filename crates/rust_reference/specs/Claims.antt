@@ -5,10 +5,11 @@ use Prim.Native.Nat.{ℕ, _≤_}
 use mathlib.Core.Path.{_≡_}
 use mathlib.Core.List.{List, [], _∷_}
 use mathlib.Core.Logic.{_⊎_}
-use mathlib.Core.Bool.{true}
+use mathlib.Core.Bool.{Bool, true, _||_}
+use lib.Dec.{eqb, ltb}
 use lib.ListN.{length}
-use Rattle.error.specs.Number.{outputTooShort, tooManyPackets, malformedObserver, observerFull}
-use Rattle.error.specs.Outcome.{Outcome, refused, gives}
+use Rattle.error.specs.Number.{outputTooShort, tooManyPackets, malformedObserver, observerFull, invalidReflectorCapacity, malformedReflectorTable}
+use Rattle.error.specs.Outcome.{Outcome, refused, gives, _⇒_, firstCause}
 use Rattle.gtpu.specs.Element.{elementsOf}
 use Rattle.field.specs.Field.{Bytes}
 use Rattle.measurement.specs.Packet.{buildOf}
@@ -30,19 +31,31 @@ use Rattle.continuity.specs.declared.GtpuReturnDatagramOutcome.{GtpuReturnDatag
 use Rattle.report.specs.Report.{reporting}
 use Rattle.evidence.specs.Budget.{zeroLoss}
 use Rattle.evidence.specs.declared.PacketContinuityBudget.{PacketContinuityBudget}
+use Rattle.reflector_answer.specs.Handle.{placed}
+use Rattle.reflector_answer.specs.declared.GtpuMessage.{GtpuMessage}
+use Rattle.reflector_answer.specs.declared.MultiSessionReflectorConfig.{MultiSessionReflectorConfig}
+use Rattle.reflector_sessions.specs.Register.{registerSession}
+use Rattle.reflector_sessions.specs.Remove.{removeSession}
+use Rattle.reflector_sessions.specs.declared.ReflectorSession.{ReflectorSession}
+use Rattle.reflector_sessions.specs.declared.SocketAddr.{SocketAddr}
+use Rattle.rust_reference.specs.Error.{Result, Ok}
 use Rattle.rust_reference.specs.Values.{«u64_max»}
 use Rattle.rust_reference.specs.Sheet.{receivedOf, ValuesFit, Same, rustObserver}
 use Rattle.rust_reference.specs.Runs.{Call, Typed, answerTo, afterCall, answersTo, rustAnswersTo, rustAfter}
+use Rattle.rust_reference.specs.Map.{Option}
 use Rattle.rust_reference.specs.Number.{outcomeBy, outcomeOf}
 use Rattle.rust_reference.specs.Answers.{rustFlow, tpduOf, inBuffer, headersOf, packetsInBuffer, reportOf}
+use Rattle.rust_reference.specs.Sessions.{Reflector, tableIn, withTable, withState, freshReflector, handling, rustAddress, rustSession, rustConfig, rustReflector, rustMessage, rustRemoved, rustAction, outcomeTo, inOutput, MaximumFits, SequenceFits}
 use Rattle.rust_reference.specs.Evidence as evidence
 use Rattle.rust_reference.specs.Gtpu as gtpu
 use Rattle.rust_reference.specs.Measurement as measurement
+use Rattle.rust_reference.specs.Reflector as reflector
+use Rattle.rust_reference.specs.Reflecting as reflecting
 use Rattle.rust_reference.specs.Traffic as traffic
 
--- The numbers that the card marks "added". (30 and 31 are the reflector's.)
+-- The numbers that the card marks "added".
 abbrev pub Added : ℕ → Type 0
-Added n = (n ≡ outputTooShort) ⊎ (n ≡ tooManyPackets) ⊎ (n ≡ malformedObserver) ⊎ (n ≡ observerFull)
+Added n = (n ≡ outputTooShort) ⊎ (n ≡ tooManyPackets) ⊎ (n ≡ malformedObserver) ⊎ (n ≡ observerFull) ⊎ (n ≡ malformedReflectorTable)
 
 -- "where no refusal marked added is due"
 abbrev pub NoneAdded : {A : Type 0} → Outcome A → Type 0
@@ -143,6 +156,65 @@ RunsUpTo2048 = (qs ts ls ms : List ℕ) → 2048 ≤ length qs → 2048 ≤ leng
     → (calls : List Call) → AllTyped calls → length (rustAfter traffic.new calls .sent) ≤ 2048
     → rustAnswersTo traffic.new calls ≡ answersTo (observerOf qs ts ls ms fresh) calls
 
+-- ---- reflector.rs
+
+-- Every configuration, and every lent slice: 30, or the Rust's reflector that holds what the fresh one holds.
+abbrev pub NewMulti : Type 0
+NewMulti = (sessions : List ReflectorSession) (config : MultiSessionReflectorConfig)
+    → outcomeOf (reflector.«new_multi» (rustConfig config))
+    ≡ firstCause ((eqb (config .«max_sessions») 0 || ltb 4096 (config .«max_sessions») ⇒ invalidReflectorCapacity) ∷ []) (gives (rustReflector (freshReflector sessions config)))
+
+-- Every reflector and session: the answer, and what the Rust's reflector then holds.
+abbrev pub RegisterSession : Type 0
+RegisterSession = (r : Reflector) → MaximumFits r → (session : ReflectorSession) → NoneAdded (registerSession (tableIn r) session .outcome)
+    → let after : reflector.Called (Result Bool) = reflector.«register_session» (rustReflector r) (rustSession session) in
+    (outcomeOf (after .result) ≡ registerSession (tableIn r) session .outcome)
+    × (after .reflector ≡ rustReflector (withTable (registerSession (tableIn r) session .table) r))
+
+-- Every TEID: the session that was removed, or none.
+abbrev pub RemoveSession : Type 0
+RemoveSession = (r : Reflector) → MaximumFits r → (teid : ℕ) → NoneAdded (removeSession (tableIn r) teid .outcome)
+    → let after : reflector.Called (Option reflector.ReflectorSession) = reflector.«remove_session» (rustReflector r) teid in
+    (gives (after .result) ≡ outcomeTo rustRemoved (removeSession (tableIn r) teid .outcome))
+    × (after .reflector ≡ rustReflector (withTable (removeSession (tableIn r) teid .table) r))
+
+-- Every message, from every sender: the action, with the payload of what is sent; every byte of the output; and the Rust's reflector, with
+-- its counts and its error sequence.
+abbrev pub HandleDatagram : Type 0
+HandleDatagram = (r : Reflector) → MaximumFits r → SequenceFits r → (source : SocketAddr) (message : GtpuMessage) (payload : List ℕ) → Bytes payload
+    → (buffer : List ℕ) → NoneAdded (handling r source message payload buffer .outcome)
+    → let after : reflector.Called (Result reflector.ReflectorAction) = reflector.«handle_datagram» (rustReflector r) (rustAddress source) (rustMessage message payload) in
+    (outcomeOf (after .result) ≡ outcomeTo (rustAction payload) (handling r source message payload buffer .outcome))
+    × (inOutput (after .result) buffer ≡ placed (handling r source message payload buffer .outcome) buffer)
+    × (after .reflector ≡ rustReflector (withState (handling r source message payload buffer .state) r))
+
+abbrev pub AllCallsTyped : List reflecting.Call → Type 0
+AllCallsTyped [] = Unit {0}
+AllCallsTyped (call ∷ calls) = reflecting.Typed call × AllCallsTyped calls
+
+abbrev pub NoneAddedInCalls : Reflector → List reflecting.Call → Type 0
+NoneAddedInCalls r [] = Unit {0}
+NoneAddedInCalls r (call ∷ calls) = NoneAdded (reflecting.answerTo r call .outcome) × NoneAddedInCalls (reflecting.afterCall r call) calls
+
+-- Every list of calls on what `new_multi` made, and on a fresh reflector with any slice: every answer and every output is the Rust's, and so is
+-- what is left.
+abbrev pub ReflectorRuns : Type 0
+ReflectorRuns = (sessions : List ReflectorSession) (config : MultiSessionReflectorConfig) (made : reflector.GtpuReflector) → reflector.«new_multi» (rustConfig config) ≡ Ok made
+    → (calls : List reflecting.Call) → AllCallsTyped calls → NoneAddedInCalls (freshReflector sessions config) calls
+    → (reflecting.rustAnswersTo made calls ≡ reflecting.answersTo (freshReflector sessions config) calls)
+    × (reflecting.rustAfter made calls ≡ rustReflector (reflecting.after (freshReflector sessions config) calls))
+
+abbrev pub AllOutputsFit : List reflecting.Call → Type 0
+AllOutputsFit [] = Unit {0}
+AllOutputsFit (call ∷ calls) = reflecting.OutputFits call × AllOutputsFit calls
+
+-- The same where the slice has a row for each session of the maximum and the outputs have 72 bytes: then neither 31 nor 15 is ever due.
+abbrev pub ReflectorRunsWithRoom : Type 0
+ReflectorRunsWithRoom = (sessions : List ReflectorSession) (config : MultiSessionReflectorConfig) (made : reflector.GtpuReflector) → reflector.«new_multi» (rustConfig config) ≡ Ok made
+    → config .«max_sessions» ≤ length sessions → (calls : List reflecting.Call) → AllCallsTyped calls → AllOutputsFit calls
+    → (reflecting.rustAnswersTo made calls ≡ reflecting.answersTo (freshReflector sessions config) calls)
+    × (reflecting.rustAfter made calls ≡ rustReflector (reflecting.after (freshReflector sessions config) calls))
+
 -- All of it, by the Rust's names.
 pub record EqualsTheRust : Type 0 where
   pub «zero_loss» : ZeroLoss
@@ -160,3 +232,9 @@ pub record EqualsTheRust : Type 0 where
   pub report : Report
   pub runs : Runs
   pub runs-up-to-2048 : RunsUpTo2048
+  pub «new_multi» : NewMulti
+  pub «register_session» : RegisterSession
+  pub «remove_session» : RemoveSession
+  pub «handle_datagram» : HandleDatagram
+  pub reflector-runs : ReflectorRuns
+  pub reflector-runs-with-room : ReflectorRunsWithRoom

@@ -19,6 +19,7 @@ pub data Reason : Type 0 where
   received-sequence-was-not-sent unsupported-GTP-U-return-message-type : Reason
   GTP-U-Peer-Address-IE-length-must-be-IPv4-or-IPv6 unsupported-fixed-length-GTP-U-IE : Reason
   Error-Indication-missing-TEID-Data-I-IE Error-Indication-missing-GTP-U-Peer-Address-IE : Reason
+  Echo-Request-TEID-must-be-zero Echo-Request-missing-sequence-number unsupported-GTP-U-message-type : Reason
 
 -- `Overflow { field }`
 pub data Field : Type 0 where
@@ -30,6 +31,7 @@ pub data DataplaneTestkitError : Type 0 where
   InvalidPacket : Reason → DataplaneTestkitError
   Overflow : Field → DataplaneTestkitError
   TimestampReversed : DataplaneTestkitError
+  InvalidReflectorCapacity InvalidReflectorSession ReflectorSessionConflict ReflectorSessionCapacityExceeded : DataplaneTestkitError
 
 -- `Result<A, DataplaneTestkitError>`
 pub data Result (A : Type 0) : Type 0 where

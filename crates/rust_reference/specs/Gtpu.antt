@@ -1,14 +1,19 @@
--- The Rust's gtpu.rs: the message types that the observer names, lines 17 to 26, and `validate_error_indication_ies`, lines 109 to 189.
+-- The Rust's gtpu.rs: the message types, lines 15 to 26, the messages that the reflector sends, lines 46 to 106, and
+-- `validate_error_indication_ies`, lines 109 to 189.
 -- Offsets are `usize` there, and every `checked_add` succeeds: an offset is at most the payload's length when 65,538 at most is added to it,
 -- and a slice of bytes has fewer than 2^63.
 -- Assumes nothing.
 use Prim.Native.Nat.{ℕ, zero, suc, _+_}
-use mathlib.Core.List.{List}
+use mathlib.Core.List.{List, [], _∷_}
 use mathlib.Core.Bool.{Bool, true, false, not, _&&_}
 use lib.Dec.{eqb, ltb, leb}
 use lib.ListN.{length}
+use Rattle.rust_reference.specs.Map.{Option, None, Some}
 use Rattle.rust_reference.specs.Values.{index, «u16_at»}
 use Rattle.rust_reference.specs.Error.{Result, Ok, Truncated, InvalidPacket, Err, returnIf, _>>_, TEID-Data-I-IE, GTP-U-Peer-Address-IE, GTP-U-TLV-IE, GTP-U-Peer-Address-IE-length-must-be-IPv4-or-IPv6, unsupported-fixed-length-GTP-U-IE, Error-Indication-missing-TEID-Data-I-IE, Error-Indication-missing-GTP-U-Peer-Address-IE}
+
+abbrev pub «GTPU_MSG_ECHO_REQUEST» : ℕ
+«GTPU_MSG_ECHO_REQUEST» = 1
 
 abbrev pub «GTPU_MSG_ECHO_RESPONSE» : ℕ
 «GTPU_MSG_ECHO_RESPONSE» = 2
@@ -24,6 +29,31 @@ abbrev pub «GTPU_MSG_END_MARKER» : ℕ
 
 abbrev pub «GTPU_MSG_GPDU» : ℕ
 «GTPU_MSG_GPDU» = 255
+
+-- A message, of its header the three fields that the reflector reads and writes. The codec is not among the sources, so a datagram is the
+-- message that `decode_gtpu` makes of it, and `encode_message` (lines 191 to 227) answers the message that it encodes. So does the stand-in
+-- of document 01, for payloads of at most 65,535 bytes.
+pub record GtpuMessage : Type 0 where
+  pub «message_type» : ℕ
+  pub teid : ℕ
+  pub «sequence_number» : Option ℕ
+  pub payload : List ℕ
+
+abbrev pub «encode_message» : ℕ → ℕ → Option ℕ → List ℕ → Result GtpuMessage
+«encode_message» message-type teid sequence-number payload =
+    Ok (record { «message_type» = message-type; teid = teid; «sequence_number» = sequence-number; payload = payload })
+
+-- lines 47 to 49
+abbrev pub «encode_gpdu» : ℕ → List ℕ → Result GtpuMessage
+«encode_gpdu» teid tpdu = «encode_message» «GTPU_MSG_GPDU» teid None tpdu
+
+-- lines 80 to 92
+abbrev pub «encode_echo_response» : ℕ → ℕ → Result GtpuMessage
+«encode_echo_response» sequence-number recovery-counter = «encode_message» «GTPU_MSG_ECHO_RESPONSE» 0 (Some sequence-number) (14 ∷ recovery-counter ∷ [])
+
+-- lines 94 to 106
+abbrev pub «encode_error_indication» : ℕ → List ℕ → Result GtpuMessage
+«encode_error_indication» sequence-number payload = «encode_message» «GTPU_MSG_ERROR_INDICATION» 0 (Some sequence-number) payload
 
 -- lines 178 to 188: behind the loop
 unfoldable pub «required_ies» : Bool → Bool → Result (Unit {0})

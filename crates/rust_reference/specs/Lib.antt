@@ -8,6 +8,9 @@ pub mod Measurement
 pub mod Evidence
 pub mod Traffic
 pub mod Sheet
+pub mod Reflector
+pub mod Sessions
 pub mod Answers
 pub mod Runs
+pub mod Reflecting
 pub mod Claims

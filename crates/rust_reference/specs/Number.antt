@@ -1,10 +1,10 @@
 -- Each of the Rust's error values as document 01's number ("Text reasons become numbers").
 -- Assumes nothing.
 use Prim.Native.Nat.{ℕ}
-use Rattle.error.specs.Number.{truncatedIpHeader, unsupportedIpVersion, truncatedIpv4Header, invalidIpv4Ihl, invalidIpv4TotalLength, payloadIsNotUdp, invalidIpv4HeaderChecksum, truncatedIpv6UdpPacket, invalidIpv6PayloadLength, invalidUdpLength, ipv6UdpChecksumIsZero, invalidUdpChecksum, truncatedMeasurementHeader, measurementMagicMismatch, targetRateIsZero, targetRateExceedsResolution, sequenceOverflow, sendTimestampOverflow, sequenceWasNotSent, timestampReversed, truncatedElement, invalidPeerAddressLength, unsupportedFixedLengthElement, missingTeidDataI, missingPeerAddress, unsupportedMessageType}
+use Rattle.error.specs.Number.{truncatedIpHeader, unsupportedIpVersion, truncatedIpv4Header, invalidIpv4Ihl, invalidIpv4TotalLength, payloadIsNotUdp, invalidIpv4HeaderChecksum, truncatedIpv6UdpPacket, invalidIpv6PayloadLength, invalidUdpLength, ipv6UdpChecksumIsZero, invalidUdpChecksum, truncatedMeasurementHeader, measurementMagicMismatch, targetRateIsZero, targetRateExceedsResolution, sequenceOverflow, sendTimestampOverflow, sequenceWasNotSent, timestampReversed, truncatedElement, invalidPeerAddressLength, unsupportedFixedLengthElement, missingTeidDataI, missingPeerAddress, invalidReflectorCapacity, invalidReflectorSession, reflectorSessionConflict, reflectorSessionCapacityExceeded, echoRequestTeidNotZero, echoRequestMissingSequence, unsupportedMessageType}
 use Rattle.error.specs.Outcome.{Outcome, refused, gives}
 use Rattle.rust_reference.specs.Error as rust
-use Rattle.rust_reference.specs.Error.{Context, Reason, Field, DataplaneTestkitError, Result, Truncated, UnsupportedIpVersion, InvalidPacket, Overflow, TimestampReversed, Ok, Err}
+use Rattle.rust_reference.specs.Error.{Context, Reason, Field, DataplaneTestkitError, Result, Truncated, UnsupportedIpVersion, InvalidPacket, Overflow, TimestampReversed, InvalidReflectorCapacity, InvalidReflectorSession, ReflectorSessionConflict, ReflectorSessionCapacityExceeded, Ok, Err}
 
 -- An error that the Rust can write down and never answers by. The card has no such number, so each claim also says that it does not occur.
 abbrev pub notOnTheCard : ℕ
@@ -40,6 +40,9 @@ invalidNumber rust.GTP-U-Peer-Address-IE-length-must-be-IPv4-or-IPv6 = invalidPe
 invalidNumber rust.unsupported-fixed-length-GTP-U-IE = unsupportedFixedLengthElement
 invalidNumber rust.Error-Indication-missing-TEID-Data-I-IE = missingTeidDataI
 invalidNumber rust.Error-Indication-missing-GTP-U-Peer-Address-IE = missingPeerAddress
+invalidNumber rust.Echo-Request-TEID-must-be-zero = echoRequestTeidNotZero
+invalidNumber rust.Echo-Request-missing-sequence-number = echoRequestMissingSequence
+invalidNumber rust.unsupported-GTP-U-message-type = unsupportedMessageType
 
 abbrev pub overflowNumber : Field → ℕ
 overflowNumber rust.«udp_len» = notOnTheCard
@@ -53,6 +56,10 @@ errorNumber (UnsupportedIpVersion version) = unsupportedIpVersion
 errorNumber (InvalidPacket reason) = invalidNumber reason
 errorNumber (Overflow field) = overflowNumber field
 errorNumber TimestampReversed = timestampReversed
+errorNumber InvalidReflectorCapacity = invalidReflectorCapacity
+errorNumber InvalidReflectorSession = invalidReflectorSession
+errorNumber ReflectorSessionConflict = reflectorSessionConflict
+errorNumber ReflectorSessionCapacityExceeded = reflectorSessionCapacityExceeded
 
 -- A result of the Rust as an outcome, its value in document 01's terms.
 abbrev pub outcomeBy : {A B : Type 0} → (A → B) → Result A → Outcome B

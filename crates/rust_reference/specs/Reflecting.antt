@@ -1,0 +1,91 @@
+-- Lists of the reflector's calls, each on what the last one left, by document 01's definitions and by the Rust's.
+-- Assumes nothing.
+use Prim.Native.Nat.{ℕ, _≤_}
+use mathlib.Core.List.{List, [], _∷_}
+use mathlib.Core.Bool.{Bool}
+use lib.ListN.{length}
+use Rattle.error.specs.Outcome.{Outcome, gives}
+use Rattle.field.specs.Field.{Bytes}
+use Rattle.reflector_answer.specs.Handle.{placed}
+use Rattle.reflector_answer.specs.declared.GtpuMessage.{GtpuMessage}
+use Rattle.reflector_sessions.specs.Register.{registerSession}
+use Rattle.reflector_sessions.specs.Remove.{removeSession}
+use Rattle.reflector_sessions.specs.declared.ReflectorSession.{ReflectorSession}
+use Rattle.reflector_sessions.specs.declared.SocketAddr.{SocketAddr}
+use Rattle.rust_reference.specs.Map.{Option}
+use Rattle.rust_reference.specs.Number.{outcomeOf}
+use Rattle.rust_reference.specs.Reflector as rust
+use Rattle.rust_reference.specs.Sessions.{Reflector, tableIn, withTable, withState, handling, rustAddress, rustSession, rustMessage, rustRemoved, rustAction, outcomeTo, inOutput}
+
+-- A call, with what it is handed: a session; a TEID; a sender, a message, its payload and an output.
+pub data Call : Type 0 where
+  register : ReflectorSession → Call
+  remove : ℕ → Call
+  handle : SocketAddr → GtpuMessage → List ℕ → List ℕ → Call
+
+-- What it is handed has the code's types, as far as that matters: payloads are bytes.
+abbrev pub Typed : Call → Type 0
+Typed (register session) = Unit {0}
+Typed (remove teid) = Unit {0}
+Typed (handle source message payload buffer) = Bytes payload
+
+-- Its output, where it is lent one, has the 72 bytes that document 01 asks for: 15 is not due.
+abbrev pub OutputFits : Call → Type 0
+OutputFits (register session) = Unit {0}
+OutputFits (remove teid) = Unit {0}
+OutputFits (handle source message payload buffer) = 72 ≤ length buffer
+
+-- What a call gives, in the Rust's terms.
+pub data Given : Type 0 where
+  registered : Bool → Given
+  removed : Option rust.ReflectorSession → Given
+  acted : rust.ReflectorAction → Given
+
+-- What a call comes to, and the output as it leaves it, where one was lent.
+pub record Answer : Type 0 where
+  pub outcome : Outcome Given
+  pub output : List ℕ
+
+-- By document 01's definitions.
+abbrev pub answerTo : Reflector → Call → Answer
+answerTo r (register session) = record { outcome = outcomeTo registered (registerSession (tableIn r) session .outcome); output = [] }
+answerTo r (remove teid) = record { outcome = outcomeTo removed (outcomeTo rustRemoved (removeSession (tableIn r) teid .outcome)); output = [] }
+answerTo r (handle source message payload buffer) = record {
+  outcome = outcomeTo acted (outcomeTo (rustAction payload) (handling r source message payload buffer .outcome));
+  output = placed (handling r source message payload buffer .outcome) buffer;
+}
+
+abbrev pub afterCall : Reflector → Call → Reflector
+afterCall r (register session) = withTable (registerSession (tableIn r) session .table) r
+afterCall r (remove teid) = withTable (removeSession (tableIn r) teid .table) r
+afterCall r (handle source message payload buffer) = withState (handling r source message payload buffer .state) r
+
+abbrev pub answersTo : Reflector → List Call → List Answer
+answersTo r [] = []
+answersTo r (call ∷ calls) = answerTo r call ∷ answersTo (afterCall r call) calls
+
+abbrev pub after : Reflector → List Call → Reflector
+after r [] = r
+after r (call ∷ calls) = after (afterCall r call) calls
+
+-- By the Rust's.
+abbrev pub rustAnswerTo : rust.GtpuReflector → Call → Answer
+rustAnswerTo r (register session) = record { outcome = outcomeTo registered (outcomeOf (rust.«register_session» r (rustSession session) .result)); output = [] }
+rustAnswerTo r (remove teid) = record { outcome = gives (removed (rust.«remove_session» r teid .result)); output = [] }
+rustAnswerTo r (handle source message payload buffer) = record {
+  outcome = outcomeTo acted (outcomeOf (rust.«handle_datagram» r (rustAddress source) (rustMessage message payload) .result));
+  output = inOutput (rust.«handle_datagram» r (rustAddress source) (rustMessage message payload) .result) buffer;
+}
+
+abbrev pub rustAfterCall : rust.GtpuReflector → Call → rust.GtpuReflector
+rustAfterCall r (register session) = rust.«register_session» r (rustSession session) .reflector
+rustAfterCall r (remove teid) = rust.«remove_session» r teid .reflector
+rustAfterCall r (handle source message payload buffer) = rust.«handle_datagram» r (rustAddress source) (rustMessage message payload) .reflector
+
+abbrev pub rustAnswersTo : rust.GtpuReflector → List Call → List Answer
+rustAnswersTo r [] = []
+rustAnswersTo r (call ∷ calls) = rustAnswerTo r call ∷ rustAnswersTo (rustAfterCall r call) calls
+
+abbrev pub rustAfter : rust.GtpuReflector → List Call → rust.GtpuReflector
+rustAfter r [] = r
+rustAfter r (call ∷ calls) = rustAfter (rustAfterCall r call) calls
