@@ -5,6 +5,7 @@ use mathlib.Core.List.{List}
 use mathlib.Core.Bool.{true, false}
 use lib.Dec.{eqb}
 use Rattle.error.specs.Outcome.{Outcome, refused, gives}
+use Rattle.measurement.specs.Packet.{versionNumbered}
 use Rattle.measurement.specs.declared.DecodeResult.{DecodeResult}
 use Rattle.measurement.specs.declared.DecodedTpdu.{DecodedTpdu}
 use Rattle.measurement.specs.declared.Decoding.{Decoding}
