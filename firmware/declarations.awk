@@ -1,13 +1,13 @@
-# The C declarations that the exports call for, one to a line: each `#[repr(C)]` struct and each `#[no_mangle]` function of
-# crates/exports/src/lib.rt. A slice is a pointer and a length; a reference to an array or a struct is a pointer.
+# The C declarations that the exports call for, one to a line: each `#[repr(C)]` struct and each `#[no_mangle]` function of the sources.
+# A slice is a pointer and a length; a reference to an array or a struct is a pointer.
 
-# C's name of a struct: TestkitWritten is `struct testkit_written`.
+# C's name of a struct: TestkitWritten is `struct testkit_written`, and so is Written.
 function tag(name,    k, letter, out) {
     for (k = 1; k <= length(name); k++) {
         letter = substr(name, k, 1)
         out = out (k > 1 && letter ~ /[A-Z]/ ? "_" : "") tolower(letter)
     }
-    return "struct " out
+    return "struct " (out ~ /^testkit_/ ? "" : "testkit_") out
 }
 
 function type(name) {
@@ -18,6 +18,12 @@ function type(name) {
 }
 
 function declare(name, form,    const, count) {
+    if (form ~ /^\[/) {
+        count = form
+        sub(/^.*; */, "", count)
+        sub(/ *;.*$/, "", form)
+        return type(substr(form, 2)) " " name "[" count
+    }
     if (form !~ /^&/) return type(form) " " name
     const = (form ~ /^&mut /) ? "" : "const "
     sub(/^&(mut )?/, "", form)

@@ -6,7 +6,9 @@
  *
  * Inputs. Packets, of both versions: built ones; cut at every length; each single bit turned; for IPv4 with options, of every IHL. Plans:
  * of 0, 1 and 2048 packets, and each refusal. Element lists: up to 4096 elements, each cut. Run sheets: empty, of 1 row and of 2048 rows,
- * none, one, all or every other returned; a new row at the front, in the middle and at the end; and malformed.
+ * none, one, all or every other returned; a new row at the front, in the middle and at the end; and malformed. Session tables: empty, of 1
+ * and of 4096 sessions, full and not, and refused; the first, the last and no session asked for; packets as above under each policy, and
+ * messages of every type with and without TEID and sequence.
  *
  * For x86-64 and GNU C. Linked with -z now, so that finding memcpy is not counted.
  */
@@ -18,7 +20,7 @@
 #include <string.h>
 #include <ucontext.h>
 
-enum { STACK = 65536, ABOVE = 4096, ROWS = TESTKIT_MAXIMUM_ROWS, OUT = ROWS * TESTKIT_IPV6_TPDU_BYTES, LIST = 4096 * 3 + 12 };
+enum { STACK = 65536, ABOVE = 4096, ROWS = TESTKIT_MAXIMUM_ROWS, OUT = ROWS * TESTKIT_IPV6_TPDU_BYTES, LIST = 4096 * 3 + 12, SESSIONS = TESTKIT_MAXIMUM_SESSIONS };
 
 static uint8_t stack[STACK] __attribute__((aligned(64)));
 static void (*volatile body)(void);
@@ -46,6 +48,12 @@ static uint8_t marks[ROWS];
 static struct testkit_counts counts;
 static uint64_t sequence;
 static uint8_t message_type;
+static struct testkit_reflector_session sessions[SESSIONS], session;
+static size_t sessions_used;
+static struct testkit_reflector_config config;
+static struct testkit_reflector_state state;
+static struct testkit_lent_socket_addr source;
+static struct testkit_gtpu_message message;
 static volatile uint64_t kept; /* so that no answer is thrown away */
 
 #define SHEET sequences, ROWS, times, ROWS, latencies, ROWS, marks, ROWS, counts
@@ -74,6 +82,12 @@ static void call_returns(void)
 }
 static void call_message(void) { kept = ENTER(testkit_record_return_gtpu_datagram)(SHEET, 9, message_type, in, in_length).number; }
 static void call_report(void) { kept = ENTER(testkit_report)(SHEET, 1, 2, 3, 4, 5).number; }
+static void call_register(void) { kept = ENTER(testkit_register_session)(sessions, SESSIONS, sessions_used, config.max_sessions, session).number; }
+static void call_remove(void) { kept = ENTER(testkit_remove_session)(sessions, SESSIONS, sessions_used, config.max_sessions, session.local_teid).number; }
+static void call_handle(void)
+{
+    kept = ENTER(testkit_handle_datagram)(sessions, SESSIONS, sessions_used, config, state, source, message, in, in_length, out, out_length).number;
+}
 
 /* The calls, and the most that each has used so far. */
 static struct row {
@@ -95,6 +109,9 @@ static struct row {
     {"testkit_record_received_tpdus", call_returns, TESTKIT_STACK_RECORD_RECEIVED_TPDUS, 0},
     {"testkit_record_return_gtpu_datagram", call_message, TESTKIT_STACK_RECORD_RETURN_GTPU_DATAGRAM, 0},
     {"testkit_report", call_report, TESTKIT_STACK_REPORT, 0},
+    {"testkit_register_session", call_register, TESTKIT_STACK_REGISTER_SESSION, 0},
+    {"testkit_remove_session", call_remove, TESTKIT_STACK_REMOVE_SESSION, 0},
+    {"testkit_handle_datagram", call_handle, TESTKIT_STACK_HANDLE_DATAGRAM, 0},
 };
 enum { CALLS = sizeof rows / sizeof *rows };
 
@@ -129,9 +146,12 @@ static void measure(void (*call)(void))
 {
     static uint8_t marks_before[ROWS];
     static uint64_t sequences_before[ROWS];
+    static struct testkit_reflector_session sessions_before[SESSIONS];
+    size_t table = call == call_register || call == call_remove ? sizeof sessions : 0;
     struct row *row = rows;
     memcpy(marks_before, marks, sizeof marks);
     memcpy(sequences_before, sequences, sizeof sequences);
+    memcpy(sessions_before, sessions, table);
     while (row->call != call) {
         row++;
     }
@@ -140,6 +160,7 @@ static void measure(void (*call)(void))
         row->used = used > row->used ? used : row->used;
         memcpy(marks, marks_before, sizeof marks);
         memcpy(sequences, sequences_before, sizeof sequences);
+        memcpy(sessions, sessions_before, table);
     }
 }
 
@@ -156,6 +177,41 @@ static void measure_packet(void)
     measure(call_message);
     for (out_length = 51; out_length <= 72; out_length += 21) {
         measure(call_echo);
+        for (config.policy = 0; config.policy <= 2; config.policy++) {
+            measure(call_handle);
+        }
+    }
+}
+
+/* A table of `used` sessions with the local TEIDs 1, 2, .., and a maximum. */
+static void set_sessions(size_t used, size_t maximum)
+{
+    for (size_t k = 0; k < SESSIONS; k++) {
+        sessions[k] = (struct testkit_reflector_session){(uint32_t)k + 1, 9, {k % 2 ? 4 : 6, {1}, 7}};
+    }
+    sessions_used = used;
+    config = (struct testkit_reflector_config){maximum, 5, 0, {6, {2}, 8}, 3};
+}
+
+/* Every call of the reflector on a table of `used` sessions. */
+static void measure_reflector(size_t used, size_t maximum)
+{
+    static const uint32_t teids[] = {0, 1, 2, SESSIONS, SESSIONS + 1};
+    for (size_t k = 0; k < 4 * sizeof teids / sizeof *teids; k++) {
+        set_sessions(used, maximum);
+        session = (struct testkit_reflector_session){teids[k / 4], 9, {k % 2 ? 4 : 6, {1}, k % 4 < 2 ? 7 : 0}};
+        measure(call_register);
+        set_sessions(used, maximum);
+        measure(call_remove);
+        set_sessions(used, maximum);
+        source = session.peer_addr;
+        out_length = 72;
+        for (int type = 0; type < 256; type++) {
+            message = (struct testkit_gtpu_message){(uint8_t)type, session.local_teid, k % 4 < 2, 65535};
+            for (config.policy = 0; config.policy <= 2; config.policy++) {
+                measure(call_handle);
+            }
+        }
     }
 }
 
@@ -285,6 +341,8 @@ int main(void)
     }
     measure_writers();
     set_sheet(4, 2);
+    set_sessions(1, 1);
+    message = (struct testkit_gtpu_message){255, 1, 0, 0};
     measure_packets(2);
     for (size_t count = 0; count <= 40; count++) {
         measure_elements(count);
@@ -297,6 +355,13 @@ int main(void)
         measure_sheet(ROWS, step);
         measure_sheet(ROWS + 1, step);
     }
+    in_length = testkit_build(6, src, dst, 1, 2, 3, 4, in, sizeof in).bytes;
+    measure_reflector(0, 1);
+    measure_reflector(1, 1);
+    measure_reflector(1, 2);
+    measure_reflector(SESSIONS, SESSIONS);
+    measure_reflector(2, 1);
+    measure_reflector(0, 0);
     for (size_t k = 0; k < CALLS; k++) {
         printf("%-36s %5zu bytes of stack, %5zu said\n", rows[k].name, rows[k].used, rows[k].said);
         if (rows[k].used > rows[k].said) {

@@ -19,11 +19,11 @@
  *
  * Answers. `number` is 0 (TESTKIT_ACCEPTED) or says why the call refused: the enum below, and docs/CARD.md for what to do about it. Of
  * several causes it names the first in the order that is given at the call. A refusal leaves every lent byte and every count as it was;
- * the exception is said at its call, testkit_generate. On success, output bytes past the answer stay.
+ * the exceptions are said at their calls, testkit_generate and testkit_handle_datagram. On success, output bytes past the answer stay.
  *
  * Time. Every call ends. Times are in nanoseconds since whatever moment the caller chose.
  *
- * Each call is proved to be what document 01 and the RFCs say (crates/exports/src/lib.rt has its contract). What is said here in words
+ * Each call is proved to be what document 01 and the RFCs say (crates/exports/src has its contract). What is said here in words
  * is not proved; firmware/run checks that names, types, numbers and layouts are those of the proved source.
  */
 #ifndef TESTKIT_H
@@ -43,7 +43,9 @@ enum {
     TESTKIT_IPV4_TPDU_BYTES = 52, /* a built or echoed T-PDU */
     TESTKIT_IPV6_TPDU_BYTES = 72,
     TESTKIT_MAXIMUM_PACKETS = 2048, /* packets in a plan */
-    TESTKIT_MAXIMUM_ROWS = 2048     /* rows of a run sheet: elements past these are never used */
+    TESTKIT_MAXIMUM_ROWS = 2048,    /* rows of a run sheet: elements past these are never used */
+    TESTKIT_MAXIMUM_SESSIONS = 4096, /* sessions of a reflector */
+    TESTKIT_REFLECTOR_BYTES = 72     /* the output that a message is handled with */
 };
 
 /* The refusals. docs/CARD.md has each with its cause and what to do. */
@@ -107,7 +109,10 @@ enum testkit_stack {
     TESTKIT_STACK_RECORD_SENT_PLAN = 108,
     TESTKIT_STACK_RECORD_RECEIVED_TPDUS = 456,
     TESTKIT_STACK_RECORD_RETURN_GTPU_DATAGRAM = 1048,
-    TESTKIT_STACK_REPORT = 128
+    TESTKIT_STACK_REPORT = 128,
+    TESTKIT_STACK_REGISTER_SESSION = 157,
+    TESTKIT_STACK_REMOVE_SESSION = 128,
+    TESTKIT_STACK_HANDLE_DATAGRAM = 816
 };
 
 /* ---- Checksum (RFC 1071) ---- */
@@ -403,6 +408,147 @@ struct testkit_report testkit_report(
     uint64_t max_lost_packets,
     uint64_t max_consecutive_lost_packets,
     uint64_t outage_budget_ns);
+
+/* ---- Reflector ----
+ *
+ * A reflector is a table of sessions, lent to each call, with a used count and a maximum, and a state, which goes in by value: the caller
+ * stores the answer's used count or state, on refusals too, and hands it to the next call. The table has at least as many rows as the
+ * maximum, which is 1 to TESTKIT_MAXIMUM_SESSIONS; only used rows count, from the front. Fresh: used 0, all counts 0, next error sequence
+ * 1; what the rows hold does not matter.
+ */
+
+/* A UDP socket address. */
+struct testkit_lent_socket_addr {
+    uint8_t version; /* 4 is IPv4; every other number is taken for IPv6 */
+    uint8_t address[16];
+    uint16_t port;
+};
+
+/* G-PDUs for the local TEID are echoed to the peer's TEID and address. */
+struct testkit_reflector_session {
+    uint32_t local_teid;
+    uint32_t peer_teid;
+    struct testkit_lent_socket_addr peer_addr;
+};
+
+/* 0 and whether the session was added, which it is not where the same record is there; or a refusal's number. Both with the used count. */
+struct testkit_registered {
+    uint8_t number;
+    bool added;
+    size_t used;
+};
+
+/*
+ * Registers a session, in the first row past the used ones.
+ * Refuses by 30, 31, 32, 33, 34.
+ */
+struct testkit_registered testkit_register_session(
+    struct testkit_reflector_session *sessions, size_t sessions_length,
+    size_t used,
+    size_t max_sessions,
+    struct testkit_reflector_session session);
+
+/* 0, whether a session was removed, and that session or zeros; or a refusal's number and zeros. Both with the used count. */
+struct testkit_removed {
+    uint8_t number;
+    bool removed;
+    size_t used;
+    struct testkit_reflector_session session;
+};
+
+/*
+ * Removes the session of a TEID. The last used row is moved into its place; rows past the used ones stay.
+ * Refuses by 30, 31.
+ */
+struct testkit_removed testkit_remove_session(
+    struct testkit_reflector_session *sessions, size_t sessions_length,
+    size_t used,
+    size_t max_sessions,
+    uint32_t local_teid);
+
+/* What is done with G-PDUs of known sessions. Every other number is taken for TESTKIT_POLICY_ROUTE. */
+enum testkit_policy {
+    TESTKIT_POLICY_ECHO = 0,
+    TESTKIT_POLICY_SINK_AND_COUNT = 1,
+    TESTKIT_POLICY_ROUTE = 2
+};
+
+struct testkit_reflector_config {
+    size_t max_sessions;
+    uint8_t recovery_counter;               /* for Echo Responses */
+    uint8_t policy;                         /* enum testkit_policy */
+    struct testkit_lent_socket_addr target; /* where G-PDUs are routed to; under another policy it does not count */
+    uint32_t target_teid;
+};
+
+struct testkit_reflector_state {
+    uint64_t gpdu_received; /* the six counts stay at their top once there */
+    uint64_t gpdu_forwarded;
+    uint64_t gpdu_sunk;
+    uint64_t echo_requests_answered;
+    uint64_t error_indications_sent;
+    uint64_t malformed_rejected;
+    uint16_t next_error_sequence; /* after 65535 comes 1 */
+};
+
+/* A GTP-U message that the caller has parsed, without its payload. */
+struct testkit_gtpu_message {
+    uint8_t message_type;
+    uint32_t teid;
+    uint8_t has_sequence; /* 0: none; every other number: `sequence` */
+    uint16_t sequence;
+};
+
+/* What is to be done with a message, and why. */
+enum testkit_action {
+    TESTKIT_ACTION_REFUSED = 0,
+    TESTKIT_ACTION_NOOP = 1,
+    TESTKIT_ACTION_SEND = 2
+};
+enum testkit_noop_reason {
+    TESTKIT_NOOP_GPDU_SUNK = 1,
+    TESTKIT_NOOP_ECHO_RESPONSE_OBSERVED = 2,
+    TESTKIT_NOOP_ERROR_INDICATION_OBSERVED = 3,
+    TESTKIT_NOOP_END_MARKER_IGNORED = 4,
+    TESTKIT_NOOP_SUPPORTED_EXTENSION_HEADERS_NOTIFICATION_IGNORED = 5
+};
+enum testkit_send_reason {
+    TESTKIT_SEND_REFLECTED_GPDU = 1,
+    TESTKIT_SEND_ROUTED_GPDU = 2,
+    TESTKIT_SEND_ECHO_RESPONSE = 3,
+    TESTKIT_SEND_ERROR_INDICATION = 4
+};
+
+/* The answer to a message, with the state for the next call. Where nothing is sent, `destination` is version 4 and zeros, as is the rest. */
+struct testkit_handled {
+    uint8_t number;
+    uint8_t kind;   /* enum testkit_action */
+    uint8_t reason; /* enum testkit_noop_reason or testkit_send_reason; 0 on a refusal */
+    size_t bytes;   /* the payload to send, at the front of `out`; 0 for a routed G-PDU, which is sent with the payload as it came */
+    struct testkit_lent_socket_addr destination;
+    uint32_t teid; /* what the header of the message to send says */
+    uint8_t message_type;
+    bool has_sequence;
+    uint16_t sequence;
+    struct testkit_reflector_state state;
+};
+
+/*
+ * Handles a GTP-U message from `source`, with its payload after the header. Type 255 of a known TEID is echoed, sunk or routed, of an
+ * unknown one answered by an Error Indication; 1 is answered by an Echo Response; of 2, 26, 31 and 254 nothing comes. `out` gets the payload
+ * to send; it must have TESTKIT_REFLECTOR_BYTES.
+ * Refuses by 30, 31, 15; then type 255 under echo as testkit_decode, where the received count has risen; type 1 by 35, 36 and other types by
+ * 37, where the malformed count has risen.
+ */
+struct testkit_handled testkit_handle_datagram(
+    const struct testkit_reflector_session *sessions, size_t sessions_length,
+    size_t used,
+    struct testkit_reflector_config config,
+    struct testkit_reflector_state state,
+    struct testkit_lent_socket_addr source,
+    struct testkit_gtpu_message message,
+    const uint8_t *payload, size_t payload_length,
+    uint8_t *out, size_t out_length);
 
 #ifdef __cplusplus
 }

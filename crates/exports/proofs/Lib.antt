@@ -1,2 +1,3 @@
 -- The laws of the C interface.
 pub mod Calls
+pub mod Reflector

@@ -1,2 +1,3 @@
 -- How the C interface puts values.
 pub mod Interface
+pub mod Reflector

@@ -1,0 +1,21 @@
+-- `reflector_calls::policy_of` meets its contract.
+-- Assumes nothing.
+use borrow.Author.Tests.{eq-eqb, ne-eqb}
+use Rattle.exports.specs.Reflector.{policyNumbered}
+use Rattle.exports.proofs.reflector_calls.policy_of.Statement.{statement}
+use Rattle.exports.proofs.reflector_calls.policy_of.Tie as tie
+
+returns : tie.Need-returns
+unfolding policyNumbered
+returns c = rw (eq-eqb (c .before .args .policy) 0 (c .if1 .taken), policyNumbered)
+
+returns-2 : tie.Need-returns-2
+unfolding policyNumbered
+returns-2 c = rw (ne-eqb (c .before .before .args .policy) 0 (c .before .if1 .left), eq-eqb (c .before .before .args .policy) 1 (c .if2 .taken), policyNumbered)
+
+returns-3 : tie.Need-returns-3
+unfolding policyNumbered
+returns-3 c = rw (ne-eqb (c .before .before .args .policy) 0 (c .before .if1 .left), ne-eqb (c .before .before .args .policy) 1 (c .if2 .left), policyNumbered)
+
+pub policy-of-spec : {M : Type 1} → statement M
+policy-of-spec = tie.close (tie.spec returns returns-2 returns-3)
