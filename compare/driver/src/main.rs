@@ -8,7 +8,7 @@ use std::env;
 use std::process::ExitCode;
 
 use driver::part::{grouped, Part};
-use driver::{answers, cases, checksum, gtpu, measurement, observer, tally, traffic};
+use driver::{answers, cases, checksum, gtpu, measurement, observer, reflector, tally, traffic};
 
 const USAGE: &str = "usage: compare [--seed N] [--rounds N] [--long]";
 
@@ -100,6 +100,9 @@ fn main() -> ExitCode {
     total.add(observer::runs(seed, rounds));
     total.add(observer::states(seed, rounds));
     total.add(observer::malformed(seed, rounds));
+    total.add(reflector::runs(seed, rounds));
+    total.add(reflector::error_sequences(seed));
+    total.add(reflector::refused(seed, rounds));
     total.add(tally::tallies(seed, rounds));
 
     println!(
