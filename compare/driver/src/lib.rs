@@ -27,6 +27,7 @@ pub mod rust_side;
 pub mod sample;
 pub mod seen;
 pub mod sheets;
+pub mod speed_reflector;
 pub mod speed_traffic;
 pub mod tally;
 pub mod traffic;
