@@ -17,14 +17,18 @@ pub mod observer;
 #[allow(unsafe_code)]
 pub mod ours;
 #[allow(unsafe_code)]
+pub mod ours_reflector;
+#[allow(unsafe_code)]
 pub mod ours_traffic;
 pub mod packet;
 pub mod part;
 pub mod random;
+pub mod reflector;
 pub mod rust_side;
 pub mod sample;
 pub mod seen;
 pub mod sheets;
+pub mod speed_reflector;
 pub mod speed_traffic;
 pub mod tally;
 pub mod traffic;

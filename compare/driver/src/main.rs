@@ -8,7 +8,9 @@ use std::env;
 use std::process::ExitCode;
 
 use driver::part::{grouped, Part};
-use driver::{answers, batch, cases, checksum, gtpu, measurement, observer, tally, traffic};
+use driver::{
+    answers, batch, cases, checksum, gtpu, measurement, observer, reflector, tally, traffic,
+};
 
 const USAGE: &str = "usage: compare [--seed N] [--rounds N] [--long]";
 
@@ -102,6 +104,9 @@ fn main() -> ExitCode {
     total.add(observer::malformed(seed, rounds));
     total.add(batch::batches(seed, rounds));
     total.add(batch::malformed_batches(seed, rounds));
+    total.add(reflector::runs(seed, rounds));
+    total.add(reflector::error_sequences(seed));
+    total.add(reflector::refused(seed, rounds));
     total.add(tally::tallies(seed, rounds));
 
     println!(

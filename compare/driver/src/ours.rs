@@ -1,5 +1,5 @@
 //! Our library, as C has it, and a safe function for each of its calls on checksums and packets.
-//! The unsafe code of the comparison is here and in `ours_traffic.rs`.
+//! The unsafe code of the comparison is here, in `ours_traffic.rs` and in `ours_reflector.rs`.
 
 unsafe extern "C" {
     fn testkit_checksum(bytes: *const u8, length: usize) -> u16;

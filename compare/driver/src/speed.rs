@@ -55,7 +55,8 @@ fn main() {
             |input| echo_tpdu(&input.tpdu),
         );
     }
-    for (name, ours, rust) in driver::speed_traffic::speed() {
+    let traffic = driver::speed_traffic::speed();
+    for (name, ours, rust) in traffic.into_iter().chain(driver::speed_reflector::speed()) {
         println!("| {name} | {ours:.1} | {rust:.1} | {:.2} |", ours / rust);
     }
     println!();

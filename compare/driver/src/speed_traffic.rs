@@ -193,7 +193,10 @@ fn sheet(rows: usize) -> RunSheet {
 }
 
 /// The medians of both, in nanoseconds.
-fn take_turns<A, B>(mut ours: impl FnMut() -> A, mut rust: impl FnMut() -> B) -> (f64, f64) {
+pub(crate) fn take_turns<A, B>(
+    mut ours: impl FnMut() -> A,
+    mut rust: impl FnMut() -> B,
+) -> (f64, f64) {
     let (mut our_times, mut rust_times) = (Vec::new(), Vec::new());
     for round in 0..ROUNDS {
         if round % 2 == 0 {
