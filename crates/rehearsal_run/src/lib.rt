@@ -40,6 +40,8 @@ ghost use lib.ListN.{length};
 struct Progress {
     counts: ObserverCounts,
     state: ReflectorState,
+    // Returns that the run sheet refused.
+    refused: u64,
 }
 
 // Room for the packets of the largest plan.
@@ -81,6 +83,7 @@ fn fresh() -> Progress {
             },
             next_error_sequence: 1,
         },
+        refused: 0,
     }
 }
 
@@ -254,8 +257,14 @@ fn deliver(
         sent_bytes(action, &out),
     );
     let counts = recorded.counts;
-    timeline::note(fates, row(probe), fate(before, recorded));
-    Progress { counts, state }
+    let came_to = fate(before, recorded);
+    timeline::note(fates, row(probe), came_to);
+    let refused = std::num::wrapping_add_u64(run.refused, (came_to == timeline::DAMAGED) as u64);
+    Progress {
+        counts,
+        state,
+        refused,
+    }
 }
 
 // The row of a probe.
@@ -424,8 +433,8 @@ fn print_refusal(number: u8) {
     text::print(b" of the card\n");
 }
 
-// What the reflector counted.
-fn print_reflector(state: ReflectorState) {
+// What the reflector counted, and how many returns the run sheet refused.
+fn print_returns(state: ReflectorState, refused: u64) {
     let stats = state.stats;
     text::print(b"reflector: received ");
     text::print_number(stats.gpdu_received);
@@ -433,6 +442,8 @@ fn print_reflector(state: ReflectorState) {
     text::print_number(stats.gpdu_forwarded);
     text::print(b", error indications ");
     text::print_number(stats.error_indications_sent);
+    text::print(b"; returns refused as damaged ");
+    text::print_number(refused);
     text::print(b"\n");
 }
 
@@ -461,9 +472,9 @@ fn conclude(
     match reported {
         Reported::Refused(number) => print_refusal(number),
         Reported::Given(r) => {
-            verdict::print_plan(s);
+            scenario::print_scenario(s);
             verdict::print_report(r);
-            print_reflector(state);
+            print_returns(state, run.refused);
             timeline::print_line(text::part(fates, 0, s.count as usize));
             verdict::print_verdict(r);
         }
@@ -511,7 +522,11 @@ fn send(s: Scenario, packets: &[u8]) {
         &mut latencies,
         &mut marks,
     );
-    let sent = Progress { counts, state };
+    let sent = Progress {
+        counts,
+        state,
+        refused: 0,
+    };
     go(
         s,
         sent,
@@ -539,54 +554,36 @@ fn rehearse(s: Scenario) {
     }
 }
 
-// One line that says what was wrong and what is accepted.
-fn print_bad_argument(word: &[u8], name: u8, limit: u64) {
-    text::print(b"rehearsal: not accepted: \"");
-    text::print_word(word);
-    text::print(b"\"; accepted: ");
-    scenario::print_accepted(name, limit);
-    text::print(b"\n");
-}
-
-// The argument of a number, taken; refused with its line.
-fn take_argument(s: Scenario, number: usize, limit: u64) -> Taken {
-    let mut space = [0u8; 64];
-    let n = os::arg(number, &mut space);
-    let taken = scenario::take_word(s, &space[..n], limit);
-    match taken {
-        Taken::Refused(name) => print_bad_argument(&space[..n], name, limit),
-        Taken::Accepted(_) => {}
-    }
-    taken
-}
-
-// Every argument, taken into a scenario.
-fn take_arguments(start: Scenario, limit: u64) -> Taken {
-    let count = os::arg_count();
-    let mut s = start;
-    let mut i = 1;
-    while i < count {
-        match take_argument(s, i, limit) {
-            Taken::Refused(name) => return Taken::Refused(name),
-            Taken::Accepted(next) => {
-                s = next;
-            }
-        }
-        i += 1;
-    }
-    Taken::Accepted(s)
-}
-
-// Rehearses what the arguments ask for. They are taken twice, since only after the first time is the count known, past which no window may
-// reach.
-pub fn run() {
-    if os::arg_count() < 2 {
+// Rehearses what the words ask for, each `name=value` with a space after it; without words, the default cutover. They are taken twice, since
+// only after the first time is the count known, past which no window may reach.
+pub fn rehearse_words(words: &[u8]) {
+    if words.len() == 0 {
         rehearse(scenario::default_cutover());
         return;
     }
-    if let Taken::Accepted(first) = take_arguments(scenario::quiet(), scenario::MOST_PROBES) {
-        if let Taken::Accepted(s) = take_arguments(first, first.count) {
+    let taken = scenario::take_words(scenario::quiet(), words, scenario::MOST_PROBES);
+    if let Taken::Accepted(first) = taken {
+        let again = scenario::take_words(first, words, first.count);
+        if let Taken::Accepted(s) = again {
             rehearse(s);
         }
+    }
+}
+
+// Rehearses each line of a text, with the line before it.
+pub fn rehearse_lines(lines: &[u8]) {
+    let mut at = 0;
+    while at < lines.len() {
+        let end = text::find_from(lines, at, b'\n');
+        let words = text::part(lines, at, end - at);
+        text::print(b"$ rehearsal ");
+        text::print_word(words);
+        text::print(b"\n");
+        rehearse_words(words);
+        text::print(b"\n");
+        if lines.len() <= end {
+            break;
+        }
+        at = end + 1;
     }
 }

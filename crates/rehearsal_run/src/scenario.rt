@@ -246,7 +246,7 @@ fn take_number(s: Scenario, name: u8, value: &[u8]) -> Taken {
 }
 
 // Takes a word. No window may reach past the limit.
-pub fn take_word(s: Scenario, word: &[u8], limit: u64) -> Taken {
+fn take_word(s: Scenario, word: &[u8], limit: u64) -> Taken {
     let name = text::before(word, b'=');
     let value = text::after(word, b'=');
     let number = number_name(name);
@@ -260,23 +260,112 @@ pub fn take_word(s: Scenario, word: &[u8], limit: u64) -> Taken {
     Taken::Refused(UNKNOWN)
 }
 
+fn print_window_accepted(name: &[u8]) {
+    text::print(name);
+    text::print(b"=N or ");
+    text::print(name);
+    text::print(
+        b"=A..B, A not above B, probes from 1 to the count (100 unless count= says another)",
+    );
+}
+
+// Every word that is accepted.
+fn print_words() {
+    text::print(
+        b"ip=4|6 rate=N count=N max-lost=N max-run=N max-outage-ms=N latency-us=N latency-after-us=N ",
+    );
+    text::print(b"lose=A..B duplicate=A..B reorder=A..B damage=A..B error-indication=A..B");
+}
+
 // What is accepted under a name.
-pub fn print_accepted(name: u8, limit: u64) {
+fn print_accepted(name: u8) {
     match name {
-        RATE => text::print(b"rate=N, probes per second, N from 1 to 1000000000"),
-        COUNT => text::print(b"count=N, probes, N from 1 to 2048"),
+        RATE => text::print(b"rate=N, probes each second, from 1 to 1000000000"),
+        COUNT => text::print(b"count=N, probes, from 1 to 2048"),
         IP => text::print(b"ip=4 or ip=6"),
-        MAX_LOST => text::print(b"max-lost=N, probes, N from 0 to 2048"),
-        MAX_RUN => text::print(b"max-run=N, probes lost in a row, N from 0 to 2048"),
-        MAX_OUTAGE_MS => text::print(b"max-outage-ms=N, N from 0 to 10000000"),
-        LATENCY_US => text::print(b"latency-us=N, N from 0 to 10000000"),
-        LATENCY_AFTER_US => text::print(b"latency-after-us=N, N from 0 to 10000000"),
-        UNKNOWN => text::print(
-            b"rate= count= ip= max-lost= max-run= max-outage-ms= latency-us= latency-after-us= lose= duplicate= reorder= damage= error-indication=",
-        ),
-        _ => {
-            text::print(b"one probe, N, or a window, A..B with A not above B, of the probes 1 to ");
-            text::print_number(limit);
-        }
+        MAX_LOST => text::print(b"max-lost=N, probes, from 0 to 2048"),
+        MAX_RUN => text::print(b"max-run=N, probes lost in a row, from 0 to 2048"),
+        MAX_OUTAGE_MS => text::print(b"max-outage-ms=N, milliseconds, from 0 to 10000000"),
+        LATENCY_US => text::print(b"latency-us=N, microseconds, from 0 to 10000000"),
+        LATENCY_AFTER_US => text::print(b"latency-after-us=N, microseconds, from 0 to 10000000"),
+        LOSE => print_window_accepted(b"lose"),
+        DUPLICATE => print_window_accepted(b"duplicate"),
+        REORDER => print_window_accepted(b"reorder"),
+        DAMAGE => print_window_accepted(b"damage"),
+        ERROR_INDICATION => print_window_accepted(b"error-indication"),
+        _ => print_words(),
     }
+}
+
+// One line that says what was wrong and what is accepted.
+fn print_bad_word(word: &[u8], name: u8) {
+    text::print(b"rehearsal: not accepted: \"");
+    text::print_word(word);
+    text::print(b"\"; accepted: ");
+    print_accepted(name);
+    text::print(b"\n");
+}
+
+// Takes a word, or says why not. A word of no bytes says nothing.
+fn take_or_say(s: Scenario, word: &[u8], limit: u64) -> Taken {
+    if word.len() == 0 {
+        return Taken::Accepted(s);
+    }
+    let taken = take_word(s, word, limit);
+    match taken {
+        Taken::Refused(name) => print_bad_word(word, name),
+        Taken::Accepted(_) => {}
+    }
+    taken
+}
+
+// Takes every word. A space ends each; the first that is not accepted ends it all.
+pub fn take_words(start: Scenario, words: &[u8], limit: u64) -> Taken {
+    let mut s = start;
+    let mut at = 0;
+    while at < words.len() {
+        let end = text::find_from(words, at, b' ');
+        match take_or_say(s, text::part(words, at, end - at), limit) {
+            Taken::Refused(name) => return Taken::Refused(name),
+            Taken::Accepted(more) => {
+                s = more;
+            }
+        }
+        if words.len() <= end {
+            break;
+        }
+        at = end + 1;
+    }
+    Taken::Accepted(s)
+}
+
+// A window, where there is one.
+fn print_window(name: &[u8], w: Window) {
+    if w.first == 0 {
+        return;
+    }
+    text::print(name);
+    text::print_number(w.first);
+    text::print(b"..");
+    text::print_number(w.last);
+}
+
+// The scenario: the plan, and what the path does.
+pub fn print_scenario(s: Scenario) {
+    text::print(b"plan:      IPv");
+    text::print_number(s.ip as u64);
+    text::print(b", count ");
+    text::print_number(s.count);
+    text::print(b", rate ");
+    text::print_number(s.rate);
+    text::print(b" each second\npath:      there and back ");
+    text::print_milliseconds(s.latency_ns);
+    text::print(b", after the loss ");
+    text::print_milliseconds(s.latency_after_ns);
+    print_window(b", lose ", s.lose);
+    print_window(b", duplicate ", s.duplicate);
+    print_window(b", reorder ", s.reorder);
+    print_window(b", damage ", s.damage);
+    print_window(b", error indication ", s.error_indication);
+    text::print(b"\n");
 }

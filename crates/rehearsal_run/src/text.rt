@@ -1,5 +1,7 @@
 // Text: words that are read, and numbers that are printed.
 ghost use mathlib.Core.Path.{_≡_};
+ghost use Prim.Native.Nat.{_≤_};
+ghost use lib.ListN.{length};
 
 // What stands for a number where a word has none: every argument's limit is below it.
 pub const NO_NUMBER: u64 = 18_446_744_073_709_551_615;
@@ -17,9 +19,12 @@ pub fn part(s: &[u8], at: usize, n: usize) -> &[u8] {
     &s[..0]
 }
 
-// Where a byte stands first, or the length.
-pub fn find(s: &[u8], byte: u8) -> usize {
-    let mut i = 0;
+// Where a byte stands first from a place on, or the length.
+pub fn find_from(s: &[u8], at: usize, byte: u8) -> usize
+    requires { ⌜ at ≤ length (now s) ⌝ }
+    ensures { λ r. ⌜ (at ≤ r) × (r ≤ length (now (s .entry))) ⌝ }
+{
+    let mut i = at;
     while i < s.len() {
         if s[i] == byte {
             return i;
@@ -27,6 +32,11 @@ pub fn find(s: &[u8], byte: u8) -> usize {
         i += 1;
     }
     i
+}
+
+// Where a byte stands first, or the length.
+pub fn find(s: &[u8], byte: u8) -> usize {
+    find_from(s, 0, byte)
 }
 
 // What stands before it: all, where it is not there.

@@ -1,17 +1,17 @@
--- `rehearsal_run::text::find` gives a place in the slice, or its length. Assumes nothing.
+-- `rehearsal_run::text::find_from` gives a place from `at` on, or the length. Assumes nothing.
 use Prim.Native.Nat.{_≤_, _-_}
 use mathlib.Core.Path.{_≡_}
 use lib.ListN.{length}
 use borrow.Author.Needs.{needs}
-use Rattle.rehearsal_run.proofs.text.find.Statement.{statement}
-use Rattle.rehearsal_run.proofs.text.find.Tie as tie
+use Rattle.rehearsal_run.proofs.text.find_from.Statement.{statement}
+use Rattle.rehearsal_run.proofs.text.find_from.Tie as tie
 
 abbrev Inv-loop : tie.InvT-loop
-Inv-loop s byte i₀ i =
-    i ≤ length s
+Inv-loop s at byte i₀ i =
+    (at ≤ i) × (i ≤ length s)
 
 abbrev μ-loop : tie.MeasureT-loop
-μ-loop s byte i₀ i =
+μ-loop s at byte i₀ i =
     length s - i
 
 loop-holds : tie.Need-loop-holds Inv-loop μ-loop
@@ -35,8 +35,8 @@ loop-again c = search needs
 returns-2 : tie.Need-returns-2 Inv-loop μ-loop
 returns-2 c = search needs
 
-pub find-spec : {M : Type 1} → statement M
-find-spec =
+pub find-from-spec : {M : Type 1} → statement M
+find-from-spec =
     tie.close
     (tie.spec
     Inv-loop
