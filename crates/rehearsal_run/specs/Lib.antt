@@ -1,0 +1,2 @@
+-- The verdict on a run.
+pub mod Verdict

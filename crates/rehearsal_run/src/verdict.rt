@@ -1,0 +1,138 @@
+// The report in lines, the last of them the verdict.
+use crate::text;
+use evidence::Latency;
+use evidence::LatencySummary;
+use evidence::PacketContinuityBudget;
+use evidence::PacketContinuityReport;
+ghost use mathlib.Core.Path.{_≡_};
+ghost use Rattle.rehearsal_run.specs.Verdict.{verdictOf};
+
+// A name and its number.
+fn print_count(name: &[u8], n: u64) {
+    text::print(name);
+    text::print_number(n);
+}
+
+fn print_summary(latency: LatencySummary) {
+    text::print(b"least ");
+    text::print_milliseconds(latency.min_ns);
+    text::print(b", mean ");
+    text::print_milliseconds(latency.avg_ns);
+    text::print(b", greatest ");
+    text::print_milliseconds(latency.max_ns);
+}
+
+fn print_latency(latency: Latency) {
+    text::print(b"latency:   ");
+    match latency {
+        Latency::Absent => text::print(b"none, nothing returned"),
+        Latency::Summary(summary) => print_summary(summary),
+    }
+    text::print(b"\n");
+}
+
+fn print_budget(budget: PacketContinuityBudget) {
+    print_count(b"budget:    lost ", budget.max_lost_packets);
+    print_count(b", in a row ", budget.max_consecutive_lost_packets);
+    text::print(b", outage ");
+    text::print_milliseconds(budget.outage_budget_ns);
+    text::print(b"\n");
+}
+
+// The numbers, all of them.
+pub fn print_report(r: PacketContinuityReport) {
+    let budget = r.budget;
+    let latency = r.latency;
+    print_budget(budget);
+    print_count(b"probes:    sent ", r.sent_packets);
+    print_count(b", returned ", r.received_packets);
+    print_count(b", lost ", r.lost_packets);
+    print_count(b", duplicates ", r.duplicate_packets);
+    print_count(b", out of order ", r.out_of_order_packets);
+    print_count(b", error indications ", r.gtpu_error_indications);
+    text::print(b"\noutage:    longest ");
+    text::print_milliseconds(r.max_gap_duration_ns);
+    print_count(b", most lost in a row ", r.max_consecutive_lost_packets);
+    text::print(b"\n");
+    print_latency(latency);
+}
+
+// What a report comes to, and why.
+pub enum Verdict {
+    Pass,
+    NothingReturned,
+    TooManyLost,
+    TooManyInARow,
+    OutageTooLong,
+    ErrorIndicated,
+}
+
+// A run passes where something returned and the budget was kept; else the first reason, in the order of the budget.
+fn judge(r: PacketContinuityReport) -> Verdict
+    ensures { λ v. ⌜ v ≡ verdictOf r ⌝ }
+{
+    let budget = r.budget;
+    if !r.forwarding_proven {
+        return Verdict::NothingReturned;
+    }
+    if r.packet_continuity_proven {
+        return Verdict::Pass;
+    }
+    if budget.max_lost_packets < r.lost_packets {
+        return Verdict::TooManyLost;
+    }
+    if budget.max_consecutive_lost_packets < r.max_consecutive_lost_packets {
+        return Verdict::TooManyInARow;
+    }
+    if budget.outage_budget_ns < r.max_gap_duration_ns {
+        return Verdict::OutageTooLong;
+    }
+    Verdict::ErrorIndicated
+}
+
+// A number of probes against what is allowed.
+fn print_too_many(n: u64, what: &[u8], most: u64) {
+    text::print_number(n);
+    text::print(what);
+    print_count(b", at most ", most);
+    text::print(b" allowed");
+}
+
+fn print_outage(ns: u64, most: u64) {
+    text::print(b"an outage of ");
+    text::print_milliseconds(ns);
+    text::print(b", at most ");
+    text::print_milliseconds(most);
+    text::print(b" allowed");
+}
+
+// The one line that a crew reads.
+pub fn print_verdict(r: PacketContinuityReport) {
+    let budget = r.budget;
+    text::print(b"VERDICT: ");
+    match judge(r) {
+        Verdict::Pass => text::print(b"PASS - the cutover kept to its budget"),
+        Verdict::NothingReturned => text::print(b"FAIL - nothing came back"),
+        Verdict::TooManyLost => {
+            text::print(b"FAIL - ");
+            print_too_many(r.lost_packets, b" lost", budget.max_lost_packets);
+        }
+        Verdict::TooManyInARow => {
+            text::print(b"FAIL - ");
+            print_too_many(
+                r.max_consecutive_lost_packets,
+                b" lost in a row",
+                budget.max_consecutive_lost_packets,
+            );
+        }
+        Verdict::OutageTooLong => {
+            text::print(b"FAIL - ");
+            print_outage(r.max_gap_duration_ns, budget.outage_budget_ns);
+        }
+        Verdict::ErrorIndicated => {
+            print_count(b"FAIL - error indications ", r.gtpu_error_indications);
+            text::print(b", none allowed");
+        }
+    }
+    text::print(b"\n");
+}
