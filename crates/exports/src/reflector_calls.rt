@@ -3,7 +3,6 @@
 use reflector_answer::GtpuMessage;
 use reflector_answer::Handled;
 use reflector_answer::MultiSessionReflectorConfig;
-use reflector_answer::OutboundMessage;
 use reflector_answer::ReflectorAction;
 use reflector_answer::ReflectorNoopReason;
 use reflector_answer::ReflectorPolicy;
