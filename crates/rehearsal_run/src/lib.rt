@@ -1,6 +1,6 @@
 // A rehearsal of a cutover in memory: a plan's probes go through the reflector and back over a path that does what the scenario says, and
 // the report on what came back is printed. The program crates over it hand it their arguments and nothing else. Thin: packets, echoes,
-// the run sheet and the report are the proved calls'; what is proved here is that it is safe and ends.
+// the run sheet and the report are the proved calls'; what is proved here is that it is safe and ends, and what the verdict is.
 mod path;
 mod scenario;
 mod text;
@@ -33,7 +33,6 @@ use scenario::Scenario;
 use scenario::Taken;
 use traffic::TrafficPlan;
 ghost use mathlib.Core.Path.{_≡_};
-ghost use Prim.Native.Nat.{_≤_};
 ghost use lib.ListN.{length};
 
 // What changes from return to return, beside the columns.
@@ -156,7 +155,7 @@ fn config(ip: u8) -> MultiSessionReflectorConfig {
     }
 }
 
-// The reflector on a packet. A probe that is to meet an Error Indication comes under a TEID that no session has.
+// The reflector on a packet, and what the way back does to its answer. A probe that is to meet an Error Indication comes under a TEID that no session has.
 fn reflect(
     s: Scenario,
     probe: u64,
@@ -178,7 +177,7 @@ fn reflect(
         teid,
         sequence_number: SequenceNumber::Absent,
     };
-    reflector_answer::handle_found(
+    let handled = reflector_answer::handle_found(
         1,
         1,
         config(ip),
@@ -188,7 +187,11 @@ fn reflect(
         message,
         packet,
         out,
-    )
+    );
+    if path::inside(s.damage, probe) {
+        path::damage(out);
+    }
+    handled
 }
 
 // What a return came to, by the answer and by the counter that rose.
@@ -225,12 +228,24 @@ fn sent_bytes(action: ReflectorAction, out: &[u8; 72]) -> &[u8] {
     text::part(out, 0, sent_length(action))
 }
 
+// What stands after a return.
+fn progressed(run: Progress, handled: Handled, recorded: MessageRecorded, came_to: u8) -> Progress {
+    let counts = recorded.counts;
+    let state = handled.state;
+    let damaged = (came_to == timeline::DAMAGED) as u64;
+    Progress {
+        counts,
+        state,
+        refused: std::num::wrapping_add_u64(run.refused, damaged),
+    }
+}
+
 // A probe reaches the reflector, and what it sends comes back and is recorded.
 fn deliver(
     s: Scenario,
     probe: u64,
     run: Progress,
-    packet: &[u8],
+    packets: &[u8],
     sequences: &[u64],
     send_timestamps: &[u64],
     latencies: &mut [u64],
@@ -239,13 +254,10 @@ fn deliver(
 ) -> Progress {
     let mut out = [0u8; 72];
     let before = run.counts;
+    let packet = packet_of(s, packets, probe);
     let handled = reflect(s, probe, run.state, packet, &mut out);
     let action = handled.action;
     let message = handled.message;
-    let state = handled.state;
-    if path::inside(s.damage, probe) {
-        path::damage(&mut out);
-    }
     let recorded = continuity::record_return_gtpu_datagram(
         sequences,
         send_timestamps,
@@ -256,15 +268,9 @@ fn deliver(
         message.message_type,
         sent_bytes(action, &out),
     );
-    let counts = recorded.counts;
     let came_to = fate(before, recorded);
     timeline::note(fates, row(probe), came_to);
-    let refused = std::num::wrapping_add_u64(run.refused, (came_to == timeline::DAMAGED) as u64);
-    Progress {
-        counts,
-        state,
-        refused,
-    }
+    progressed(run, handled, recorded, came_to)
 }
 
 // The row of a probe.
@@ -302,12 +308,11 @@ fn travel(
     if path::inside(s.lose, probe) {
         return run;
     }
-    let packet = packet_of(s, packets, probe);
     let once = deliver(
         s,
         probe,
         run,
-        packet,
+        packets,
         sequences,
         send_timestamps,
         latencies,
@@ -321,7 +326,7 @@ fn travel(
         s,
         probe,
         once,
-        packet,
+        packets,
         sequences,
         send_timestamps,
         latencies,

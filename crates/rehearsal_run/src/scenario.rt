@@ -1,6 +1,5 @@
 // A plan, a budget and what the path does: read from words, each `name=value`.
 use crate::text;
-ghost use mathlib.Core.Path.{_≡_};
 ghost use Prim.Native.Nat.{_≤_};
 
 // The probes from one number to another, both included. Probes are numbered from 1: 0 to 0 is none.
