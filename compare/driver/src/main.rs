@@ -1,5 +1,5 @@
-//! `compare [--seed N] [--rounds N] [--long]`: runs every part of the comparison, prints a line for each
-//! and a last one of totals.
+//! `compare [--seed N] [--rounds N] [--skip N] [--long]`: runs every part of the comparison, or all
+//! but the first N, prints a line for each and a last one of totals.
 //!
 //! Exit status: 0 if both sides agree; 1 if they differ, or a part had nothing to compare;
 //! 2 if an argument is bad.
@@ -12,7 +12,7 @@ use driver::{
     answers, batch, cases, checksum, gtpu, measurement, observer, reflector, tally, traffic,
 };
 
-const USAGE: &str = "usage: compare [--seed N] [--rounds N] [--long]";
+const USAGE: &str = "usage: compare [--seed N] [--rounds N] [--skip N] [--long]";
 
 /// What the command line may choose.
 struct Options {
@@ -20,6 +20,8 @@ struct Options {
     seed: u64,
     /// How many random inputs a part draws.
     rounds: u64,
+    /// How many parts to leave out, from the first on.
+    skip: u64,
     /// Whether to damage all packets that there are for it, and not only the first.
     long: bool,
 }
@@ -29,12 +31,14 @@ impl Options {
         let mut options = Options {
             seed: 1071,
             rounds: 20_000,
+            skip: 0,
             long: false,
         };
         while let Some(word) = words.next() {
             let option = match word.as_str() {
                 "--seed" => &mut options.seed,
                 "--rounds" => &mut options.rounds,
+                "--skip" => &mut options.skip,
                 "--long" => {
                     options.long = true;
                     continue;
@@ -53,6 +57,8 @@ impl Options {
 /// The sum of the parts so far.
 #[derive(Default)]
 struct Total {
+    /// How many parts are still to be left out.
+    skip: u64,
     parts: u64,
     cases: u64,
     differences: u64,
@@ -60,7 +66,12 @@ struct Total {
 }
 
 impl Total {
-    fn add(&mut self, part: Part) {
+    fn add(&mut self, part: impl FnOnce() -> Part) {
+        if self.skip > 0 {
+            self.skip -= 1;
+            return;
+        }
+        let part = part();
         println!("{part}");
         self.parts += 1;
         self.cases += part.cases();
@@ -70,7 +81,12 @@ impl Total {
 }
 
 fn main() -> ExitCode {
-    let Options { seed, rounds, long } = match Options::parse(env::args().skip(1)) {
+    let Options {
+        seed,
+        rounds,
+        skip,
+        long,
+    } = match Options::parse(env::args().skip(1)) {
         Ok(options) => options,
         Err(message) => {
             eprintln!("compare: {message}; {USAGE}");
@@ -78,36 +94,39 @@ fn main() -> ExitCode {
         }
     };
 
-    let mut total = Total::default();
-    total.add(cases::worked_cases());
-    total.add(answers::refusals());
-    total.add(answers::actions());
-    total.add(checksum::short_lists());
-    total.add(checksum::starts());
-    total.add(checksum::random_lists(seed, rounds));
-    total.add(checksum::sums_in_parts(seed, rounds));
-    total.add(checksum::damaged_header());
-    total.add(checksum::damaged_lists(seed, rounds));
-    total.add(checksum::equal_bits_turned(seed, rounds));
-    total.add(checksum::long_lists(seed));
-    total.add(measurement::building(seed, rounds));
-    total.add(measurement::reading(seed, rounds));
-    total.add(measurement::echoing(seed, rounds));
-    total.add(measurement::echoing_twice(seed, rounds));
-    total.add(measurement::damaged_packets(if long { 5 } else { 2 }));
-    total.add(measurement::damaged_random_packets(seed, rounds));
-    total.add(traffic::generating(seed, rounds));
-    total.add(gtpu::elements(seed, rounds));
-    total.add(gtpu::deep_lists());
-    total.add(observer::runs(seed, rounds));
-    total.add(observer::states(seed, rounds));
-    total.add(observer::malformed(seed, rounds));
-    total.add(batch::batches(seed, rounds));
-    total.add(batch::malformed_batches(seed, rounds));
-    total.add(reflector::runs(seed, rounds));
-    total.add(reflector::error_sequences(seed));
-    total.add(reflector::refused(seed, rounds));
-    total.add(tally::tallies(seed, rounds));
+    let mut total = Total {
+        skip,
+        ..Total::default()
+    };
+    total.add(cases::worked_cases);
+    total.add(answers::refusals);
+    total.add(answers::actions);
+    total.add(checksum::short_lists);
+    total.add(checksum::starts);
+    total.add(|| checksum::random_lists(seed, rounds));
+    total.add(|| checksum::sums_in_parts(seed, rounds));
+    total.add(checksum::damaged_header);
+    total.add(|| checksum::damaged_lists(seed, rounds));
+    total.add(|| checksum::equal_bits_turned(seed, rounds));
+    total.add(|| checksum::long_lists(seed));
+    total.add(|| measurement::building(seed, rounds));
+    total.add(|| measurement::reading(seed, rounds));
+    total.add(|| measurement::echoing(seed, rounds));
+    total.add(|| measurement::echoing_twice(seed, rounds));
+    total.add(|| measurement::damaged_packets(if long { 5 } else { 2 }));
+    total.add(|| measurement::damaged_random_packets(seed, rounds));
+    total.add(|| traffic::generating(seed, rounds));
+    total.add(|| gtpu::elements(seed, rounds));
+    total.add(gtpu::deep_lists);
+    total.add(|| observer::runs(seed, rounds));
+    total.add(|| observer::states(seed, rounds));
+    total.add(|| observer::malformed(seed, rounds));
+    total.add(|| batch::batches(seed, rounds));
+    total.add(|| batch::malformed_batches(seed, rounds));
+    total.add(|| reflector::runs(seed, rounds));
+    total.add(|| reflector::error_sequences(seed));
+    total.add(|| reflector::refused(seed, rounds));
+    total.add(|| tally::tallies(seed, rounds));
 
     println!(
         "total: {} parts, {} failed; {} cases, {} differences (seed {seed}, rounds {rounds})",
