@@ -2,7 +2,7 @@
 //! returns. The Rust has no batch calls.
 
 use crate::observer::{
-    any_call, any_contents, any_rows, spoil, time_near, Call, Pair, SHEET_MALFORMED,
+    any_call, any_contents, any_rows, malformed_sheet, time_near, Call, Pair, SHEET_MALFORMED,
 };
 use crate::ours_traffic::RunSheet;
 use crate::part::Part;
@@ -10,7 +10,7 @@ use crate::random::Random;
 use crate::rust_side::measurement::decode;
 use crate::rust_side::traffic::Sheet;
 use crate::seen::Seen;
-use crate::sheets::{difference, fresh, holding, MOST_ROWS};
+use crate::sheets::{difference, fresh};
 
 /// A plan: its first sequence and time, its interval and how many packets.
 type Plan = (u64, u64, u64, u64);
@@ -40,13 +40,8 @@ pub fn malformed_batches(seed: u64, rounds: u64) -> Part {
     let mut part = Part::new("run sheet, malformed, batches", "batch calls");
     let mut random = Random::new(seed);
     for round in 0..rounds / 10 {
-        let rows = match round % 128 {
-            0..4 => MOST_ROWS,
-            _ => 2 + random.length(30),
-        };
-        let contents = any_contents(&mut random, rows);
-        let mut sheet = holding(&fresh(&mut random, rows), &contents);
-        spoil(&mut random, &mut sheet, round % 4);
+        let (contents, sheet) = malformed_sheet(&mut random, round);
+        let rows = contents.rows.len();
 
         let plan = any_plan(&mut random, 0, rows);
         let mut ours = sheet.clone();

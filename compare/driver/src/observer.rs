@@ -91,18 +91,26 @@ fn due() -> impl Iterator<Item = u8> {
     (0..=14).chain([SHEET_FULL]).chain(23..=29).chain([37])
 }
 
+/// A sheet that was spoiled in one of four ways, and what it held before; every 128th time of each way
+/// it has 2,048 rows.
+pub(crate) fn malformed_sheet(random: &mut Random, round: u64) -> (Sheet, RunSheet) {
+    let rows = match round % 128 {
+        0..4 => MOST_ROWS,
+        _ => 2 + random.length(30),
+    };
+    let contents = any_contents(random, rows);
+    let mut sheet = holding(&fresh(random, rows), &contents);
+    spoil(random, &mut sheet, round % 4);
+    (contents, sheet)
+}
+
 /// Malformed sheets: every call refuses by 21 and leaves all, before it looks at anything else.
 pub fn malformed(seed: u64, rounds: u64) -> Part {
     let mut part = Part::new("run sheet, malformed", "calls and reports");
     let mut random = Random::new(seed);
     for round in 0..rounds / 10 {
-        let rows = match round % 128 {
-            0..4 => MOST_ROWS,
-            _ => 2 + random.length(30),
-        };
-        let contents = any_contents(&mut random, rows);
-        let mut sheet = holding(&fresh(&mut random, rows), &contents);
-        spoil(&mut random, &mut sheet, round % 4);
+        let (contents, sheet) = malformed_sheet(&mut random, round);
+        let rows = contents.rows.len();
 
         let mut calls: Vec<Call> = (0..8)
             .map(|_| any_call(&mut random, &contents.rows, 0, rows))
@@ -476,7 +484,7 @@ pub(crate) fn any_contents(random: &mut Random, rows: usize) -> Sheet {
 }
 
 /// Makes a full sheet of at least two rows malformed, in one of the four ways.
-pub(crate) fn spoil(random: &mut Random, sheet: &mut RunSheet, way: u64) {
+fn spoil(random: &mut Random, sheet: &mut RunSheet, way: u64) {
     let used = sheet.counts.used;
     let at = random.below(used - 1);
     match way {
