@@ -20,7 +20,7 @@ pub fn part(s: &[u8], at: usize, n: usize) -> &[u8] {
 }
 
 // Where a byte stands first from a place on, or the length.
-pub fn find_from(s: &[u8], at: usize, byte: u8) -> usize
+pub(crate) fn find_from(s: &[u8], at: usize, byte: u8) -> usize
     requires { ⌜ at ≤ length (now s) ⌝ }
     ensures { λ r. ⌜ (at ≤ r) × (r ≤ length (now (s .entry))) ⌝ }
 {
