@@ -1,11 +1,11 @@
 // A rehearsal of a cutover in memory: a plan's probes go through the reflector and back over a path that does what the scenario says, and
 // the report on what came back is printed. The program crates over it hand it their arguments and nothing else. Thin: packets, echoes,
-// the run sheet and the report are the proved calls'; what is proved here is that it is safe and ends, and what the verdict is.
+// the run sheet and the report are the proved calls'; what is proved here is that it is safe and ends.
+mod lines;
 mod path;
 mod scenario;
 mod text;
 mod timeline;
-mod verdict;
 
 use continuity::GtpuReturnDatagramOutcome;
 use continuity::MessageRecorded;
@@ -478,10 +478,10 @@ fn conclude(
         Reported::Refused(number) => print_refusal(number),
         Reported::Given(r) => {
             scenario::print_scenario(s);
-            verdict::print_report(r);
+            lines::print_report(r);
             print_returns(state, run.refused);
             timeline::print_line(text::part(fates, 0, s.count as usize));
-            verdict::print_verdict(r);
+            lines::print_verdict(r);
         }
     }
 }

@@ -4,8 +4,7 @@ use evidence::Latency;
 use evidence::LatencySummary;
 use evidence::PacketContinuityBudget;
 use evidence::PacketContinuityReport;
-ghost use mathlib.Core.Path.{_≡_};
-ghost use Rattle.rehearsal_run.specs.Verdict.{verdictOf};
+use rehearsal_verdict::Verdict;
 
 // A name and its number.
 fn print_count(name: &[u8], n: u64) {
@@ -57,82 +56,37 @@ pub fn print_report(r: PacketContinuityReport) {
     print_latency(latency);
 }
 
-// What a report comes to, and why.
-pub enum Verdict {
-    Pass,
-    NothingReturned,
-    TooManyLost,
-    TooManyInARow,
-    OutageTooLong,
-    ErrorIndicated,
-}
-
-// A run passes where something returned and the budget was kept; else the first reason, in the order of the budget.
-fn judge(r: PacketContinuityReport) -> Verdict
-    ensures { λ v. ⌜ v ≡ verdictOf r ⌝ }
-{
-    let budget = r.budget;
-    if !r.forwarding_proven {
-        return Verdict::NothingReturned;
-    }
-    if r.packet_continuity_proven {
-        return Verdict::Pass;
-    }
-    if budget.max_lost_packets < r.lost_packets {
-        return Verdict::TooManyLost;
-    }
-    if budget.max_consecutive_lost_packets < r.max_consecutive_lost_packets {
-        return Verdict::TooManyInARow;
-    }
-    if budget.outage_budget_ns < r.max_gap_duration_ns {
-        return Verdict::OutageTooLong;
-    }
-    Verdict::ErrorIndicated
-}
-
 // A number of probes against what is allowed.
 fn print_too_many(n: u64, what: &[u8], most: u64) {
-    text::print_number(n);
+    print_count(b"FAIL - ", n);
     text::print(what);
     print_count(b", at most ", most);
     text::print(b" allowed");
 }
 
 fn print_outage(ns: u64, most: u64) {
-    text::print(b"an outage of ");
+    text::print(b"FAIL - an outage of ");
     text::print_milliseconds(ns);
     text::print(b", at most ");
     text::print_milliseconds(most);
     text::print(b" allowed");
 }
 
-// The one line that a crew reads.
+fn print_indications(n: u64) {
+    print_count(b"FAIL - error indications ", n);
+    text::print(b", none allowed");
+}
+
+// The one line that a crew reads: each number in it is the verdict's.
 pub fn print_verdict(r: PacketContinuityReport) {
-    let budget = r.budget;
     text::print(b"VERDICT: ");
-    match judge(r) {
+    match rehearsal_verdict::judge(r) {
         Verdict::Pass => text::print(b"PASS - the cutover kept to its budget"),
         Verdict::NothingReturned => text::print(b"FAIL - nothing came back"),
-        Verdict::TooManyLost => {
-            text::print(b"FAIL - ");
-            print_too_many(r.lost_packets, b" lost", budget.max_lost_packets);
-        }
-        Verdict::TooManyInARow => {
-            text::print(b"FAIL - ");
-            print_too_many(
-                r.max_consecutive_lost_packets,
-                b" lost in a row",
-                budget.max_consecutive_lost_packets,
-            );
-        }
-        Verdict::OutageTooLong => {
-            text::print(b"FAIL - ");
-            print_outage(r.max_gap_duration_ns, budget.outage_budget_ns);
-        }
-        Verdict::ErrorIndicated => {
-            print_count(b"FAIL - error indications ", r.gtpu_error_indications);
-            text::print(b", none allowed");
-        }
+        Verdict::TooManyLost(n, most) => print_too_many(n, b" lost", most),
+        Verdict::TooManyInARow(n, most) => print_too_many(n, b" lost in a row", most),
+        Verdict::OutageTooLong(ns, most) => print_outage(ns, most),
+        Verdict::ErrorIndicated(n) => print_indications(n),
     }
     text::print(b"\n");
 }

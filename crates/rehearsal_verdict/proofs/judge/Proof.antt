@@ -1,11 +1,11 @@
--- `rehearsal_run::verdict::judge` meets its contract: its tests are those of the definition, in their order. Assumes nothing.
+-- `rehearsal_verdict::judge` meets its contract: its tests are those of the definition, in their order. Assumes nothing.
 use mathlib.Core.Path.{_≡_, refl}
 use mathlib.Core.Bool.{Bool, true, false}
 use borrow.Author.Tests.{lt-ltb, le-ltb}
-use Rattle.rehearsal_run.specs.Verdict.{either, verdictOf}
-use Rattle.rehearsal_run.specs.declared.verdict.Verdict.{Verdict}
-use Rattle.rehearsal_run.proofs.verdict.judge.Statement.{statement}
-use Rattle.rehearsal_run.proofs.verdict.judge.Tie as tie
+use Rattle.rehearsal_verdict.specs.Verdict.{either, verdictOf}
+use Rattle.rehearsal_verdict.specs.declared.Verdict.{Verdict}
+use Rattle.rehearsal_verdict.proofs.judge.Statement.{statement}
+use Rattle.rehearsal_verdict.proofs.judge.Tie as tie
 
 -- the test holds, and the verdict is the first
 here : (test : Bool) (first second : Verdict) → test ≡ true → first ≡ either test first second
