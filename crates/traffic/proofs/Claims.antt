@@ -95,17 +95,17 @@ packets-ordered plan next packets e =
 
 -- what a success is
 module _ (flow : InnerIpFlow) (plan : TrafficPlan) (next : ℕ) (buffer : List ℕ) where
-  abbrev bytes : List ℕ
+  abbrev pub bytes : List ℕ
   bytes = endToEnd flow (packetsOf plan next)
 
-  record Success (n : ℕ) : Type 0 where
-    acceptable : Acceptable plan next
-    judged : judgePlan plan next ≡ accepted plan next
-    room : length bytes ≤ length buffer
-    number : n ≡ length bytes
-    is : generateOf flow plan next buffer ≡ record { outcome = gives (length bytes); next = next + plan .«packet_count»; buffer = bytes ++ drop (length bytes) buffer }
+  pub record Success (n : ℕ) : Type 0 where
+    pub acceptable : Acceptable plan next
+    pub judged : judgePlan plan next ≡ accepted plan next
+    pub room : length bytes ≤ length buffer
+    pub number : n ≡ length bytes
+    pub is : generateOf flow plan next buffer ≡ record { outcome = gives (length bytes); next = next + plan .«packet_count»; buffer = bytes ++ drop (length bytes) buffer }
 
-  success : (n : ℕ) → generateOf flow plan next buffer .outcome ≡ gives n → Success n
+  pub success : (n : ℕ) → generateOf flow plan next buffer .outcome ≡ gives n → Success n
   success n e = judged-as (judgePlan plan next .outcome) refl
     where
       placed-as : Acceptable plan next → judgePlan plan next ≡ accepted plan next → (b : Bool) → ltb (length buffer) (length bytes) ≡ b → Success n
@@ -143,13 +143,13 @@ room-decides flow plan next buffer j =
       (λ h. sym (ap (λ (x : Generating). x .outcome) (placing-fits b next (next + plan .«packet_count») buffer (omega arith) ∙ g)) ∙ ap gives l),
     )
 
--- the packet at its place
+-- the packet at its place: packet i is the one at place k of the packets from j on
 module _ (flow : InnerIpFlow) (plan : TrafficPlan) (next : ℕ) where
-  record Standing (l : List ℕ) (k : ℕ) : Type 0 where
-    others : List ℕ
-    is : l ≡ buildOf flow (next + k) (timeAt plan k) ++ others
+  pub record Standing (l : List ℕ) (k : ℕ) : Type 0 where
+    pub others : List ℕ
+    pub is : l ≡ buildOf flow (next + k) (timeAt plan k) ++ others
 
-  standing : (n j k i : ℕ) (behind : List ℕ) → k < n → i ≡ j + k → Standing (drop (k * size flow) (endToEnd flow (packetsFrom plan next n j) ++ behind)) i
+  pub standing : (n j k i : ℕ) (behind : List ℕ) → k < n → i ≡ j + k → Standing (drop (k * size flow) (endToEnd flow (packetsFrom plan next n j) ++ behind)) i
   unfolding packetsFrom endToEnd
   standing zero j k i behind h e = absurd (omega arith)
   standing (suc n) j zero i behind h e =
