@@ -29,7 +29,7 @@ use denote.Laws.{Is, shows}
 use denote.Memory.{shares}
 use denote.Plain.{uint-vals, uint-tells, uint-makes}
 use denote.Builtin.{u8, usize, ArrayOf}
-use denote.Array.{Array, array-vals, array-tells, array-lawful}
+use denote.Array.{Array, array-vals, array-tells}
 use denote.Ref.{RefT}
 use denote.Slice.{sliceVal, ShrSlice, MutSlice, Room, finally, slice-vals, shr-slice-tells, mut-slice-tells}
 use denote.Signature.{Slot, plain, shrSliceOf}
@@ -70,7 +70,7 @@ use Rattle.exports.proofs.reflector_calls.testkit_handle_datagram as core
 use Rattle.exports.proofs.reflector_calls.testkit_handle_datagram.Symbol as core-def
 use Rattle.exports.proofs.reflector_calls.testkit_handle_datagram.Symbol.{name as #testkit-handle-datagram}
 use Rattle.exports.proofs.reflector_calls.testkit_handle_datagram.Met as core-thm
-use Rattle.reflector_tables.proofs.Lent.{shared, shared-back}
+use Rattle.reflector_tables.proofs.Rows.{rowsVal, typed, shared, shared-back}
 use Rattle.reflector_tables.proofs.handle_datagram.Key.{name as #handle-datagram}
 use Rattle.reflector_tables.proofs.handle_datagram as f
 use Rattle.reflector_tables.proofs.handle_datagram.Statement as stated
@@ -99,13 +99,6 @@ Ends = Unit {0} × (Unit {0} × (Unit {0} × (Unit {0} × (Unit {0} × (Unit {0}
 
 abbrev last : Ends → List ℕ
 last ends = ends .1 .1 .1 .1 .1 .1 .1 .0
-
--- the rows' machine value
-abbrev rowsVal : List ReflectorSession → Val
-rowsVal rows = only (array-vals (LL.vals T.the-type T′.the-laws) rows)
-
-room6 : Room R 6
-room6 = (lit< tt, lit< tt)
 
 module _ {M : Type 1} (𝓤 : URA M) (H : Heap 𝓤) (A : Atoms 𝓤) (W : Given 𝓤 H A) (at-mem : Memory → SProp 𝓤) (run : Routine → Fun 𝓤) (κ₁ κ₂ : Lft) (q₁ q₂ : Share) (rows : List ReflectorSession) (used : ℕ) (config : TestkitReflectorConfig) (state : TestkitReflectorState)
     (source : LentSocketAddr) (message : TestkitGtpuMessage) (y z : RefT (List ℕ)) (rows-val config-val state-val source-val message-val : Val) (rows-are : Is (Array R 6) rows (rows-val ∷ [])) (used-fits : used < 2 ^ 64)
@@ -166,19 +159,19 @@ module _ {M : Type 1} (𝓤 : URA M) (H : Heap 𝓤) (A : Atoms 𝓤) (W : Given
         qed W (tokens ∷ ‵ (owns (Array R 6 ∷ usize ∷ K.the-row ∷ S.the-row ∷ L.the-row ∷ G.the-row ∷ ShrSlice (named 0) κ₁ u8 ∷ MutSlice (named 1) κ₂ u8 ∷ []) a at) ∷ []) ∵
         enter ! C Λ code.function (rows-val ∷ vint w64 used ∷ config-val ∷ state-val ∷ source-val ∷ message-val ∷ payload-val ∷ out-val ∷ []) _ $
         alloc1 ! (λ l₀. alloc1 ! (λ l₁. alloc1 ! (λ l₂. alloc1 ! (λ l₃. alloc1 ! (λ l₄. alloc1 ! (λ l₅. alloc1 ! (λ l₆. alloc1 ! (λ l₇. alloc1 ! (λ l₈. alloc1 ! (λ l₉. alloc1 ! (λ l₁₀. alloc1 ! (λ l₁₁. alloc1 ! (λ l₁₂. alloc1 ! (λ l₁₃. alloc0 ! $ params1 ! $
-        pass1 ! (init ! 24 refl (array-lawful 𝓤 H A W R (LL.lawful T.the-type T′.the-laws 𝓤 H A W) 6 .typed rows _ rows-are .0)) $ pass1 ! (init ! 22 refl (tt, record { fits = used-fits })) $
+        pass1 ! (init ! 24 refl (typed 𝓤 H A W rows rows-val rows-are)) $ pass1 ! (init ! 22 refl (tt, record { fits = used-fits })) $
         pass1 ! (init ! 20 refl (LL.lawful K.the-type K′.the-laws 𝓤 H A W .typed config _ config-is .0)) $ pass1 ! (init ! 18 refl (LL.lawful S.the-type S′.the-laws 𝓤 H A W .typed state _ state-is .0)) $
         pass1 ! (init ! 16 refl (LL.lawful L.the-type L′.the-laws 𝓤 H A W .typed source _ source-is .0)) $ pass1 ! (init ! 14 refl (LL.lawful G.the-type G′.the-laws 𝓤 H A W .typed message _ message-is .0)) $
         pass1 ! (init ! 12 refl (tt, (tt, (record { fits = payload-room .0 }, tt)))) $ pass1 ! (init ! 10 refl (tt, (tt, (record { fits = out-room .0 }, tt)))) $ pass0 ! $
         -- [_13; …; _12; …; _0; …; the tokens; what the parameters own]: the rows are copied, a slice of the copy is made, and the output is lent on
-        assigns ! (of-opd ! (load ! (from ! (stop !)) (look ! 24 refl))) (from ! (stop !)) (init ! 8 refl (array-lawful 𝓤 H A W R (LL.lawful T.the-type T′.the-laws 𝓤 H A W) 6 .typed rows _ rows-are .0)) $
+        assigns ! (of-opd ! (load ! (from ! (stop !)) (look ! 24 refl))) (from ! (stop !)) (init ! 8 refl (typed 𝓤 H A W rows rows-val rows-are)) $
         assigns ! (addr ! (from ! (stop !))) (from ! (stop !)) (init ! 6 refl (tt, tt)) $
         assigns ! (agg ! (and-then ! (load ! (from ! (stop !)) (look ! 6 refl)) (and-then ! (lit ! tt) (no-more !)))) (from ! (stop !)) (init ! 4 refl (tt, (tt, (record { fits = lit< tt }, tt)))) $
         assigns ! (addr ! (from ! (fld ! refl (hop ! (look-in ! 10 (sub ! 0 refl (whole !))) (stop !))))) (from ! (stop !)) (init ! 2 refl (tt, tt)) $
         assigns ! (agg ! (and-then ! (load ! (from ! (stop !)) (look ! 2 refl)) (and-then ! (load ! (from ! (fld ! refl (stop !))) (look-in ! 10 (sub ! 1 refl (whole !)))) (no-more !)))) (from ! (stop !)) (init ! 0 refl (tt, (tt, (record { fits = out-room .0 }, tt)))) $
         -- the copy is lent, for a lifetime that is made here
         lft-new ! tt (λ α. move ! (9 ∷ []) $ use1 W (later (some (λ (γ : GName). ‵ (table α l₉ γ) ⊛ ‵ (flent (α ∷ []) (arr-parts (shares R) 6 .part fullShare rows l₉ 0)))))
-        (shared 𝓤 H A W R tt ((LL.makes T.the-type T′.the-plain) 𝓤 H A) (LL.vals T.the-type T′.the-laws) (LL.tells T.the-type T′.the-laws) 6 (α ∷ []) rows rows-val l₉ room6 rows-are) $ await ! tt $ pick ! (λ γ. split ! $
+        (shared 𝓤 H A W (α ∷ []) rows rows-val l₉ rows-are) $ await ! tt $ pick ! (λ γ. split ! $
         -- [what the rows own; the lender's part; the token; _13; …; the tokens; what the parameters own]: of the last, what the slices own is kept
         move ! (31 ∷ []) $ fsplit ! $ drop ! $ fsplit ! $ drop ! $ fsplit ! $ drop ! $ fsplit ! $ drop ! $ fsplit ! $ drop ! $ fsplit ! $ drop ! $ move ! (3 ∷ 31 ∷ 0 ∷ 1 ∷ []) $ join ! $
         use3 W (raw (Core 𝓤 H A at-mem run .pre (to-core α l₉ γ))) (core-goes α l₉ γ) $
@@ -193,7 +186,7 @@ module _ {M : Type 1} (𝓤 : URA M) (H : Heap 𝓤) (A : Atoms 𝓤) (W : Given
         land ! (from ! (stop !)) (init ! 29 refl (LL.lawful N.the-type N′.the-laws 𝓤 H A W .typed t _ t-is .0)) $
         -- [the token and the tokens; the last list; …; the lender's part; _13; …]: the lifetime ends, and _9 is had back
         split ! $ lft-end ! tt $ move ! (0 ∷ 4 ∷ []) $ use2 W (later (given (Is (Array R 6) rows (rowsVal rows ∷ [])) (‵ (fat fullShare (tyArray T′.mir 6) l₉ 0 (rowsVal rows)))))
-        (shared-back 𝓤 H A W R tt ((LL.makes T.the-type T′.the-plain) 𝓤 H A) (LL.vals T.the-type T′.the-laws) (LL.tells T.the-type T′.the-laws) 6 (α ∷ []) rows l₉) $ await ! tt $ learn ! (λ are.
+        (shared-back 𝓤 H A W (α ∷ []) rows l₉) $ await ! tt $ learn ! (λ are.
         returns ! (look ! 29 refl) $ forget ! 0 refl $ forget ! 4 refl $ forget ! 6 refl $ forget ! 8 refl $ forget ! 10 refl $ forget ! 13 refl $ forget ! 15 refl $ forget ! 17 refl $ forget ! 19 refl $ forget ! 21 refl $ forget ! 23 refl $ forget ! 25 refl $ forget ! 27 refl $ forget ! 29 refl $
         move ! (29 ∷ 30 ∷ []) $ free1 ! $ move ! (27 ∷ 28 ∷ []) $ free1 ! $ move ! (25 ∷ 26 ∷ []) $ free1 ! $ move ! (23 ∷ 24 ∷ []) $ free1 ! $ move ! (21 ∷ 22 ∷ []) $ free1 ! $ move ! (19 ∷ 20 ∷ []) $ free1 ! $ move ! (17 ∷ 18 ∷ []) $ free1 ! $ move ! (15 ∷ 16 ∷ []) $ free1 ! $ move ! (13 ∷ 14 ∷ []) $ free1 ! $
         move ! (0 ∷ 12 ∷ []) $ free1 ! $ move ! (9 ∷ 10 ∷ []) $ free1 ! $ move ! (7 ∷ 8 ∷ []) $ free1 ! $ move ! (5 ∷ 6 ∷ []) $ free1 ! $ move ! (3 ∷ 4 ∷ []) $ free1 ! $ free0 ! $
