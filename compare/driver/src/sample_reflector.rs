@@ -37,7 +37,8 @@ impl Table {
         let mut used = 0;
         let mut state = any_state(random);
         if let Ok(rust) = &mut rust {
-            for _ in 0..random.below(3 * ROWS) {
+            let asked = random.below(max_sessions + 1);
+            while used < asked {
                 let session = any_session(random);
                 if rust.register_session(rust_session(session)) == Ok(true) {
                     sessions[used] = session;

@@ -99,7 +99,7 @@ fn replay_and_print(s: &[u8], counts: &mut [u64]) {
     io::write_all(1, b"\n");
 }
 
-// Room for the data, and for more than twice as much.
+// Room for the data, and for half as much again.
 fn room() -> [u8; 1048576]
     ensures { λ r. ⌜ 1048576 ≡ length r ⌝ }
 {
