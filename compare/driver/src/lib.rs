@@ -26,6 +26,7 @@ pub mod random;
 pub mod reflector;
 pub mod rust_side;
 pub mod sample;
+pub mod sample_reflector;
 pub mod seen;
 pub mod sheets;
 pub mod speed_reflector;

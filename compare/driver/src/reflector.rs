@@ -30,7 +30,7 @@ const G_PDU: u8 = 255;
 const ECHO_REQUEST: u8 = 1;
 
 /// The least output, and the most of a payload.
-const LEAST_OUTPUT: usize = 72;
+pub const LEAST_OUTPUT: usize = 72;
 const MOST_PAYLOAD: usize = 65_535;
 
 /// The most sessions of a table.
@@ -164,28 +164,14 @@ pub fn refused(seed: u64, rounds: u64) -> Part {
 impl Pair {
     /// Fresh sides of so many sessions, with any policy.
     fn new(random: &mut Random, max_sessions: usize) -> Self {
-        let policy = [0, 0, 1, 2, random.number() as u8][random.below(5)];
+        let policy = any_policy(random);
         Self::with_policy(random, max_sessions, policy)
     }
 
     /// Our table has rows to spare, all dirty.
     fn with_policy(random: &mut Random, max_sessions: usize, policy: u8) -> Self {
-        let config = Config {
-            max_sessions,
-            recovery_counter: random.number() as u8,
-            policy,
-            target: any_address(random),
-            target_teid: random.number() as u32,
-        };
-        let policy = match config.policy {
-            0 => ReflectorPolicy::Echo,
-            1 => ReflectorPolicy::SinkAndCount,
-            _ => ReflectorPolicy::Route(RouteTarget {
-                destination: socket_addr(config.target),
-                teid: config.target_teid,
-            }),
-        };
-        let rust = Rust::new_multi(max_sessions, config.recovery_counter, policy);
+        let config = any_config(random, max_sessions, policy);
+        let rust = rust_reflector(&config);
         let spare = random.below(3);
         let ours = Reflector {
             sessions: (0..max_sessions + spare)
@@ -223,16 +209,7 @@ impl Pair {
     }
 
     fn registers(&mut self, part: &mut Part, seen: &mut Seen, random: &mut Random) {
-        let session = match random.below(4) {
-            0 if self.ours.used > 0 => {
-                let mut same = self.ours.sessions[random.below(self.ours.used)];
-                if same.peer_addr.version == 4 {
-                    same.peer_addr.address[4..].copy_from_slice(&random.bytes(12));
-                }
-                same
-            }
-            _ => any_session(random),
-        };
+        let session = any_registered(random, &self.ours.sessions[..self.ours.used]);
         let mut sessions = self.ours.sessions.clone();
         let used = self.ours.used;
         let due = match self.rust.register_session(rust_session(session)) {
@@ -357,7 +334,7 @@ fn each_damage(part: &mut Part, seen: &mut Seen, random: &mut Random) {
 }
 
 /// What is due where the Rust answers this, and the output that it leaves.
-fn handled(
+pub fn handled(
     answer: &Outcome<Action>,
     received: &Message,
     state: State,
@@ -397,7 +374,7 @@ fn handled(
 }
 
 /// An answer with nothing to send: version 4 and zeros for the message.
-fn not_sent(number: u8, kind: u8, reason: u8, state: State) -> Handled {
+pub fn not_sent(number: u8, kind: u8, reason: u8, state: State) -> Handled {
     Handled {
         number,
         kind,
@@ -422,8 +399,36 @@ fn noop_number(reason: &str) -> u8 {
     }
 }
 
+/// Echo twice as often as the others; any number but 0 and 1 is a route.
+pub fn any_policy(random: &mut Random) -> u8 {
+    [0, 0, 1, 2, random.number() as u8][random.below(5)]
+}
+
+pub fn any_config(random: &mut Random, max_sessions: usize, policy: u8) -> Config {
+    Config {
+        max_sessions,
+        recovery_counter: random.number() as u8,
+        policy,
+        target: any_address(random),
+        target_teid: random.number() as u32,
+    }
+}
+
+/// The Rust's reflector with this configuration, fresh.
+pub fn rust_reflector(config: &Config) -> Outcome<Rust> {
+    let policy = match config.policy {
+        0 => ReflectorPolicy::Echo,
+        1 => ReflectorPolicy::SinkAndCount,
+        _ => ReflectorPolicy::Route(RouteTarget {
+            destination: socket_addr(config.target),
+            teid: config.target_teid,
+        }),
+    };
+    Rust::new_multi(config.max_sessions, config.recovery_counter, policy)
+}
+
 /// Few TEIDs, so that they meet; sometimes any.
-fn any_teid(random: &mut Random) -> u32 {
+pub fn any_teid(random: &mut Random) -> u32 {
     match random.below(16) {
         0 => random.number() as u32,
         _ => random.below(7) as u32,
@@ -432,7 +437,7 @@ fn any_teid(random: &mut Random) -> u32 {
 
 /// An address of few hosts and ports, so that they meet. Of an IPv4 address the rest is dirty, and
 /// an IPv6 address may have any version but 4.
-fn any_address(random: &mut Random) -> Address {
+pub fn any_address(random: &mut Random) -> Address {
     let mut address = [0; 16];
     address[3] = random.below(3) as u8;
     let version = match random.below(8) {
@@ -454,7 +459,7 @@ fn any_address(random: &mut Random) -> Address {
     }
 }
 
-fn any_session(random: &mut Random) -> Session {
+pub fn any_session(random: &mut Random) -> Session {
     Session {
         local_teid: any_teid(random),
         peer_teid: any_teid(random),
@@ -462,8 +467,22 @@ fn any_session(random: &mut Random) -> Session {
     }
 }
 
+/// A session to register: any, or one of these, with other bytes where they do not count.
+pub fn any_registered(random: &mut Random, used: &[Session]) -> Session {
+    match random.below(4) {
+        0 if !used.is_empty() => {
+            let mut same = used[random.below(used.len())];
+            if same.peer_addr.version == 4 {
+                same.peer_addr.address[4..].copy_from_slice(&random.bytes(12));
+            }
+            same
+        }
+        _ => any_session(random),
+    }
+}
+
 /// A message of a type that is answered or of any, its payload a packet, a damaged one, or none.
-fn any_message(random: &mut Random) -> Message {
+pub fn any_message(random: &mut Random) -> Message {
     let message_type = match random.below(8) {
         0..5 => G_PDU,
         5 | 6 => ECHO_REQUEST,
@@ -488,7 +507,7 @@ fn any_message(random: &mut Random) -> Message {
 }
 
 /// No sessions, counts that are or are near their top, and any error sequence.
-fn any_state(random: &mut Random) -> OpenReflector {
+pub fn any_state(random: &mut Random) -> OpenReflector {
     let mut count = || match random.below(3) {
         0 => random.number(),
         _ => u64::MAX - random.below(3) as u64,
@@ -507,7 +526,7 @@ fn any_state(random: &mut Random) -> OpenReflector {
     }
 }
 
-fn header(message: &Message) -> Header {
+pub fn header(message: &Message) -> Header {
     Header {
         message_type: message.message_type,
         teid: message.teid,
@@ -516,7 +535,7 @@ fn header(message: &Message) -> Header {
     }
 }
 
-fn ours_state(state: &OpenReflector) -> State {
+pub fn ours_state(state: &OpenReflector) -> State {
     State {
         gpdu_received: state.stats.gpdu_received,
         gpdu_forwarded: state.stats.gpdu_forwarded,
@@ -528,7 +547,7 @@ fn ours_state(state: &OpenReflector) -> State {
     }
 }
 
-fn rust_session(session: Session) -> ReflectorSession {
+pub fn rust_session(session: Session) -> ReflectorSession {
     ReflectorSession {
         local_teid: session.local_teid,
         peer_teid: session.peer_teid,
@@ -536,7 +555,7 @@ fn rust_session(session: Session) -> ReflectorSession {
     }
 }
 
-fn socket_addr(address: Address) -> SocketAddr {
+pub fn socket_addr(address: Address) -> SocketAddr {
     let bytes = address.address;
     match address.version {
         4 => SocketAddr::from(([bytes[0], bytes[1], bytes[2], bytes[3]], address.port)),

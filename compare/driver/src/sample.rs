@@ -1,5 +1,5 @@
 //! A sample of the Rust's answers, as the records that `crates/replay` reads: its README says what
-//! is in them. Nothing here calls our library.
+//! is in them. Nothing here, or in `sample_reflector.rs`, calls our library.
 
 use std::collections::{BTreeMap, BTreeSet};
 
@@ -14,10 +14,11 @@ use crate::random::Random;
 use crate::rust_side::gtpu::validate_error_indication_ies;
 use crate::rust_side::measurement::{build, checksum, decode, echo, Probe};
 use crate::rust_side::traffic::{generate, Observer, Sheet};
+use crate::sample_reflector::{draw_handle, draw_register, draw_remove};
 use crate::sheets::{capacity, holding, questions};
 use crate::wild::{any_packet, any_probe};
 
-/// The kinds of records. Those from 10 on are kept for the reflector.
+/// The kinds of records.
 const CHECKSUM: u8 = 0;
 const BUILD: u8 = 1;
 const DECODE: u8 = 2;
@@ -28,24 +29,24 @@ const RECORD_SENT: u8 = 6;
 const RECORD_RECEIVED_TPDU: u8 = 7;
 const RECORD_RETURN_GTPU_DATAGRAM: u8 = 8;
 const REPORT: u8 = 9;
-
-/// The numbers that only the reflector gives.
-const REFLECTOR_NUMBERS: std::ops::RangeInclusive<u8> = 30..=36;
+const REGISTER_SESSION: u8 = 10;
+const REMOVE_SESSION: u8 = 11;
+const HANDLE_DATAGRAM: u8 = 12;
 
 /// What an output has in it before a call.
-const DIRT: u8 = 0xa5;
+pub const DIRT: u8 = 0xa5;
 
-/// The rows of a run sheet in the sample, lent or not.
-const ROWS: usize = 6;
+/// The rows of a run sheet, lent or not, and of a session table in the sample.
+pub const ROWS: usize = 6;
 
-/// The longest packet and element list of the sample.
-const MOST_BYTES: usize = 160;
+/// The longest packet, payload and element list of the sample.
+pub const MOST_BYTES: usize = 160;
 
 /// How many inputs are drawn, at most, to find what a kind of record is to have.
 const DRAWS: usize = 100_000;
 
 /// What a drawn input came to: the number, or 0; a further distinction; and the record's rest.
-type Drawn = (u8, u8, Vec<u8>);
+pub type Drawn = (u8, u8, Vec<u8>);
 
 /// The records so far, and how many there are of each kind and outcome.
 #[derive(Default)]
@@ -78,8 +79,10 @@ pub fn sample(seed: u64) -> Sample {
         draw_call(random, RECORD_RETURN_GTPU_DATAGRAM)
     });
     sample.draw(REPORT, 0, 50, random, draw_report);
-    let due = (0..=37)
-        .filter(|number| !NOT_IN_THE_RUST.contains(number) && !REFLECTOR_NUMBERS.contains(number));
+    sample.draw(REGISTER_SESSION, 10, 20, random, draw_register);
+    sample.draw(REMOVE_SESSION, 20, 25, random, draw_remove);
+    sample.draw(HANDLE_DATAGRAM, 4, 6, random, draw_handle);
+    let due = (0..=37).filter(|number| !NOT_IN_THE_RUST.contains(number));
     let numbers: BTreeSet<u8> = sample.seen.keys().map(|&(_, number, _)| number).collect();
     assert_eq!(numbers, due.collect(), "the numbers of the sample");
     sample
@@ -135,7 +138,7 @@ fn probe_bytes(values: &Values) -> Vec<u8> {
 }
 
 /// A length in two bytes.
-fn word(length: usize) -> [u8; 2] {
+pub fn word(length: usize) -> [u8; 2] {
     u16::try_from(length).expect("two bytes").to_be_bytes()
 }
 

@@ -40,6 +40,16 @@ fn double_word(s: &[u8], at: usize) -> u64
     word_as_u64(s, at) * 65536 + word_as_u64(s, after(at, 2))
 }
 
+// A TEID: the number in four bytes.
+pub fn teid(s: &[u8], at: usize) -> u32 {
+    field::double_word(
+        byte(s, at),
+        byte(s, after(at, 1)),
+        byte(s, after(at, 2)),
+        byte(s, after(at, 3)),
+    )
+}
+
 // The number in eight bytes.
 pub fn number(s: &[u8], at: usize) -> u64 {
     double_word(s, at) * 4294967296 + double_word(s, after(at, 4))
@@ -86,4 +96,12 @@ pub fn address(s: &[u8], at: usize) -> [u8; 16] {
 // Whether an address is that of the data.
 pub fn same_address(a: &[u8; 16], s: &[u8], at: usize) -> bool {
     check::same(a, first(rest(s, at), 16))
+}
+
+// Whether a flag is that of the data: 1 where it is set, else 0.
+pub fn same_flag(flag: bool, s: &[u8], at: usize) -> bool {
+    if flag {
+        return byte(s, at) == 1;
+    }
+    byte(s, at) == 0
 }

@@ -2,6 +2,7 @@
 // proved call must do the same, in number, values and every byte lent. README.md says how the sample was made and what is in a record.
 mod data;
 mod packets;
+mod sessions;
 mod sheets;
 mod summary;
 
@@ -9,7 +10,7 @@ ghost use mathlib.Core.Path.{_≡_};
 ghost use Prim.Native.Nat.{_≤_};
 ghost use lib.ListN.{length};
 
-// Whether the call of this kind agrees with the rest of its record. Kinds from 10 on are kept for the reflector.
+// Whether the call of this kind agrees with the rest of its record.
 fn agrees(kind: u8, number: u8, s: &[u8]) -> bool {
     match kind {
         0 => packets::checksum(number, s),
@@ -22,6 +23,9 @@ fn agrees(kind: u8, number: u8, s: &[u8]) -> bool {
         7 => sheets::record_received_tpdu(number, s),
         8 => sheets::record_return_gtpu_datagram(number, s),
         9 => sheets::report(number, s),
+        10 => sessions::register_session(number, s),
+        11 => sessions::remove_session(number, s),
+        12 => sessions::handle_datagram(number, s),
         _ => false,
     }
 }
@@ -75,6 +79,9 @@ fn print_lines(counts: &[u64]) {
     print_line(counts, 7, b"record_received_tpdu");
     print_line(counts, 8, b"record_return_gtpu_datagram");
     print_line(counts, 9, b"report");
+    print_line(counts, 10, b"register_session");
+    print_line(counts, 11, b"remove_session");
+    print_line(counts, 12, b"handle_datagram");
 }
 
 // The last line has the data's checksum too, which no change of 16 neighbouring bits or fewer leaves as it is.
@@ -92,7 +99,7 @@ fn replay_and_print(s: &[u8], counts: &mut [u64]) {
     io::write_all(1, b"\n");
 }
 
-// Room for the data, and for more than twice as much.
+// Room for the data, and for half as much again.
 fn room() -> [u8; 1048576]
     ensures { λ r. ⌜ 1048576 ≡ length r ⌝ }
 {

@@ -4,7 +4,7 @@ ghost use mathlib.Core.Path.{_≡_};
 ghost use lib.ListN.{length};
 
 // An output as the data has it before each call: longer than any in the data.
-fn dirty() -> [u8; 4096]
+pub fn dirty() -> [u8; 4096]
     ensures { λ r. ⌜ 4096 ≡ length r ⌝ }
 {
     [0xa5; 4096]

@@ -296,13 +296,6 @@ pub fn record_return_gtpu_datagram(number: u8, s: &[u8]) -> bool {
     )
 }
 
-fn same_flag(flag: bool, s: &[u8], at: usize) -> bool {
-    if flag {
-        return data::byte(s, at) == 1;
-    }
-    data::byte(s, at) == 0
-}
-
 // The numbers of a report that the data has from its byte `REPORT` on.
 fn same_report(r: TestkitReport, s: &[u8]) -> bool {
     r.sent_packets == data::number(s, REPORT)
@@ -316,9 +309,9 @@ fn same_report(r: TestkitReport, s: &[u8]) -> bool {
         && r.min_ns == data::number(s, data::after(REPORT, 64))
         && r.max_ns == data::number(s, data::after(REPORT, 72))
         && r.avg_ns == data::number(s, data::after(REPORT, 80))
-        && same_flag(r.has_latency, s, data::after(REPORT, 88))
-        && same_flag(r.forwarding_proven, s, data::after(REPORT, 89))
-        && same_flag(r.packet_continuity_proven, s, data::after(REPORT, 90))
+        && data::same_flag(r.has_latency, s, data::after(REPORT, 88))
+        && data::same_flag(r.forwarding_proven, s, data::after(REPORT, 89))
+        && data::same_flag(r.packet_continuity_proven, s, data::after(REPORT, 90))
 }
 
 // The window and the budget, which a report repeats.
