@@ -1,14 +1,13 @@
 -- The headers and the segment, as the code writes them, are those of the definitions.
 -- Assumes nothing.
-use Prim.Native.Nat.{ℕ, _+_, _-_, _*_, _/_, _%_, _^_, _<_, _≤_}
+use Prim.Native.Nat.{ℕ, _+_, _-_, _/_, _%_, _^_, _≤_}
 use native.Mathlib.Omega.{arith}
-use mathlib.Core.Path.{_≡_, refl, sym, ap, ap₂, _∙_}
+use mathlib.Core.Path.{_≡_, refl, ap, ap₂, _∙_}
 use mathlib.Core.List.{List, [], _∷_, _++_}
-use lib.Dec.{eqb}
 use lib.ListN.{length, getD, take, drop}
 use lib.Seq.{sets, sets-eq}
 use borrow.Author.Tests.{eq-eqb, ne-eqb}
-use Rattle.field.specs.Field.{bytesAt, bigEndian}
+use Rattle.field.specs.Field.{bytesAt}
 use Rattle.field.proofs.Fields.{whole-bytes}
 use Rattle.field.proofs.Parts.{grown}
 use Rattle.checksum.specs.Sum.{sumOf, foldOf}

@@ -4,7 +4,6 @@ use Prim.Native.Nat.{ℕ, _+_, _-_, _*_, _/_, _%_, _^_, _<_}
 use native.Mathlib.Omega.{arith}
 use mathlib.Core.Path.{_≡_, refl, sym, ap, ap₂, _∙_}
 use mathlib.Core.List.{List, [], _∷_, _++_}
-use lib.ListN.{length}
 use Rattle.field.specs.Field.{number, bigEndian, bytesAt}
 use Rattle.field.proofs.Fields.{number-big-endian}
 use Rattle.checksum.specs.Sum.{sumOf, foldOf, checksumOf}

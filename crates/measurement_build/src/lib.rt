@@ -95,7 +95,7 @@ fn segment_words(src_port: u16, dst_port: u16, header: MeasurementHeader) -> u64
         + halves(header.send_timestamp_ns)
 }
 
-// The UDP header and the probe, in the part of the buffer that starts after the IP header. `pseudo` is as above.
+// The UDP header and the probe, in the part of the buffer that starts after the IP header. `pseudo` folds as for the IPv4 header.
 fn write_udp_segment(
     pseudo: u64,
     src_port: u16,

@@ -2,10 +2,9 @@
 -- what the payload comes to. The measure is the length of what is left, from which each walk takes at least one byte.
 -- Assumes nothing.
 use Prim.Native.Nat.{_<_}
-use mathlib.Core.Path.{_≡_, refl, sym, ap, _∙_}
+use mathlib.Core.Path.{_≡_, refl, sym, _∙_}
 use native.Mathlib.Omega.{arith}
 use lib.ListN.{length}
-use borrow.Author.Needs.{needs}
 use borrow.Rule.Slice.PartAt.{part-to-end}
 use Rattle.error.specs.Outcome.{firstCause}
 use Rattle.gtpu.specs.Element.{endOf, elementsFrom, elementsOf}
