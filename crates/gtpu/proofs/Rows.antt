@@ -117,3 +117,21 @@ unfolding firstCause
 refused-by [] x n o e = absurd (refused-gives e)
 refused-by ((true ⇒ m) ∷ rows) x n o e = let s : n ≡ m = cc in ap refused s
 refused-by ((false ⇒ m) ∷ rows) x n o e = refused-by rows x n o e
+
+-- a refusal has the number of a row, and an element's rows have numbers from 1 to 127
+abbrev Numbers : List Cause → Type 0
+Numbers [] = Unit {0}
+Numbers ((t ⇒ m) ∷ rows) = (0 < m) × (m < 128) × Numbers rows
+
+row-number : {A : Type 0} (rows : List Cause) (x : A) (n : ℕ) → Numbers rows → refused n ≡ firstCause rows (gives x) → (0 < n) × (n < 128)
+unfolding firstCause
+row-number [] x n h e = absurd (refused-gives e)
+row-number ((true ⇒ m) ∷ rows) x n h e = let s : n ≡ m = cc in (rw s (h .0), rw s (h .1))
+row-number ((false ⇒ m) ∷ rows) x n h e = row-number rows x n (h .2) e
+
+pub refusal-number : (l : List ℕ) (n : ℕ) → refused n ≡ elementOf l → (0 < n) × (n < 128)
+unfolding elementCauses
+refusal-number l n e = row-number (elementCauses l) (elementSize l) n numbers e
+  where
+    numbers : Numbers (elementCauses l)
+    numbers = (omega arith, omega arith, (omega arith, omega arith, (omega arith, omega arith, (omega arith, omega arith, tt))))

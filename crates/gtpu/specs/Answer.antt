@@ -1,16 +1,16 @@
 -- What the answers say: for each case of each enum, document 01's number, or what follows.
 -- Assumes nothing.
-use Prim.Native.Nat.{ℕ, _+_, _-_, _≤_}
+use Prim.Native.Nat.{ℕ, _+_, _-_, _/_, _%_, _<_, _≤_}
 use mathlib.Core.List.{List}
+use mathlib.Core.Bool.{Bool, true, false}
+use lib.Dec.{eqb, ltb}
 use lib.ListN.{length, drop}
 use Rattle.error.specs.Outcome.{Outcome, refused, gives}
-use Rattle.gtpu.specs.Element.{endOf, elementsFrom}
+use Rattle.gtpu.specs.Element.{elementsFrom}
 use Rattle.gtpu.specs.declared.ElementsChecked.{ElementsChecked}
 use Rattle.gtpu.specs.declared.ElementsChecked.the-variants as checked
 use Rattle.gtpu.specs.declared.JudgedElement.{JudgedElement}
 use Rattle.gtpu.specs.declared.JudgedElement.the-variants as judged
-use Rattle.gtpu.specs.declared.Walked.{Walked}
-use Rattle.gtpu.specs.declared.Walked.the-variants as walked
 
 -- of a whole payload
 abbrev pub means : ElementsChecked → Outcome (Unit {0})
@@ -22,14 +22,28 @@ abbrev pub judgedMeans : JudgedElement → Outcome ℕ
 judgedMeans (judged.Refused number) = refused number
 judgedMeans (judged.Size size) = gives size
 
--- of a walk over a list: where it is to go on, what is left of the list decides
-abbrev pub walkedMeans : Walked → List ℕ → Outcome (Unit {0})
-walkedMeans (walked.Refused number) list = refused number
-walkedMeans (walked.AtEnd hasTeidData hasPeerAddress) list = endOf hasTeidData hasPeerAddress
-walkedMeans (walked.GoOn hasTeidData hasPeerAddress left) list = elementsFrom hasTeidData hasPeerAddress (drop (length list - left) list)
+-- of a list, by a number: 0, or a refusal's
+abbrev pub numbered : ℕ → Outcome (Unit {0})
+numbered number = elim (eqb number 0) [ true ↦ gives tt | false ↦ refused number ]
 
--- A walk that is to go on has made every call that it might, and each took at least one byte.
-abbrev pub Advanced : Walked → ℕ → List ℕ → Type 0
-Advanced (walked.Refused number) calls list = Unit {0}
-Advanced (walked.AtEnd hasTeidData hasPeerAddress) calls list = Unit {0}
-Advanced (walked.GoOn hasTeidData hasPeerAddress left) calls list = left + calls ≤ length list
+-- That a walk is to go on is a number too: 128, and 1 more where a TEID Data I was seen, and 2 more where a GTP-U Peer Address was.
+abbrev pub goOn : Bool → Bool → ℕ
+goOn hasTeidData hasPeerAddress = 128 + elim hasTeidData [ true ↦ 1 | false ↦ 0 ] + elim hasPeerAddress [ true ↦ 2 | false ↦ 0 ]
+
+abbrev pub teidDataSeen : ℕ → Bool
+teidDataSeen number = eqb (number % 2) 1
+
+abbrev pub peerAddressSeen : ℕ → Bool
+peerAddressSeen number = eqb (number / 2 % 2) 1
+
+-- of a walk over a list: where it is to go on, what is left of the list decides
+unfoldable pub walkedMeans : ℕ → ℕ → List ℕ → Outcome (Unit {0})
+walkedMeans number left list =
+    elim (ltb number 128) [
+      | true ↦ numbered number
+      | false ↦ elementsFrom (teidDataSeen number) (peerAddressSeen number) (drop (length list - left) list)
+    ]
+
+-- A walk that is to go on has something left, has made every call that it might, and each took at least one byte.
+abbrev pub Advanced : ℕ → ℕ → ℕ → List ℕ → Type 0
+Advanced number left calls list = 128 ≤ number → (0 < left) × (left + calls ≤ length list)

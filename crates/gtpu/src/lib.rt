@@ -5,7 +5,7 @@ ghost use Prim.Native.Nat.{_<_, _≤_};
 ghost use lib.ListN.{length, getD};
 ghost use Rattle.gtpu.specs.Message.{messageTypesOf};
 ghost use Rattle.gtpu.specs.Element.{otherLength, elementOf, endOf, elementsFrom, elementsOf};
-ghost use Rattle.gtpu.specs.Answer.{means, judgedMeans, walkedMeans, Advanced};
+ghost use Rattle.gtpu.specs.Answer.{means, numbered, judgedMeans, goOn, walkedMeans, Advanced};
 
 // The message types, under the Rust's names. `message_types` proves that they are those of specs/Message.antt.
 pub const GTPU_MSG_ECHO_REQUEST: u8 = 1;
@@ -48,6 +48,9 @@ const VALUE_START: usize = 3;
 // How often the walk calls itself before it hands back to the loop that started it. The compiler makes no loop of these
 // calls, so this number, and not the list, bounds the stack. The reflector's Error Indications have two elements.
 const WALK_DEPTH: usize = 16;
+
+// A walk answers by one number, which stays in a register: 0, a refusal's number, or one from here on, that it is to go on.
+const GO_ON: u8 = 128;
 
 // One element, judged: refused by this number, or so many bytes long, its type and length included.
 enum JudgedElement {
@@ -98,52 +101,53 @@ fn judge_element(list: &[u8]) -> JudgedElement
     }
 }
 
-// A walk: refused by this number; at the end of the list; or to go on, with so many bytes left. The flags say which of the
-// two required elements have been seen.
-enum Walked {
-    Refused(u8),
-    AtEnd {
-        has_teid_data: bool,
-        has_peer_address: bool,
-    },
-    GoOn {
-        has_teid_data: bool,
-        has_peer_address: bool,
-        left: usize,
-    },
+// The end of the list, 0 or a refusal's number: no TEID Data I, then no GTP-U Peer Address.
+fn judge_end(has_teid_data: bool, has_peer_address: bool) -> u8
+    ensures { λ r. ⌜ (numbered r ≡ endOf «has_teid_data» «has_peer_address») × (r < 128) ⌝ }
+{
+    if !has_teid_data {
+        return error::MISSING_TEID_DATA_I;
+    }
+    if !has_peer_address {
+        return error::MISSING_PEER_ADDRESS;
+    }
+    0
 }
 
-// The element at the front is judged, and what follows it is read by the same rule: by a call of the walk on the rest.
+// That a walk is to go on, and which of the two required elements it has seen.
+fn go_on(has_teid_data: bool, has_peer_address: bool) -> u8
+    ensures { λ r. ⌜ r ≡ goOn «has_teid_data» «has_peer_address» ⌝ }
+{
+    GO_ON + (has_teid_data as u8) + 2 * (has_peer_address as u8)
+}
+
+// The element at the front is judged, and what follows it is read by the same rule: by a call of the walk on the rest. The flags say
+// which of the two required elements have been seen. Where no call is left, `left` is how many bytes are.
 fn walk_elements(
     list: &[u8],
     has_teid_data: bool,
     has_peer_address: bool,
     calls_left: usize,
-) -> Walked
-    ensures { λ r. ⌜ walkedMeans r (now (list .entry)) ≡ elementsFrom «has_teid_data» «has_peer_address» (now (list .entry)) ⌝ }
-    ensures { λ r. ⌜ Advanced r «calls_left» (now (list .entry)) ⌝ }
+    left: &mut usize,
+) -> u8
+    requires { ⌜ 0 < length (now list) ⌝ }
+    ensures { λ r. ⌜ walkedMeans r (now (left .exit)) (now (list .entry)) ≡ elementsFrom «has_teid_data» «has_peer_address» (now (list .entry)) ⌝ }
+    ensures { λ r. ⌜ Advanced r (now (left .exit)) «calls_left» (now (list .entry)) ⌝ }
 {
-    if list.len() == 0 {
-        return Walked::AtEnd {
-            has_teid_data,
-            has_peer_address,
-        };
-    }
     if calls_left == 0 {
-        return Walked::GoOn {
-            has_teid_data,
-            has_peer_address,
-            left: list.len(),
-        };
+        *left = list.len();
+        return go_on(has_teid_data, has_peer_address);
     }
     match judge_element(list) {
-        JudgedElement::Refused(number) => Walked::Refused(number),
-        JudgedElement::Size(size) => walk_elements(
-            &list[size..],
-            has_teid_data | (list[0] == TEID_DATA_I),
-            has_peer_address | (list[0] == GTPU_PEER_ADDRESS),
-            calls_left - 1,
-        ),
+        JudgedElement::Refused(number) => number,
+        JudgedElement::Size(size) => {
+            let teid_data = has_teid_data | (list[0] == TEID_DATA_I);
+            let peer_address = has_peer_address | (list[0] == GTPU_PEER_ADDRESS);
+            if size == list.len() {
+                return judge_end(teid_data, peer_address);
+            }
+            walk_elements(&list[size..], teid_data, peer_address, calls_left - 1, left)
+        }
     }
 }
 
@@ -153,43 +157,28 @@ pub enum ElementsChecked {
     Refused(u8),
 }
 
-// The end of the list: no TEID Data I, then no GTP-U Peer Address.
-fn judge_end(has_teid_data: bool, has_peer_address: bool) -> ElementsChecked
-    ensures { λ r. ⌜ means r ≡ endOf «has_teid_data» «has_peer_address» ⌝ }
-{
-    if !has_teid_data {
-        return ElementsChecked::Refused(error::MISSING_TEID_DATA_I);
-    }
-    if !has_peer_address {
-        return ElementsChecked::Refused(error::MISSING_PEER_ADDRESS);
-    }
-    ElementsChecked::Accepted
-}
-
 // Validate that an Error Indication payload carries the required information elements. The payload may have any length:
 // the loop starts the walk again where it stopped.
 pub fn validate_error_indication_ies(payload: &[u8]) -> ElementsChecked
     ensures { λ r. ⌜ means r ≡ elementsOf (now (payload .entry)) ⌝ }
 {
+    if payload.len() == 0 {
+        return ElementsChecked::Refused(error::MISSING_TEID_DATA_I);
+    }
     let mut rest = payload;
     let mut has_teid_data = false;
     let mut has_peer_address = false;
+    let mut left = 0;
     loop {
-        match walk_elements(rest, has_teid_data, has_peer_address, WALK_DEPTH) {
-            Walked::Refused(number) => return ElementsChecked::Refused(number),
-            Walked::AtEnd {
-                has_teid_data: teid_data,
-                has_peer_address: peer_address,
-            } => return judge_end(teid_data, peer_address),
-            Walked::GoOn {
-                has_teid_data: teid_data,
-                has_peer_address: peer_address,
-                left,
-            } => {
-                rest = &rest[rest.len() - left..];
-                has_teid_data = teid_data;
-                has_peer_address = peer_address;
-            }
+        let answer = walk_elements(rest, has_teid_data, has_peer_address, WALK_DEPTH, &mut left);
+        if answer == 0 {
+            return ElementsChecked::Accepted;
         }
+        if answer < GO_ON {
+            return ElementsChecked::Refused(answer);
+        }
+        rest = &rest[rest.len() - left..];
+        has_teid_data = answer % 2 == 1;
+        has_peer_address = answer / 2 % 2 == 1;
     }
 }

@@ -50,6 +50,12 @@ address-length v l = length-bytesAt (addressLength v) 0 l
 abbrev pub Folds : ℕ → ℕ → Type 0
 Folds x y = (n : ℕ) → foldOf (n + x) ≡ foldOf (n + y)
 
+pub folds-alone : (x y : ℕ) → Folds x y → foldOf x ≡ foldOf y
+folds-alone x y p = ap foldOf (none x) ∙ p 0 ∙ ap foldOf (sym (none y))
+  where
+    none : (a : ℕ) → a ≡ 0 + a
+    none a = omega arith
+
 folds-both : (x y z w : ℕ) → Folds x y → Folds z w → Folds (x + z) (y + w)
 folds-both x y z w p q n =
     ap foldOf (turn n x z) ∙ p (n + z) ∙ ap foldOf (turn' n z y) ∙ q (n + y) ∙ ap foldOf (back n y w)
@@ -62,6 +68,16 @@ folds-both x y z w p q n =
 
     back : (a b c : ℕ) → a + b + c ≡ a + (b + c)
     back a b c = omega arith
+
+-- the same of two numbers behind a third, which stays
+pub folds-over : (k x y a b : ℕ) → Folds x a → Folds y b → Folds (k + x + y) (a + b + k)
+folds-over k x y a b p q n = ap foldOf (apart n k x y) ∙ folds-both x a y b p q (n + k) ∙ ap foldOf (together n k a b)
+  where
+    apart : (n k x y : ℕ) → n + (k + x + y) ≡ n + k + (x + y)
+    apart n k x y = omega arith
+
+    together : (n k x y : ℕ) → n + k + (x + y) ≡ n + (x + y + k)
+    together n k x y = omega arith
 
 -- four bytes as one number, and as two words
 four-bytes : (a b c d : ℕ) {x : ℕ} → x ≡ a * 16777216 + b * 65536 + c * 256 + d → Folds x (a * 256 + b + (c * 256 + d))
@@ -97,17 +113,9 @@ module _ {v : IpVersion} (l : List ℕ) where
       let all : a + b + c + d ≡ sumOf (address V6 l) = omega arith in
       four n ∙ ap (λ (m : ℕ). foldOf (n + m)) all ∙ ap (λ (u : IpVersion). foldOf (n + sumOf (address u l))) (sym e)
 
--- the sum as the code takes it
-pub pseudo-folded : (v : IpVersion) (src dst : List ℕ) (n x y : ℕ) {r : ℕ} → n < 65536 → Folds x (sumOf (address v src)) → Folds y (sumOf (address v dst))
-    → r ≡ foldOf (17 + n + x + y) → r ≡ foldOf (sumOf (pseudoHeader v (address v src) (address v dst) n))
-pseudo-folded v src dst n x y fits p q e =
-    let a = address v src in
-    let b = address v dst in
-    e ∙ q (17 + n + x) ∙ ap foldOf (turn (17 + n) x (sumOf b)) ∙ p (17 + n + sumOf b)
-    ∙ ap foldOf (plus (17 + n) (sumOf b) (sumOf a) ∙ sym (pseudo-sum v a b n (address-length v src) (address-length v dst) fits))
-  where
-    turn : (a b c : ℕ) → a + b + c ≡ a + c + b
-    turn a b c = omega arith
-
-    plus : (a b c : ℕ) → a + b + c ≡ c + b + a
-    plus a b c = omega arith
+-- the words as the code has them
+pub pseudo-folds : (v : IpVersion) (src dst : List ℕ) (n x y : ℕ) → n < 65536 → Folds x (sumOf (address v src)) → Folds y (sumOf (address v dst))
+    → Folds (17 + n + x + y) (sumOf (pseudoHeader v (address v src) (address v dst) n))
+pseudo-folds v src dst n x y fits p q m =
+    folds-over (17 + n) x y (sumOf (address v src)) (sumOf (address v dst)) p q m
+    ∙ ap (λ (k : ℕ). foldOf (m + k)) (sym (pseudo-sum v (address v src) (address v dst) n (address-length v src) (address-length v dst) fits))

@@ -131,11 +131,16 @@ fn address_sum(version: IpVersion, bytes: [u8; 16]) -> u64
     }
 }
 
-// The folded sum of the pseudo-header of a UDP checksum: RFC 768; RFC 8200, section 8.1.
+// A number that folds, in any sum, as the words of the pseudo-header of a UDP checksum do: RFC 768; RFC 8200, section 8.1.
+pub fn pseudo_header_words(version: IpVersion, src: [u8; 16], dst: [u8; 16], udp_length: u16) -> u64
+    ensures { λ r. ⌜ ((n : ℕ) → foldOf (n + r) ≡ foldOf (n + sumOf (pseudoHeader version (address version src) (address version dst) «udp_length»))) × (r < 2 ^ 36) ⌝ }
+{
+    17 + (udp_length as u64) + address_sum(version, src) + address_sum(version, dst)
+}
+
+// The folded sum of the pseudo-header.
 pub fn pseudo_header_sum(version: IpVersion, src: [u8; 16], dst: [u8; 16], udp_length: u16) -> u16
     ensures { λ r. ⌜ r ≡ foldOf (sumOf (pseudoHeader version (address version src) (address version dst) «udp_length»)) ⌝ }
 {
-    checksum::fold_u64(
-        17 + (udp_length as u64) + address_sum(version, src) + address_sum(version, dst),
-    )
+    checksum::fold_u64(pseudo_header_words(version, src, dst, udp_length))
 }

@@ -1,3 +1,4 @@
--- What the stores and copies of the builder leave in the buffer.
+-- What the stores and copies of the builder leave in the buffer, and what its sums come to.
+pub mod Words
 pub mod Headers
 pub mod Whole

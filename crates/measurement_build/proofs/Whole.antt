@@ -1,6 +1,6 @@
 -- A header and a segment in a buffer are the whole T-PDU of the definitions.
 -- Assumes nothing.
-use Prim.Native.Nat.{ℕ, _+_, _-_, _%_, _<_, _≤_}
+use Prim.Native.Nat.{ℕ, _+_, _-_, _%_, _^_, _<_, _≤_}
 use native.Mathlib.Omega.{arith}
 use mathlib.Core.Path.{_≡_, refl, sym, ap, ap₂, _∙_}
 use mathlib.Core.List.{List, [], _∷_, _++_}
@@ -11,14 +11,16 @@ use Rattle.field.specs.Field.{bytesAt}
 use Rattle.field.proofs.Fields.{length-bytesAt}
 use Rattle.field.proofs.Parts.{laid}
 use Rattle.checksum.specs.Sum.{sumOf, foldOf, checksumOf}
-use Rattle.checksum.proofs.Carries.{fold-add}
 use Rattle.checksum.proofs.Sums.{sum-append}
-use Rattle.measurement.specs.Packet.{addressLength, address, ipHeader, ipHeaderLength, pseudoHeader, udp, udpSegment, nonzero, buildOf}
+use Rattle.measurement.specs.Packet.{addressLength, address, ipv4, ipv4Header, ipHeader, ipHeaderLength, pseudoHeader, udp, udpSegment, nonzero, buildOf}
 use Rattle.measurement.specs.Answer.{Writing, writing}
 use Rattle.measurement.specs.declared.InnerIpFlow.{InnerIpFlow}
 use Rattle.measurement.specs.declared.IpVersion.{IpVersion}
+use Rattle.measurement.specs.declared.IpVersion.the-variants.{V4}
+use Rattle.measurement.proofs.Pseudo.{Folds}
 use Rattle.measurement.proofs.Built.{header-length, packet-even, segment-length}
 use Rattle.measurement_build.specs.Segment.{segmentOver}
+use Rattle.measurement_build.proofs.Words.{header-checked}
 
 abbrev pair : Outcome ℕ → List ℕ → Writing
 pair o b = record { outcome = o; buffer = b }
@@ -58,42 +60,55 @@ module _ (f : InnerIpFlow) (s t : ℕ) (v : IpVersion) (e : f .version ≡ v) wh
       ap length build-is ∙ length-append (ipHeader v source destination) segment
       ∙ ap₂ (λ (a b : ℕ). a + b) (header-length v (f .src) (f .dst)) (segment-length pseudo even (f .«src_port») (f .«dst_port») s t)
 
-  -- over the pseudo-header's sum, or over its bytes
-  over : {p : ℕ} → p ≡ foldOf (sumOf pseudo) → segmentOver p (f .«src_port») (f .«dst_port») s t ≡ segment
+  -- over what folds as the pseudo-header's words do, or over its bytes
+  over : (p : ℕ) → Folds p (sumOf pseudo) → segmentOver p (f .«src_port») (f .«dst_port») s t ≡ segment
   unfolding segmentOver udp checksumOf
-  over {p} ep =
+  over p folds =
       let u = udpSegment 0 (f .«src_port») (f .«dst_port») s t in
       ap (λ (n : ℕ). udpSegment (nonzero (65535 - n)) (f .«src_port») (f .«dst_port») s t)
-      (ap (λ (n : ℕ). foldOf (n + sumOf u)) ep ∙ fold-add (sumOf pseudo) (sumOf u) ∙ ap foldOf (sym (sum-append pseudo u even)))
+      (ap foldOf (turn p (sumOf u)) ∙ folds (sumOf u) ∙ ap foldOf (turn (sumOf u) (sumOf pseudo) ∙ sym (sum-append pseudo u even)))
+    where
+      turn : (a b : ℕ) → a + b ≡ b + a
+      turn a b = omega arith
 
   pub too-short : (out : List ℕ) → length out < ipHeaderLength v + 32 → pair (refused 15) out ≡ writing (buildOf f s t) out
   too-short out h = writing-short (buildOf f s t) out (omega (arith, build-length))
 
   pub built : (out part whole : List ℕ) (p : ℕ) → ipHeaderLength v + 32 ≤ length out
       → whole ≡ ipHeader v source destination ++ drop (ipHeaderLength v) out
-      → p ≡ foldOf (sumOf (pseudoHeader (f .version) (address (f .version) (f .src)) (address (f .version) (f .dst)) 32))
+      → Folds p (sumOf (pseudoHeader (f .version) (address (f .version) (f .src)) (address (f .version) (f .dst)) 32))
       → part ≡ segmentOver p (f .«src_port») (f .«dst_port») s t ++ drop 32 (take (length whole - ipHeaderLength v) (drop (ipHeaderLength v) whole))
       → pair (gives (ipHeaderLength v + 32)) (take (ipHeaderLength v) whole ++ (part ++ drop (length whole - ipHeaderLength v) (drop (ipHeaderLength v) whole)))
       ≡ writing (buildOf f s t) out
   unfolding address
   built out part whole p h ew ep eq =
-      let same : p ≡ foldOf (sumOf pseudo) =
-      ep ∙ ap (λ (w : IpVersion). foldOf (sumOf (pseudoHeader w (bytesAt (addressLength w) 0 (f .src)) (bytesAt (addressLength w) 0 (f .dst)) 32))) e in
-      let q = eq ∙ ap (λ (x : List ℕ). x ++ drop 32 (take (length whole - ipHeaderLength v) (drop (ipHeaderLength v) whole))) (over same) in
+      let same : Folds p (sumOf pseudo) =
+      λ n. ep n ∙ ap (λ (w : IpVersion). foldOf (n + sumOf (pseudoHeader w (bytesAt (addressLength w) 0 (f .src)) (bytesAt (addressLength w) 0 (f .dst)) 32))) e in
+      let q = eq ∙ ap (λ (x : List ℕ). x ++ drop 32 (take (length whole - ipHeaderLength v) (drop (ipHeaderLength v) whole))) (over p same) in
       let w = laid (ipHeader v source destination) segment out part whole (ipHeaderLength v) 32 (header-length v (f .src) (f .dst))
       (segment-length pseudo even (f .«src_port») (f .«dst_port») s t) h ew q in
       ap (pair (gives (ipHeaderLength v + 32))) w
       ∙ ap₂ (λ (n : ℕ) (b : List ℕ). pair (gives n) (b ++ drop n out)) (sym build-length) (sym build-is)
       ∙ writing-fits (buildOf f s t) out (omega (arith, build-length))
 
--- an IP header of either version in a buffer, and what the UDP writer needs: where the header ends, and the pseudo-header's sum
+-- an IP header of either version in a buffer, and what the UDP writer needs: where the header ends, and a number for the pseudo-header
 pub record Headed (f : InnerIpFlow) (out whole : List ℕ) (start p : ℕ) : Type 0 where
   pub v : IpVersion
   pub is : f .version ≡ v
   pub ends : start ≡ ipHeaderLength v
   pub fits : ipHeaderLength v + 32 ≤ length out
   pub header : whole ≡ ipHeader v (bytesAt (addressLength v) 0 (f .src)) (bytesAt (addressLength v) 0 (f .dst)) ++ drop (ipHeaderLength v) out
-  pub sum : p ≡ foldOf (sumOf (pseudoHeader (f .version) (address (f .version) (f .src)) (address (f .version) (f .dst)) 32))
+  pub sum : Folds p (sumOf (pseudoHeader (f .version) (address (f .version) (f .src)) (address (f .version) (f .dst)) 32))
+  pub small : p < 2 ^ 36
+
+-- the IPv4 header that was written over such a number is the definitions'
+pub ipv4-headed : (f : InnerIpFlow) (p : ℕ) → f .version ≡ V4
+    → Folds p (sumOf (pseudoHeader (f .version) (address (f .version) (f .src)) (address (f .version) (f .dst)) 32))
+    → ipv4Header (65535 - foldOf (0x8514 + p)) (bytesAt 4 0 (f .src)) (bytesAt 4 0 (f .dst)) ≡ ipv4 (bytesAt 4 0 (f .src)) (bytesAt 4 0 (f .dst))
+unfolding address addressLength
+ipv4-headed f p e folds =
+    header-checked (f .src) (f .dst) p
+    (λ n. folds n ∙ ap (λ (w : IpVersion). foldOf (n + sumOf (pseudoHeader w (address w (f .src)) (address w (f .dst)) 32))) e)
 
 pub headed-length : (f : InnerIpFlow) (out whole : List ℕ) (start p : ℕ) → Headed f out whole start p → (start + 32 ≤ length whole) × (length whole ≡ length out)
 headed-length f out whole start p h =

@@ -4,20 +4,27 @@ use measurement::IpVersion;
 use measurement::MeasurementHeader;
 use measurement::Written;
 ghost use mathlib.Core.Path.{_≡_};
-ghost use Prim.Native.Nat.{_+_, _-_, _≤_};
+ghost use Prim.Native.Nat.{ℕ, _+_, _-_, _/_, _%_, _^_, _<_, _≤_};
 ghost use mathlib.Core.List.{_++_};
 ghost use lib.ListN.{length, take, drop};
 ghost use Rattle.field.specs.Field.{bytesAt};
-ghost use Rattle.checksum.specs.Sum.{foldOf};
-ghost use Rattle.measurement.specs.Packet.{ipv4, ipv6, nonzero, buildOf};
+ghost use Rattle.checksum.specs.Sum.{sumOf, foldOf};
+ghost use Rattle.measurement.specs.Packet.{ipv4Header, ipv6, nonzero, udpSegment, buildOf};
 ghost use Rattle.measurement.specs.Answer.{wrote, writing};
 ghost use Rattle.measurement_build.specs.Segment.{segmentOver};
 
-// The IPv4 header, byte by byte in the Rust's order: the addresses, and then the checksum over a field of 0.
-fn write_ipv4_header(src: [u8; 16], dst: [u8; 16], out: &mut [u8])
-    requires { ⌜ 20 ≤ length (now out) ⌝ }
-    ensures { λ _. ⌜ now (out .exit) ≡ ipv4 (bytesAt 4 0 src) (bytesAt 4 0 dst) ++ drop 20 (now (out .entry)) ⌝ }
+// What the words of the IPv4 header come to more than those of the pseudo-header, which has the addresses, protocol and UDP length.
+const IPV4_MORE: u64 = 0x4500 + 52 + 0x4011 - 17 - 32;
+
+// What the words of a UDP segment come to that are the same in each: the length, and the probe's tag.
+const UDP_SAME: u64 = 32 + 0x4f50 + 0x4344 + 0x5054 + 0x4b31;
+
+// The IPv4 header, byte by byte in the Rust's order. `pseudo` folds, in any sum, as the words of the pseudo-header do.
+fn write_ipv4_header(pseudo: u64, src: [u8; 16], dst: [u8; 16], out: &mut [u8])
+    requires { ⌜ (20 ≤ length (now out)) × (pseudo < 2 ^ 36) ⌝ }
+    ensures { λ _. ⌜ now (out .exit) ≡ ipv4Header (65535 - foldOf (0x8514 + pseudo)) (bytesAt 4 0 src) (bytesAt 4 0 dst) ++ drop 20 (now (out .entry)) ⌝ }
 {
+    let checksum = 65535 - checksum::fold_u64(IPV4_MORE + pseudo);
     out[0] = 0x45;
     out[1] = 0;
     out[2] = 0;
@@ -28,8 +35,8 @@ fn write_ipv4_header(src: [u8; 16], dst: [u8; 16], out: &mut [u8])
     out[7] = 0;
     out[8] = 64;
     out[9] = 17;
-    out[10] = 0;
-    out[11] = 0;
+    out[10] = field::high(checksum);
+    out[11] = field::low(checksum);
     out[12] = src[0];
     out[13] = src[1];
     out[14] = src[2];
@@ -38,9 +45,6 @@ fn write_ipv4_header(src: [u8; 16], dst: [u8; 16], out: &mut [u8])
     out[17] = dst[1];
     out[18] = dst[2];
     out[19] = dst[3];
-    let checksum = checksum::checksum(&out[..20]);
-    out[10] = field::high(checksum);
-    out[11] = field::low(checksum);
 }
 
 // Copies `bytes` to the place `at` of `out`.
@@ -73,17 +77,37 @@ fn nonzero_checksum(sum: u16) -> u16
     checksum
 }
 
-// The UDP header and the probe, in the part of the buffer that starts after the IP header. `pseudo` is the pseudo-header's folded sum.
+// The lower half of a number and the upper: they fold, in any sum, as the number does.
+fn halves(x: u64) -> u64
+    ensures { λ r. ⌜ (r ≡ x % 4294967296 + x / 4294967296) × (r < 2 ^ 33) ⌝ }
+{
+    x % 4294967296 + (x >> 32)
+}
+
+// A number that folds, in any sum, as the words of a UDP segment with a checksum field of 0 do.
+fn segment_words(src_port: u16, dst_port: u16, header: MeasurementHeader) -> u64
+    ensures { λ r. ⌜ ((n : ℕ) → foldOf (n + r) ≡ foldOf (n + sumOf (udpSegment 0 «src_port» «dst_port» (header .sequence) (header .«send_timestamp_ns»)))) × (r < 2 ^ 35) ⌝ }
+{
+    UDP_SAME
+        + (src_port as u64)
+        + (dst_port as u64)
+        + halves(header.sequence)
+        + halves(header.send_timestamp_ns)
+}
+
+// The UDP header and the probe, in the part of the buffer that starts after the IP header. `pseudo` folds as for the IPv4 header.
 fn write_udp_segment(
-    pseudo: u16,
+    pseudo: u64,
     src_port: u16,
     dst_port: u16,
     header: MeasurementHeader,
     out: &mut [u8],
 )
-    requires { ⌜ 32 ≤ length (now out) ⌝ }
+    requires { ⌜ (32 ≤ length (now out)) × (pseudo < 2 ^ 36) ⌝ }
     ensures { λ _. ⌜ now (out .exit) ≡ segmentOver pseudo «src_port» «dst_port» (header .sequence) (header .«send_timestamp_ns») ++ drop 32 (now (out .entry)) ⌝ }
 {
+    let sum = checksum::fold_u64(pseudo + segment_words(src_port, dst_port, header));
+    let checksum = nonzero_checksum(sum);
     let ports = [
         field::high(src_port),
         field::low(src_port),
@@ -91,15 +115,12 @@ fn write_udp_segment(
         field::low(dst_port),
         0,
         32,
-        0,
-        0,
+        field::high(checksum),
+        field::low(checksum),
     ];
     let probe = header.encode();
     put(out, 0, &ports);
     put(out, 8, &probe);
-    let checksum = nonzero_checksum(checksum::sum(pseudo, &out[..32]));
-    out[6] = field::high(checksum);
-    out[7] = field::low(checksum);
 }
 
 // Builds the T-PDU at the front of `out`, and answers how many bytes it has.
@@ -124,8 +145,9 @@ pub fn build_measurement_tpdu(
             if out.len() < 52 {
                 return Written::Refused(error::OUTPUT_TOO_SHORT);
             }
-            write_ipv4_header(src, dst, out);
-            measurement::pseudo_header_sum(version, src, dst, 32)
+            let words = measurement::pseudo_header_words(version, src, dst, 32);
+            write_ipv4_header(words, src, dst, out);
+            words
         }
         IpVersion::V6 => {
             if out.len() < 72 {
@@ -133,7 +155,7 @@ pub fn build_measurement_tpdu(
             }
             write_ipv6_header(src, dst, out);
             start = 40;
-            measurement::pseudo_header_sum(version, src, dst, 32)
+            measurement::pseudo_header_words(version, src, dst, 32)
         }
     };
     write_udp_segment(

@@ -1,12 +1,21 @@
 -- `measurement_build::write_ipv4_header` meets its contract.
 -- Assumes nothing.
+use Prim.Native.Nat.{_+_}
 use native.Mathlib.Omega.{arith}
-use native.Mathlib.Nat.{min-eq-left}
-use lib.ListN.{length-set, length-take}
+use lib.ListN.{length-set}
 use Rattle.measurement_build.proofs.Headers.{ipv4-stored}
 use borrow.Author.Needs.{needs}
 use Rattle.measurement_build.proofs.write_ipv4_header.Statement.{statement}
 use Rattle.measurement_build.proofs.write_ipv4_header.Tie as tie
+
+add-fold-u64 : tie.Need-add-fold-u64
+add-fold-u64 c = search needs
+
+fold-u64-requires : tie.Need-fold-u64-requires
+fold-u64-requires c κs = search needs
+
+sub-checksum : tie.Need-sub-checksum
+sub-checksum c = search needs
 
 slice-write-out : tie.Need-slice-write-out
 slice-write-out c = search needs
@@ -38,8 +47,14 @@ slice-write-out-9 c = simp length-set (omega arith)
 slice-write-out-10 : tie.Need-slice-write-out-10
 slice-write-out-10 c = simp length-set (omega arith)
 
+high-requires : tie.Need-high-requires
+high-requires c κs = search needs
+
 slice-write-out-11 : tie.Need-slice-write-out-11
 slice-write-out-11 c = simp length-set (omega arith)
+
+low-requires : tie.Need-low-requires
+low-requires c κs = search needs
 
 slice-write-out-12 : tie.Need-slice-write-out-12
 slice-write-out-12 c = simp length-set (omega arith)
@@ -92,41 +107,24 @@ array-read-out-8 c = search needs
 slice-write-out-20 : tie.Need-slice-write-out-20
 slice-write-out-20 c = simp length-set (omega arith)
 
-slice-reshare-prefix-checksum : tie.Need-slice-reshare-prefix-checksum
-slice-reshare-prefix-checksum c = simp length-set (omega arith)
-
-slice-aggregate-checksum : tie.Need-slice-aggregate-checksum
-slice-aggregate-checksum c = simp (length-take, length-set) (omega (arith, min-eq-left (c .before .before .pre)))
-
-checksum-requires : tie.Need-checksum-requires
-checksum-requires c κs = search needs
-
-high-requires : tie.Need-high-requires
-high-requires c κs = search needs
-
-slice-write-out-21 : tie.Need-slice-write-out-21
-slice-write-out-21 c = simp length-set (omega arith)
-
-low-requires : tie.Need-low-requires
-low-requires c κs = search needs
-
-slice-write-out-22 : tie.Need-slice-write-out-22
-slice-write-out-22 c = simp length-set (omega arith)
-
 same-length : tie.Need-same-length
 same-length c = simp length-set
 
 returns : tie.Need-returns
 returns c =
-    let at-sum = c .before .before in
-    let s = at-sum .before .before .before in
-    ipv4-stored (s .args .t1) (s .args .t2) (s .args .out .now) (at-sum .checksum .result) (c .before .high .result) (c .low .result) (s .pre)
-    (at-sum .checksum .ensures) (c .before .high .ensures) (c .low .ensures)
+    let at-fold = c .before .before in
+    let start = at-fold .before .before in
+    let a = start .args in
+    ipv4-stored (a .t2) (a .t3) (a .out .now) (0x8514 + a .pseudo) (at-fold .fold-u64 .result) (c .before .high .result) (c .low .result) (start .pre .0)
+    (at-fold .fold-u64 .ensures) (c .before .high .ensures) (c .low .ensures)
 
 pub write-ipv4-header-spec : {M : Type 1} → statement M
 write-ipv4-header-spec =
     tie.close
     (tie.spec
+    add-fold-u64
+    fold-u64-requires
+    sub-checksum
     slice-write-out
     slice-write-out-2
     slice-write-out-3
@@ -137,7 +135,9 @@ write-ipv4-header-spec =
     slice-write-out-8
     slice-write-out-9
     slice-write-out-10
+    high-requires
     slice-write-out-11
+    low-requires
     slice-write-out-12
     array-read-out
     slice-write-out-13
@@ -155,12 +155,5 @@ write-ipv4-header-spec =
     slice-write-out-19
     array-read-out-8
     slice-write-out-20
-    slice-reshare-prefix-checksum
-    slice-aggregate-checksum
-    checksum-requires
-    high-requires
-    slice-write-out-21
-    low-requires
-    slice-write-out-22
     same-length
     returns)
