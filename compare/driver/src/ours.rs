@@ -33,8 +33,9 @@ pub struct Written {
     pub bytes: usize,
 }
 
+/// C's `TestkitTpdu`: 0 and the values, or the number of a refusal and zeros.
 #[repr(C)]
-struct TestkitTpdu {
+pub struct TestkitTpdu {
     number: u8,
     version: u8,
     src_port: u16,
@@ -111,14 +112,19 @@ pub fn build(values: &Values, out: &mut [u8]) -> Written {
 /// What stands in an address that is lent to the reader, and stays there where it refuses.
 pub const DIRTY_ADDRESS: [u8; 16] = [0xa5; 16];
 
+/// Reads a T-PDU as C does: the addresses go into what is lent for them.
+pub fn decode_into(tpdu: &[u8], src: &mut [u8; 16], dst: &mut [u8; 16]) -> TestkitTpdu {
+    let tpdu = lent(tpdu);
+    // SAFETY: the call reads `length` bytes from `tpdu` and writes two addresses; all are lent
+    // for as long as it runs, and the addresses to it alone.
+    unsafe { testkit_decode(tpdu.as_ptr(), tpdu.len(), src, dst) }
+}
+
 /// What is read from a T-PDU: 0 and the values, or the number of a refusal and no values
 /// (version 4, the addresses as they were lent, all else 0).
 pub fn decode(tpdu: &[u8]) -> (u8, Values) {
-    let tpdu = lent(tpdu);
     let [mut src, mut dst] = [DIRTY_ADDRESS; 2];
-    // SAFETY: the call reads `length` bytes from `tpdu` and writes two addresses; all are lent
-    // for as long as it runs, and the addresses to it alone.
-    let read = unsafe { testkit_decode(tpdu.as_ptr(), tpdu.len(), &mut src, &mut dst) };
+    let read = decode_into(tpdu, &mut src, &mut dst);
     let values = Values {
         version: read.version,
         src,

@@ -79,3 +79,16 @@ sum-four l i sum {w} {total} h all e =
     let joined : sum + w + rest ≡ sum + rest + (high * 65536 + low) = omega arith in
     let parted : sum + rest + (high + low) ≡ sum + sumOf (drop i l) = omega arith in
     ap foldOf joined ∙ fold-words (sum + rest) high low ∙ ap foldOf parted ∙ all
+
+-- eight bytes at once, as two numbers
+pub sum-eight : (l : List ℕ) (i sum : ℕ) {v w total : ℕ} → i + 7 < length l → foldOf (sum + sumOf (drop i l)) ≡ total
+    → v ≡ getD l i 0 * 16777216 + getD l (i + 1) 0 * 65536 + getD l (i + 2) 0 * 256 + getD l (i + 3) 0
+    → w ≡ getD l (i + 4) 0 * 16777216 + getD l (i + 5) 0 * 65536 + getD l (i + 6) 0 * 256 + getD l (i + 7) 0
+    → foldOf (sum + (v + w) + sumOf (drop (i + 8) l)) ≡ total
+sum-eight l i sum {v} {w} {total} h all e f =
+    let x1 = at-place l (i + 4 + 1) (i + 5) (omega arith) in
+    let x2 = at-place l (i + 4 + 2) (i + 6) (omega arith) in
+    let x3 = at-place l (i + 4 + 3) (i + 7) (omega arith) in
+    let y = from-place l (i + 4 + 4) (i + 8) (omega arith) in
+    let joined : sum + (v + w) + sumOf (drop (i + 8) l) ≡ sum + v + w + sumOf (drop (i + 4 + 4) l) = omega arith in
+    ap foldOf joined ∙ sum-four l (i + 4) (sum + v) (omega arith) (sum-four l i sum (omega arith) all e) (omega arith)

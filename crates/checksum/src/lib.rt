@@ -25,41 +25,60 @@ pub fn fold_u64(sum: u64) -> u16
     fold(((halves & 0xffff) + (halves >> 16)) as u32)
 }
 
-// `start` and the words of `bytes`. The bound is met by a whole segment, so that a u32 never wraps.
-fn sum_words(start: u32, bytes: &[u8]) -> u32
-    requires { ⌜ start + 32768 * (length (now bytes) + 1) < 2 ^ 32 ⌝ }
-    ensures { λ r. ⌜ r ≡ start + sumOf (now (bytes .entry)) ⌝ }
+// The words of at most three bytes.
+fn sum_last(bytes: &[u8]) -> u64
+    requires { ⌜ length (now bytes) < 4 ⌝ }
+    ensures { λ r. ⌜ (r ≡ sumOf (now (bytes .entry))) × (r < 2 ^ 17) ⌝ }
 {
-    let mut sum = start;
-    let mut i = 0;
-    while i + 1 < bytes.len() {
-        sum += field::word(bytes[i], bytes[i + 1]) as u32;
-        i += 2;
+    if bytes.len() == 0 {
+        return 0;
     }
-    if i < bytes.len() {
-        sum += field::word(bytes[i], 0) as u32;
+    if bytes.len() == 1 {
+        return field::word(bytes[0], 0) as u64;
     }
-    sum
+    let first = field::word(bytes[0], bytes[1]) as u64;
+    if bytes.len() == 2 {
+        return first;
+    }
+    first + (field::word(bytes[2], 0) as u64)
 }
 
-// A sum that folds to what the words of a block fold to. Four bytes are added at once, as one number: it differs from the sum of its
-// two words by a multiple of 65,535.
+// A sum that folds to what the words of at most seven bytes fold to. Four bytes are added at once, as one number: it differs from the sum
+// of its two words by a multiple of 65,535.
+fn sum_tail(bytes: &[u8]) -> u64
+    requires { ⌜ length (now bytes) < 8 ⌝ }
+    ensures { λ r. ⌜ ((n : ℕ) → foldOf (n + r) ≡ foldOf (n + sumOf (now (bytes .entry)))) × (r < 2 ^ 33) ⌝ }
+{
+    if bytes.len() < 4 {
+        return sum_last(bytes);
+    }
+    let first = field::double_word(bytes[0], bytes[1], bytes[2], bytes[3]) as u64;
+    first + sum_last(&bytes[4..])
+}
+
+// The same of a block, eight bytes a turn.
 fn sum_block(bytes: &[u8]) -> u64
     requires { ⌜ length (now bytes) ≤ 65536 ⌝ }
     ensures { λ r. ⌜ (foldOf r ≡ foldOf (sumOf (now (bytes .entry)))) × (r < 2 ^ 47) ⌝ }
 {
     let mut sum = 0;
     let mut i = 0;
-    while i + 3 < bytes.len() {
-        sum += field::double_word(bytes[i], bytes[i + 1], bytes[i + 2], bytes[i + 3]) as u64;
-        i += 4;
+    while i + 7 < bytes.len() {
+        let first = field::double_word(bytes[i], bytes[i + 1], bytes[i + 2], bytes[i + 3]) as u64;
+        let second = field::double_word(
+            bytes[i + 4],
+            bytes[i + 5],
+            bytes[i + 6],
+            bytes[i + 7],
+        ) as u64;
+        sum += first + second;
+        i += 8;
     }
-    sum + (sum_words(0, &bytes[i..]) as u64)
+    sum + sum_tail(&bytes[i..])
 }
 
-// The ones' complement sum of `start` and the words of `bytes`, which stand at an even offset of the whole message. Sums in parts go
-// through `start`. Carries are folded in after each block of 65,536 bytes.
-pub fn sum(start: u16, bytes: &[u8]) -> u16
+// Blocks of 65,536 bytes, with the carries folded in after each.
+fn sum_blocks(start: u16, bytes: &[u8]) -> u16
     ensures { λ r. ⌜ r ≡ foldOf (start + sumOf (now (bytes .entry))) ⌝ }
 {
     let mut sum = start;
@@ -70,6 +89,18 @@ pub fn sum(start: u16, bytes: &[u8]) -> u16
         i = end;
     }
     fold_u64(sum_block(&bytes[i..]) + (sum as u64))
+}
+
+// The ones' complement sum of `start` and the words of `bytes`, which stand at an even offset of the whole message. Sums in parts go
+// through `start`. A slice that is handed on is sliced anew: so the compiler keeps it in registers, where it would copy it in memory.
+pub fn sum(start: u64, bytes: &[u8]) -> u16
+    ensures { λ r. ⌜ r ≡ foldOf (start + sumOf (now (bytes .entry))) ⌝ }
+{
+    if 65536 < bytes.len() {
+        return sum_blocks(fold_u64(start), &bytes[..]);
+    }
+    let halves = (start & 0xffff_ffff) + (start >> 32);
+    fold_u64(sum_block(&bytes[..]) + halves)
 }
 
 // The checksum of a message whose checksum field is 0.

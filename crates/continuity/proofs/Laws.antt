@@ -12,10 +12,7 @@ use Rattle.error.specs.Number.{malformedObserver, unsupportedMessageType}
 use Rattle.error.specs.Outcome.{Outcome, refused, gives}
 use Rattle.error.proofs.Tests.{or-left, or-right, or-none}
 use Rattle.measurement.specs.Read.{readOf}
-use Rattle.measurement.specs.Answer.{decodeResult}
 use Rattle.measurement.specs.declared.DecodedTpdu.{DecodedTpdu}
-use Rattle.measurement.specs.declared.DecodeResult.{DecodeResult}
-use Rattle.measurement.specs.declared.Decoding.the-variants as decoding
 use Rattle.gtpu.specs.Element.{elementsOf}
 use Rattle.observer.specs.Observer.{Observer}
 use Rattle.observer.specs.Judge.{wellFormed, judged, Step}
@@ -33,31 +30,13 @@ use Rattle.continuity.specs.declared.MessageRecorded.{MessageRecorded}
 
 -- ---- a T-PDU
 
-module _ (tpdu : List ℕ) {r : DecodeResult} (e : r ≡ decodeResult (readOf tpdu)) where
-  pub read-refused : {n : ℕ} → r .decoding ≡ decoding.Refused n → refused n ≡ sequenceRead tpdu
-  unfolding sequenceRead decodeResult
-  read-refused {n} q = go (readOf tpdu) refl
-    where
-      go : (o : Outcome DecodedTpdu) → readOf tpdu ≡ o → refused n ≡ sequenceRead tpdu
-      go (refused m) p =
-          let d : decoding.Refused m ≡ decoding.Refused n = ap (λ (x : DecodeResult). x .decoding) (ap decodeResult (sym p) ∙ sym e) ∙ q in
-          let h : m ≡ n = cc in
-          rw (p, sequenceRead, h)
-      go (gives t) p =
-          let d : decoding.Accepted ≡ decoding.Refused n = ap (λ (x : DecodeResult). x .decoding) (ap decodeResult (sym p) ∙ sym e) ∙ q in
-          absurd (let z : _≡_ {A = ℕ} 0 1 = cc in omega arith)
+pub seen-refused : (tpdu : List ℕ) {n : ℕ} → readOf tpdu ≡ refused n → refused n ≡ sequenceRead tpdu
+unfolding sequenceRead
+seen-refused tpdu e = rw (e, sequenceRead)
 
-  pub read-given : r .decoding ≡ decoding.Accepted → gives (r .tpdu .measurement .sequence) ≡ sequenceRead tpdu
-  unfolding sequenceRead decodeResult
-  read-given q = go (readOf tpdu) refl
-    where
-      go : (o : Outcome DecodedTpdu) → readOf tpdu ≡ o → gives (r .tpdu .measurement .sequence) ≡ sequenceRead tpdu
-      go (refused m) p =
-          let d : decoding.Refused m ≡ decoding.Accepted = ap (λ (x : DecodeResult). x .decoding) (ap decodeResult (sym p) ∙ sym e) ∙ q in
-          absurd (let z : _≡_ {A = ℕ} 0 1 = cc in omega arith)
-      go (gives t) p =
-          let d : r .tpdu ≡ t = ap (λ (x : DecodeResult). x .tpdu) (e ∙ ap decodeResult p) in
-          rw (p, sequenceRead) (ap (λ (x : DecodedTpdu). gives (x .measurement .sequence)) d)
+pub seen-given : (tpdu : List ℕ) {t : DecodedTpdu} {s : ℕ} → readOf tpdu ≡ gives t → s ≡ t .measurement .sequence → gives s ≡ sequenceRead tpdu
+unfolding sequenceRead
+seen-given tpdu e q = rw (e, sequenceRead) (ap gives q)
 
 -- what was read goes to the observer
 pub received : (o : Observer) (time : ℕ) (tpdu : List ℕ) {read : Outcome ℕ} → read ≡ sequenceRead tpdu

@@ -2,7 +2,6 @@
 // an observer is defined in specs/Returns.antt, and its contract is that one equation: answer, counts and every column at exit, on
 // refusals too.
 use gtpu::ElementsChecked;
-use measurement::Decoding;
 use observer::ObserverCounts;
 use observer::Recorded;
 use observer::Recording;
@@ -40,16 +39,13 @@ pub struct MessageRecorded {
 fn read_sequence(tpdu: &[u8]) -> Returned
     ensures { λ r. ⌜ returnedMeans r ≡ sequenceRead (now (tpdu .entry)) ⌝ }
 {
-    let read = measurement_decode::decode_measurement_tpdu(tpdu);
-    let decoding = read.decoding;
-    match decoding {
-        Decoding::Refused(number) => Returned::Refused(number),
-        Decoding::Accepted => {
-            let decoded = read.tpdu;
-            let header = decoded.measurement;
-            Returned::Sequence(header.sequence)
-        }
+    let mut src = [0; 16];
+    let mut dst = [0; 16];
+    let read = measurement_decode::decode_into(tpdu, &mut src, &mut dst);
+    if read.number != 0 {
+        return Returned::Refused(read.number);
     }
+    Returned::Sequence(read.sequence)
 }
 
 // Records a T-PDU that came back. It is read first, which changes nothing; what it reads as goes to the observer, which judges 21 before

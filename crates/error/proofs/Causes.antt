@@ -1,6 +1,6 @@
 -- The first cause that holds: which row it is, or that none holds; forwards from the tests, and backwards from the outcome.
 -- Assumes nothing.
-use Prim.Native.Nat.{ℕ}
+use Prim.Native.Nat.{ℕ, _<_}
 use mathlib.Core.Path.{_≡_, refl, sym, _∙_}
 use mathlib.Core.List.{List, [], _∷_, _++_}
 use mathlib.Core.Bool.{Bool, true, false}
@@ -37,6 +37,17 @@ unfolding firstCause
 passed [] o x e = (none, e)
 passed ((true ⇒ n) ∷ rows) o x e = absurd (refused-gives e)
 passed ((false ⇒ n) ∷ rows) o x e = let p = passed rows o x e in (past refl (p .0), p .1)
+
+-- rows that have a number each: 0 is none
+pub data Numbered : List Cause → Type 0 where
+  end : Numbered []
+  row : {t : Bool} {n : ℕ} {rows : List Cause} → 0 < n → Numbered rows → Numbered ((t ⇒ n) ∷ rows)
+
+pub not-by-zero : {A : Type 0} {rows : List Cause} (o : Outcome A) → Numbered rows → (o ≡ refused 0 → ⊥) → firstCause rows o ≡ refused 0 → ⊥
+unfolding firstCause
+not-by-zero o end h e = h e
+not-by-zero o (row {t = true} {n = n} k q) h e = let z : n ≡ 0 = cc in omega arith
+not-by-zero o (row {t = false} k q) h e = not-by-zero o q h e
 
 -- ---- rows behind other rows
 

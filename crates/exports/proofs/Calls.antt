@@ -11,7 +11,7 @@ use Rattle.observer.specs.Judge.{Step}
 use Rattle.observer.specs.declared.ObserverCounts.{ObserverCounts}
 use Rattle.observer.specs.declared.Recorded.{Recorded}
 use Rattle.traffic.specs.Generate.{Generating, generated}
-use Rattle.exports.specs.Interface.{writtenNumbers, decodingNumber, versionNumber, tpduNumbers, generatedNumbers, recordedNumbers, RecordedStep, messageNumbers, MessageStepNumbers}
+use Rattle.exports.specs.Interface.{writtenNumbers, generatedNumbers, recordedNumbers, RecordedStep, messageNumbers, MessageStepNumbers}
 use Rattle.continuity.specs.Answer.{messageMeans, messageRecorded}
 use Rattle.continuity.specs.Returns.{MessageStep}
 use Rattle.continuity.specs.declared.MessageRecorded.{MessageRecorded}
@@ -30,26 +30,6 @@ module _ (answer : Written) (buffer : List ℕ) (w : Writing) (e : wrote answer 
 
   pub left : buffer ≡ w .buffer
   left = ap (λ (x : Writing). x .buffer) e
-
--- reading: the numbers beside the addresses
-pub read-numbers : (r s : DecodeResult) {n v : ℕ} → r ≡ s → n ≡ decodingNumber (r .decoding) → v ≡ versionNumber (r .tpdu .flow .version)
-    → record {
-      number = n;
-      version = v;
-      «src_port» = r .tpdu .flow .«src_port»;
-      «dst_port» = r .tpdu .flow .«dst_port»;
-      sequence = r .tpdu .measurement .sequence;
-      «send_timestamp_ns» = r .tpdu .measurement .«send_timestamp_ns»;
-    } ≡ tpduNumbers s
-read-numbers r s e p q =
-    ap₂ (λ (n v : ℕ). record {
-      number = n;
-      version = v;
-      «src_port» = r .tpdu .flow .«src_port»;
-      «dst_port» = r .tpdu .flow .«dst_port»;
-      sequence = r .tpdu .measurement .sequence;
-      «send_timestamp_ns» = r .tpdu .measurement .«send_timestamp_ns»;
-    }) p q ∙ ap tpduNumbers e
 
 -- an observer's call: its number and counts
 abbrev numbersWith : ObserverCounts → ℕ → TestkitRecorded

@@ -6,10 +6,7 @@ use mathlib.Core.Bool.{true, false}
 use lib.Dec.{eqb}
 use Rattle.error.specs.Outcome.{Outcome, refused, gives, outcomeNumber}
 use Rattle.measurement.specs.Packet.{versionNumbered}
-use Rattle.measurement.specs.declared.DecodeResult.{DecodeResult}
-use Rattle.measurement.specs.declared.DecodedTpdu.{DecodedTpdu}
-use Rattle.measurement.specs.declared.Decoding.{Decoding}
-use Rattle.measurement.specs.declared.Decoding.the-variants as decoding
+use Rattle.measurement_decode.specs.declared.TpduNumbers.{TpduNumbers}
 use Rattle.measurement.specs.declared.InnerIpFlow.{InnerIpFlow}
 use Rattle.measurement.specs.declared.IpVersion.{IpVersion}
 use Rattle.measurement.specs.declared.IpVersion.the-variants.{V4, V6}
@@ -39,10 +36,6 @@ use Rattle.exports.specs.declared.TestkitReturnsRecorded.{TestkitReturns
 use Rattle.exports.specs.declared.TestkitTpdu.{TestkitTpdu}
 use Rattle.exports.specs.declared.TestkitWritten.{TestkitWritten}
 
-abbrev pub versionNumber : IpVersion → ℕ
-versionNumber V4 = 4
-versionNumber V6 = 6
-
 abbrev pub flowOf : ℕ → List ℕ → List ℕ → ℕ → ℕ → InnerIpFlow
 flowOf version src dst sourcePort destinationPort =
     record { version = versionNumbered version; src = src; dst = dst; «src_port» = sourcePort; «dst_port» = destinationPort }
@@ -52,25 +45,15 @@ abbrev pub writtenNumbers : Outcome ℕ → TestkitWritten
 writtenNumbers (refused n) = record { number = n; bytes = 0 }
 writtenNumbers (gives bytes) = record { number = 0; bytes = bytes }
 
--- 0 where a T-PDU was read, or a refusal's number.
-abbrev pub decodingNumber : Decoding → ℕ
-decodingNumber decoding.Accepted = 0
-decodingNumber (decoding.Refused n) = n
-
--- "Left as it was: all": an address that was read, or what was lent where reading refuses.
-abbrev pub readOrLent : Decoding → List ℕ → List ℕ → List ℕ
-readOrLent decoding.Accepted read lent = read
-readOrLent (decoding.Refused n) read lent = lent
-
--- What reading answers, without the addresses, which go into lent arrays.
-abbrev pub tpduNumbers : DecodeResult → TestkitTpdu
-tpduNumbers r = record {
-  number = decodingNumber (r .decoding);
-  version = versionNumber (r .tpdu .flow .version);
-  «src_port» = r .tpdu .flow .«src_port»;
-  «dst_port» = r .tpdu .flow .«dst_port»;
-  sequence = r .tpdu .measurement .sequence;
-  «send_timestamp_ns» = r .tpdu .measurement .«send_timestamp_ns»;
+-- What reading answers, as C has it.
+abbrev pub testkitTpdu : TpduNumbers → TestkitTpdu
+testkitTpdu n = record {
+  number = n .number;
+  version = n .version;
+  «src_port» = n .«src_port»;
+  «dst_port» = n .«dst_port»;
+  sequence = n .sequence;
+  «send_timestamp_ns» = n .«send_timestamp_ns»;
 }
 
 abbrev pub planOf : ℕ → ℕ → ℕ → TrafficPlan

@@ -33,7 +33,7 @@ use Rattle.reflector_answer.specs.declared.ReflectorSendReason.the-variants as 
 use Rattle.reflector_answer.specs.declared.ReflectorState.{ReflectorState}
 use Rattle.reflector_answer.specs.declared.SequenceNumber.{SequenceNumber}
 use Rattle.reflector_answer.specs.declared.SequenceNumber.the-variants.{Absent, Present}
-use Rattle.exports.specs.Interface.{versionNumber}
+use Rattle.measurement.specs.Packet.{versionNumber}
 use Rattle.exports.specs.declared.reflector_calls.ActionNumbers.{ActionNumbers}
 use Rattle.exports.specs.declared.reflector_calls.HandlingArguments.{HandlingArguments}
 use Rattle.exports.specs.declared.reflector_calls.SequenceNumbers.{SequenceNumbers}

@@ -10,7 +10,6 @@ use evidence::LatencySummary;
 use evidence::PacketContinuityBudget;
 use evidence::PacketContinuityReport;
 use gtpu::ElementsChecked;
-use measurement::Decoding;
 use measurement::InnerIpFlow;
 use measurement::IpVersion;
 use measurement::Written;
@@ -26,10 +25,11 @@ ghost use lib.Dec.{eqb};
 ghost use Rattle.error.specs.Outcome.{refused, gives, outcomeNumber};
 ghost use Rattle.checksum.specs.Sum.{sumOf, foldOf, checksumOf};
 ghost use Rattle.checksum.specs.Claims.{Undamaged};
-ghost use Rattle.measurement.specs.Packet.{buildOf};
+ghost use Rattle.measurement.specs.Packet.{versionNumber, buildOf};
 ghost use Rattle.measurement.specs.Read.{readOf};
 ghost use Rattle.measurement.specs.Echo.{echoOf};
-ghost use Rattle.measurement.specs.Answer.{writtenMeans, writing, writingOf, decodeResult};
+ghost use Rattle.measurement.specs.Answer.{writtenMeans, writing, writingOf};
+ghost use Rattle.measurement_decode.specs.Numbers.{tpduNumbers, sourceLeft, destinationLeft};
 ghost use Rattle.traffic.specs.Generate.{generateOf};
 ghost use Rattle.gtpu.specs.Element.{elementsOf};
 ghost use Rattle.observer.specs.Sending.{recordSent};
@@ -41,7 +41,7 @@ ghost use Rattle.continuity.specs.Answer.{messageMeans};
 ghost use Rattle.continuity.specs.Batch.{recordReceivedTpdus, receivedAll};
 ghost use Rattle.report.specs.Report.{reporting};
 ghost use Rattle.report.specs.Answer.{reportedMeans};
-ghost use Rattle.exports.specs.Interface.{versionNumber, flowOf, writtenNumbers, decodingNumber, readOrLent, tpduNumbers, planOf, generatedNumbers, countsOf, recordedNumbers, RecordedStep, planAnswer, returnsAnswer, kindNumber, ignoredType, messageNumbers, MessageStepNumbers, latencyNumbers, budgetOf, reportNumbers};
+ghost use Rattle.exports.specs.Interface.{flowOf, writtenNumbers, testkitTpdu, planOf, generatedNumbers, countsOf, recordedNumbers, RecordedStep, planAnswer, returnsAnswer, kindNumber, ignoredType, messageNumbers, MessageStepNumbers, latencyNumbers, budgetOf, reportNumbers};
 
 // What a call that writes into a lent buffer answers: 0 and how many bytes it wrote, or a refusal's number and 0 bytes.
 #[repr(C)]
@@ -82,7 +82,7 @@ fn written_numbers(answer: Written) -> TestkitWritten
 pub extern "C" fn testkit_sum(start: u16, bytes: &[u8]) -> u16
     ensures { λ r. ⌜ r ≡ foldOf (start + sumOf (now (bytes .entry))) ⌝ }
 {
-    checksum::sum(start, bytes)
+    checksum::sum(start as u64, bytes)
 }
 
 // `checksum::checksum`
@@ -108,25 +108,6 @@ fn version_number(version: IpVersion) -> u8
     match version {
         IpVersion::V4 => 4,
         IpVersion::V6 => 6,
-    }
-}
-
-fn decoding_number(decoding: Decoding) -> u8
-    ensures { λ r. ⌜ r ≡ decodingNumber decoding ⌝ }
-{
-    match decoding {
-        Decoding::Accepted => 0,
-        Decoding::Refused(number) => number,
-    }
-}
-
-// An address that was read or, beside a refusal, the one that was lent.
-fn read_or_lent(decoding: Decoding, read: [u8; 16], lent: [u8; 16]) -> [u8; 16]
-    ensures { λ r. ⌜ r ≡ readOrLent decoding read lent ⌝ }
-{
-    match decoding {
-        Decoding::Accepted => read,
-        Decoding::Refused(_) => lent,
     }
 }
 
@@ -169,30 +150,21 @@ pub extern "C" fn testkit_echo(tpdu: &[u8], out: &mut [u8]) -> TestkitWritten
     written_numbers(measurement_echo::echo_tpdu(tpdu, out))
 }
 
-// `measurement_decode::decode_measurement_tpdu`
+// `measurement_decode::decode_into`
 #[no_mangle]
 pub extern "C" fn testkit_decode(tpdu: &[u8], src: &mut [u8; 16], dst: &mut [u8; 16]) -> TestkitTpdu
-    ensures answer { λ r. ⌜ r ≡ tpduNumbers (decodeResult (readOf (now (tpdu .entry)))) ⌝ }
-    ensures source { λ _. ⌜ now (src .exit) ≡ readOrLent (decodeResult (readOf (now (tpdu .entry))) .decoding) (decodeResult (readOf (now (tpdu .entry))) .tpdu .flow .src) (now (src .entry)) ⌝ }
-    ensures destination { λ _. ⌜ now (dst .exit) ≡ readOrLent (decodeResult (readOf (now (tpdu .entry))) .decoding) (decodeResult (readOf (now (tpdu .entry))) .tpdu .flow .dst) (now (dst .entry)) ⌝ }
+    ensures answer { λ r. ⌜ r ≡ testkitTpdu (tpduNumbers (readOf (now (tpdu .entry)))) ⌝ }
+    ensures source { λ _. ⌜ now (src .exit) ≡ sourceLeft (readOf (now (tpdu .entry))) (now (src .entry)) ⌝ }
+    ensures destination { λ _. ⌜ now (dst .exit) ≡ destinationLeft (readOf (now (tpdu .entry))) (now (dst .entry)) ⌝ }
 {
-    let read = measurement_decode::decode_measurement_tpdu(tpdu);
-    let decoding = read.decoding;
-    let decoded = read.tpdu;
-    let flow = decoded.flow;
-    let header = decoded.measurement;
-    let version = flow.version;
-    let source = flow.src;
-    let destination = flow.dst;
-    *src = read_or_lent(decoding, source, *src);
-    *dst = read_or_lent(decoding, destination, *dst);
+    let read = measurement_decode::decode_into(tpdu, src, dst);
     TestkitTpdu {
-        number: decoding_number(decoding),
-        version: version_number(version),
-        src_port: flow.src_port,
-        dst_port: flow.dst_port,
-        sequence: header.sequence,
-        send_timestamp_ns: header.send_timestamp_ns,
+        number: read.number,
+        version: read.version,
+        src_port: read.src_port,
+        dst_port: read.dst_port,
+        sequence: read.sequence,
+        send_timestamp_ns: read.send_timestamp_ns,
     }
 }
 

@@ -9,8 +9,8 @@ use mathlib.Core.Logic.{_⊎_, inl, inr}
 use lib.Dec.{ltb, eqb}
 use lib.ListN.{length, take, drop, getD}
 use borrow.Author.Tests.{ltb-false, eqb-true, not-false}
-use Rattle.error.specs.Outcome.{Outcome, refused, gives, Cause, _⇒_}
-use Rattle.error.proofs.Causes.{Passes, past, passed}
+use Rattle.error.specs.Outcome.{Outcome, refused, gives, outcomeNumber, Cause, _⇒_}
+use Rattle.error.proofs.Causes.{Passes, past, passed, end, row, refused-gives, not-by-zero}
 use Rattle.error.proofs.Tests.{or-neither, true-not-false}
 use Rattle.field.specs.Field.{bytesAt, field}
 use Rattle.measurement.specs.Read.{payload, lengthWrong, sumWrong, probeCauses, udpCauses, tpduOf, readProbe, readUdp, ihl, ipv4Causes, readIpv4, ipv6Causes, readIpv6, tpduCauses, readOf}
@@ -93,3 +93,30 @@ module _ (p : List ℕ) (r : DecodedTpdu) where
       go true b ea eb n f = inl (eqb-true _ _ ea, ipv4-accepted f)
       go false true ea eb n f = inr (eqb-true _ _ eb, ipv6-accepted f)
       go false false ea eb n f = absurd (true-not-false n)
+
+-- no T-PDU is refused by 0, so one whose number is 0 was read
+part-by-zero : (v : IpVersion) (src dst u : List ℕ) → readUdp v src dst u ≡ refused 0 → ⊥
+unfolding readUdp udpCauses readProbe probeCauses
+part-by-zero V4 src dst u = not-by-zero _ (row (omega arith) (row (omega arith) end)) (not-by-zero _ (row (omega arith) (row (omega arith) end)) (λ e. refused-gives (sym e)))
+part-by-zero V6 src dst u =
+    not-by-zero _ (row (omega arith) (row (omega arith) (row (omega arith) end))) (not-by-zero _ (row (omega arith) (row (omega arith) end)) (λ e. refused-gives (sym e)))
+
+pub read-by-zero : (p : List ℕ) → readOf p ≡ refused 0 → ⊥
+unfolding readOf tpduCauses readIpv4 ipv4Causes readIpv6 ipv6Causes
+read-by-zero p = not-by-zero _ (row (omega arith) (row (omega arith) end)) (either (eqb (getD p 0 0 / 16) 4))
+  where
+    either : (b : Bool) → _≡_ {A = Outcome DecodedTpdu} (elim b [ true ↦ readIpv4 p | false ↦ readIpv6 p ]) (refused 0) → ⊥
+    either true =
+        not-by-zero _ (row (omega arith) (row (omega arith) (row (omega arith) (row (omega arith) (row (omega arith) end))))) (part-by-zero V4 _ _ _)
+    either false = not-by-zero _ (row (omega arith) (row (omega arith) (row (omega arith) end))) (part-by-zero V6 _ _ _)
+
+pub record Given (p : List ℕ) : Type 0 where
+  pub tpdu : DecodedTpdu
+  pub is : readOf p ≡ gives tpdu
+
+pub given : (p : List ℕ) → outcomeNumber (readOf p) ≡ 0 → Given p
+given p = go (readOf p) refl
+  where
+    go : (o : Outcome DecodedTpdu) → readOf p ≡ o → outcomeNumber o ≡ 0 → Given p
+    go (refused n) e z = absurd (read-by-zero p (e ∙ ap refused z))
+    go (gives t) e z = record { tpdu = t; is = e }

@@ -50,13 +50,7 @@ address-length v l = length-bytesAt (addressLength v) 0 l
 abbrev pub Folds : ℕ → ℕ → Type 0
 Folds x y = (n : ℕ) → foldOf (n + x) ≡ foldOf (n + y)
 
-pub folds-alone : (x y : ℕ) → Folds x y → foldOf x ≡ foldOf y
-folds-alone x y p = ap foldOf (none x) ∙ p 0 ∙ ap foldOf (sym (none y))
-  where
-    none : (a : ℕ) → a ≡ 0 + a
-    none a = omega arith
-
-folds-both : (x y z w : ℕ) → Folds x y → Folds z w → Folds (x + z) (y + w)
+pub folds-both : (x y z w : ℕ) → Folds x y → Folds z w → Folds (x + z) (y + w)
 folds-both x y z w p q n =
     ap foldOf (turn n x z) ∙ p (n + z) ∙ ap foldOf (turn' n z y) ∙ q (n + y) ∙ ap foldOf (back n y w)
   where

@@ -16,6 +16,11 @@ use Rattle.measurement.specs.declared.IpVersion.the-variants.{V4, V6}
 unfoldable pub versionNumbered : ℕ → IpVersion
 versionNumbered n = elim (eqb n 4) [ true ↦ V4 | false ↦ V6 ]
 
+-- The number of a version, as the IP header has it.
+abbrev pub versionNumber : IpVersion → ℕ
+versionNumber V4 = 4
+versionNumber V6 = 6
+
 -- Addresses: "of an IPv4 address only the first 4 bytes count, and what makes one leaves the rest 0" (document 01).
 unfoldable pub addressLength : IpVersion → ℕ
 addressLength V4 = 4

@@ -137,10 +137,3 @@ pub fn pseudo_header_words(version: IpVersion, src: [u8; 16], dst: [u8; 16], udp
 {
     17 + (udp_length as u64) + address_sum(version, src) + address_sum(version, dst)
 }
-
-// The folded sum of the pseudo-header.
-pub fn pseudo_header_sum(version: IpVersion, src: [u8; 16], dst: [u8; 16], udp_length: u16) -> u16
-    ensures { λ r. ⌜ r ≡ foldOf (sumOf (pseudoHeader version (address version src) (address version dst) «udp_length»)) ⌝ }
-{
-    checksum::fold_u64(pseudo_header_words(version, src, dst, udp_length))
-}

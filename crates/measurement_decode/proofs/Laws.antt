@@ -1,29 +1,35 @@
 -- What the code of the reader computes, in the definitions' terms.
 -- Assumes nothing.
-use Prim.Native.Nat.{ℕ, suc, _+_, _-_, _*_, _%_, _<_, _≤_}
+use Prim.Native.Nat.{ℕ, zero, suc, _+_, _-_, _*_, _/_, _<_, _≤_}
 use native.Mathlib.Omega.{arith}
 use native.Mathlib.Nat.{min-le-left, add-zero}
 use mathlib.Core.Path.{_≡_, refl, sym, ap, ap₂, _∙_}
 use mathlib.Core.List.{List, [], _∷_, _++_}
 use mathlib.Core.Bool.{Bool, true, false, not}
+use mathlib.Core.Logic.{_⊎_, inl, inr}
 use lib.Dec.{eqb}
 use lib.ListN.{length, take, drop, getD, replicate, length-take, length-drop}
 use borrow.Author.Tests.{eq-eqb, ne-eqb, eqb-true, eqb-false}
-use Rattle.error.specs.Outcome.{Outcome, refused, gives}
-use Rattle.error.proofs.Tests.{differs, equals}
-use Rattle.field.specs.Field.{number, bytesAt, field}
-use Rattle.field.proofs.Fields.{front-bytes, bytesAt-drop}
+use Rattle.error.specs.Outcome.{Outcome, refused, gives, outcomeNumber}
+use Rattle.field.specs.Field.{bytesAt, field}
+use Rattle.field.proofs.Fields.{front-bytes, length-bytesAt, bytesAt-drop, bytesAt-take}
 use Rattle.checksum.specs.Sum.{sumOf, foldOf, checksumOf}
-use Rattle.checksum.proofs.Carries.{fold-add, fold-low}
+use Rattle.checksum.proofs.Carries.{fold-low}
 use Rattle.checksum.proofs.Sums.{sum-append}
-use Rattle.measurement.specs.Packet.{addressLength, address, padded, pseudoHeader}
-use Rattle.measurement.specs.Read.{covered, sumWrong, readUdp}
+use Rattle.measurement.specs.Packet.{versionNumbered, versionNumber, addressLength, padded, pseudoHeader}
+use Rattle.measurement.specs.Read.{covered, payload, lengthWrong, sumWrong, tpduOf, readUdp, ihl, readOf}
 use Rattle.measurement.specs.Answer.{decodeResult}
 use Rattle.measurement.specs.declared.DecodedTpdu.{DecodedTpdu}
+use Rattle.measurement.specs.declared.DecodeResult.{DecodeResult}
+use Rattle.measurement.specs.declared.Decoding.{Decoding}
 use Rattle.measurement.specs.declared.Decoding.the-variants.{Accepted}
 use Rattle.measurement.specs.declared.IpVersion.{IpVersion}
 use Rattle.measurement.specs.declared.IpVersion.the-variants.{V4, V6}
-use Rattle.measurement.proofs.Pseudo.{pseudo-even, address-length}
+use Rattle.measurement.proofs.Accept.{part-accepted, accepted, Given, given}
+use Rattle.measurement.proofs.Pseudo.{pseudo-even, pseudo-sum, Folds, folds-both}
+use Rattle.measurement_decode.specs.Part.{Addresses, HasProbe}
+use Rattle.measurement_decode.specs.Numbers.{tpduNumbers, sourceLeft, destinationLeft, decodingNumbered}
+use Rattle.measurement_decode.specs.declared.TpduNumbers.{TpduNumbers}
 
 -- 8 bytes, one by one
 pub eight : (s : List ℕ) (at : ℕ) {a b c d e f g h : ℕ}
@@ -43,14 +49,17 @@ eight s at p0 p1 p2 p3 p4 p5 p6 p7 =
     place : (k m : ℕ) → at + k ≡ m → at + k ≡ m
     place k m e = e
 
--- the sum that is tested: of the pseudo-header, folded, and then of the part
-pub sum-tested : (v : IpVersion) (src dst u : List ℕ) {p s : ℕ} → p ≡ foldOf (sumOf (pseudoHeader v (address v src) (address v dst) (length u)))
-    → s ≡ foldOf (p + sumOf u) → not (eqb s 65535) ≡ sumWrong v (address v src) (address v dst) u
+-- the sum that is tested: of the addresses, the rest of the pseudo-header, and the part
+pub sum-tested : (v : IpVersion) (src dst u : List ℕ) {addresses s : ℕ} → Addresses v src dst addresses → length u < 65536
+    → s ≡ foldOf (addresses + 17 + length u + sumOf u) → not (eqb s 65535) ≡ sumWrong v src dst u
 unfolding sumWrong covered checksumOf
-sum-tested v src dst u {p} {s} ep es =
-    let ph = pseudoHeader v (address v src) (address v dst) (length u) in
-    let even = pseudo-even v (address v src) (address v dst) (length u) (address-length v src) (address-length v dst) in
-    let e : s ≡ foldOf (sumOf (ph ++ u)) = es ∙ ap (λ (n : ℕ). foldOf (n + sumOf u)) ep ∙ fold-add (sumOf ph) (sumOf u) ∙ ap foldOf (sym (sum-append ph u even)) in
+sum-tested v src dst u {addresses} {s} a fits es =
+    let ph = pseudoHeader v src dst (length u) in
+    let even = pseudo-even v src dst (length u) (a .source) (a .destination) in
+    let rest = 17 + length u + sumOf u in
+    let last : addresses + 17 + length u + sumOf u ≡ rest + addresses = omega arith in
+    let whole : rest + (sumOf src + sumOf dst) ≡ sumOf (ph ++ u) = omega (arith, pseudo-sum v src dst (length u) (a .source) (a .destination) fits, sum-append ph u even) in
+    let e : s ≡ foldOf (sumOf (ph ++ u)) = es ∙ ap foldOf last ∙ a .folds rest ∙ ap foldOf whole in
     ap (λ (n : ℕ). not (eqb n 65535)) e ∙ ap not (complement (foldOf (sumOf (ph ++ u))) (fold-low (sumOf (ph ++ u))))
   where
     complement : (n : ℕ) → n < 65536 → eqb n 65535 ≡ eqb (65535 - n) 0
@@ -60,54 +69,19 @@ sum-tested v src dst u {p} {s} ep es =
         go true e = let q = eqb-true n 65535 e in e ∙ sym (eq-eqb (65535 - n) 0 (omega arith))
         go false e = e ∙ sym (ne-eqb (65535 - n) 0 (λ z. eqb-false n 65535 e (omega arith)))
 
+-- what a number from the judge says of an outcome
+pub refused-by : {A : Type 0} (o : Outcome A) {n : ℕ} → n ≡ outcomeNumber o → (n ≡ 0 → ⊥) → o ≡ refused n
+refused-by (refused m) e h = ap refused (sym e)
+refused-by (gives x) e h = absurd (h e)
+
 -- a part of at most so many bytes
 pub part-short : (m : ℕ) (l : List ℕ) → m < 65536 → length (take m l) < 65536
 part-short m l h = simp length-take (omega (arith, min-le-left m (length l)))
 
--- the addresses of a flow that was read
-pub ipv4-again : (l : List ℕ) (at : ℕ) → address V4 (padded (bytesAt 4 at l)) ≡ bytesAt 4 at l
-unfolding address addressLength padded
-ipv4-again l at = refl
-
-pub ipv6-again : (l : List ℕ) (at : ℕ) → address V6 (bytesAt 16 at l) ≡ bytesAt 16 at l
-unfolding address addressLength
-ipv6-again l at = refl
-
-pub ipv6-whole : (l : List ℕ) (at : ℕ) → padded (address V6 (bytesAt 16 at l)) ≡ bytesAt 16 at l
-unfolding address addressLength padded
-ipv6-whole l at = refl
-
--- what the UDP reader gave, with the addresses as the definitions have them
-pub read-at : (v : IpVersion) (s d x y u : List ℕ) → address v s ≡ x → address v d ≡ y
-    → decodeResult (readUdp v (address v s) (address v d) u) ≡ decodeResult (readUdp v x y u)
-read-at v s d x y u p q = ap₂ (λ (x y : List ℕ). decodeResult (readUdp v x y u)) p q
-
--- the sum at the version that a match has told
-pub at-version : {v w : IpVersion} {t : Bool} (src dst u : List ℕ) {b : Bool} → v ≡ w → b ≡ sumWrong v src dst u → b ≡ t → sumWrong w src dst u ≡ t
-at-version src dst u e p q = ap (λ (x : IpVersion). sumWrong x src dst u) (sym e) ∙ sym p ∙ q
-
--- what the probe's reader answers, with the addresses as they are lent
-pub answer-is : (v : IpVersion) (x y s d : List ℕ) (a b q t : ℕ) {o : Outcome DecodedTpdu} → padded x ≡ s → padded y ≡ d
-    → gives (record {
-      flow = record { version = v; src = padded x; dst = padded y; «src_port» = a; «dst_port» = b };
-      measurement = record { sequence = q; «send_timestamp_ns» = t };
-    }) ≡ o
-    → record {
-      decoding = Accepted;
-      tpdu = record {
-        flow = record { version = v; src = s; dst = d; «src_port» = a; «dst_port» = b };
-        measurement = record { sequence = q; «send_timestamp_ns» = t };
-      };
-    } ≡ decodeResult o
-unfolding decodeResult
-answer-is v x y s d a b q t es ed e =
-    ap₂ (λ (s d : List ℕ). record {
-      decoding = Accepted;
-      tpdu = record {
-        flow = record { version = v; src = s; dst = d; «src_port» = a; «dst_port» = b };
-        measurement = record { sequence = q; «send_timestamp_ns» = t };
-      };
-    }) (sym es) (sym ed) ∙ ap decodeResult e
+-- the front of a part of a packet
+pub part-front : (width at end : ℕ) (l : List ℕ) → at + width ≤ end → bytesAt width 0 (take (end - at) (drop at l)) ≡ bytesAt width at l
+part-front width at end l h =
+    bytesAt-take width (end - at) 0 (drop at l) (omega arith) ∙ sym (bytesAt-drop width at 0 l) ∙ ap (λ (n : ℕ). bytesAt width n l) (add-zero at)
 
 -- addresses, byte by byte and by a copy
 place : (l : List ℕ) (m n : ℕ) → m ≡ n → getD l m 0 ≡ getD l n 0
@@ -130,3 +104,127 @@ ipv6-copied l part at h e =
     e ∙ ap (λ (n : ℕ). take n (drop at l)) k ∙ front-bytes 16 (drop at l) (simp length-drop (omega arith))
     ∙ sym (bytesAt-drop 16 at 0 l) ∙ ap (λ (n : ℕ). bytesAt 16 n l) (add-zero at) in
     ap (λ (x : List ℕ). take (length x) x ++ drop (length x) (replicate 16 0)) p
+
+-- the two addresses of a packet, which stand one behind the other
+pub addresses : (v : IpVersion) (p : List ℕ) (a b c x y : ℕ) → a + addressLength v ≤ b → b + addressLength v ≤ c
+    → Folds x (sumOf (bytesAt (addressLength v) 0 (take (b - a) (drop a p)))) → Folds y (sumOf (bytesAt (addressLength v) 0 (take (c - b) (drop b p))))
+    → Addresses v (bytesAt (addressLength v) a p) (bytesAt (addressLength v) b p) (x + y)
+addresses v p a b c x y h k ex ey =
+    let width = addressLength v in
+    let at : ℕ → ℕ = λ i. sumOf (bytesAt width i p) in
+    record {
+      source = length-bytesAt width a p;
+      destination = length-bytesAt width b p;
+      folds = folds-both x (at a) y (at b) (λ n. ex n ∙ ap (λ (l : List ℕ). foldOf (n + sumOf l)) (part-front width a b p h)) (λ n. ey n ∙ ap (λ (l : List ℕ). foldOf (n + sumOf l)) (part-front width b c p k));
+    }
+
+-- a part that was accepted, under another name; and its payload as the code cuts it
+pub has-probe : {u v : List ℕ} → u ≡ v → HasProbe v → HasProbe u
+has-probe e h = record { right = ap lengthWrong e ∙ h .right; long = omega (arith, ap (λ (l : List ℕ). length (payload l)) e, h .long) }
+
+pub payload-long : (u : List ℕ) {n : ℕ} → n ≡ field 2 4 u → HasProbe u → 24 ≤ length (take (n - 8) (drop 8 u))
+unfolding payload
+payload-long u e h = omega (arith, ap (λ (k : ℕ). length (take (k - 8) (drop 8 u))) e, h .long)
+
+-- the values of a part, as the code reads them
+pub values-are : (v : IpVersion) (src dst u : List ℕ) {n a b s t w : ℕ} → n ≡ field 2 4 u → a ≡ field 2 0 u → b ≡ field 2 2 u
+    → s ≡ field 8 8 (take (n - 8) (drop 8 u)) → t ≡ field 8 16 (take (n - 8) (drop 8 u)) → w ≡ versionNumber v
+    → record { sequence = s; number = 0; «src_port» = a; «send_timestamp_ns» = t; version = w; «dst_port» = b } ≡ tpduNumbers (gives (tpduOf v src dst u))
+unfolding tpduNumbers payload
+values-are v src dst u {n} {a} {b} {s} {t} {w} en ea eb es et ew =
+    let body : ℕ → List ℕ = λ k. take (k - 8) (drop 8 u) in
+    let es' = es ∙ ap (λ (k : ℕ). field 8 8 (body k)) en in
+    let et' = et ∙ ap (λ (k : ℕ). field 8 16 (body k)) en in
+    ap₂ (λ (a b : ℕ). made s a t w b) ea eb ∙ ap₂ (λ (s t : ℕ). made s (field 2 0 u) t w (field 2 2 u)) es' et'
+    ∙ ap (λ (w : ℕ). made (field 8 8 (payload u)) (field 2 0 u) (field 8 16 (payload u)) w (field 2 2 u)) ew
+  where
+    made : ℕ → ℕ → ℕ → ℕ → ℕ → TpduNumbers
+    made s a t w b = record { sequence = s; number = 0; «src_port» = a; «send_timestamp_ns» = t; version = w; «dst_port» = b }
+
+-- an IPv4 packet whose number is 0, and an IPv6 packet: where its part lies, and what it reads as
+pub record Ipv4 (p : List ℕ) : Type 0 where
+  pub low : 5 ≤ ihl p
+  pub fits : ihl p * 4 + 8 ≤ field 2 2 p
+  pub within : field 2 2 p ≤ length p
+  pub part : HasProbe (take (field 2 2 p - ihl p * 4) (drop (ihl p * 4) p))
+  pub is : readOf p ≡ gives (tpduOf V4 (bytesAt 4 12 p) (bytesAt 4 16 p) (take (field 2 2 p - ihl p * 4) (drop (ihl p * 4) p)))
+
+pub record Ipv6 (p : List ℕ) : Type 0 where
+  pub within : field 2 4 p + 40 ≤ length p
+  pub part : HasProbe (take (field 2 4 p) (drop 40 p))
+  pub is : readOf p ≡ gives (tpduOf V6 (bytesAt 16 8 p) (bytesAt 16 24 p) (take (field 2 4 p) (drop 40 p)))
+
+module _ (p : List ℕ) {n : ℕ} (judged : n ≡ outcomeNumber (readOf p)) (zero-n : n ≡ 0) where
+  read : Given p
+  read = given p (sym judged ∙ zero-n)
+
+  has : (v : IpVersion) (src dst u : List ℕ) → readUdp v src dst u ≡ gives (read .tpdu) → HasProbe u
+  has v src dst u e = let a = part-accepted src dst u (read .tpdu) v e in record { right = a .right; long = a .long }
+
+  either : ((getD p 0 0 / 16 ≡ 4) × Ipv4 p) ⊎ ((getD p 0 0 / 16 ≡ 6) × Ipv6 p)
+  either = elim (accepted p (read .tpdu) (read .is)) [
+    | inl q ↦ inl (
+      q .0,
+      record {
+        low = q .1 .low;
+        fits = q .1 .fits;
+        within = q .1 .within;
+        part = has V4 _ _ _ (q .1 .part);
+        is = read .is ∙ ap gives (part-accepted _ _ _ (read .tpdu) V4 (q .1 .part) .is);
+      },
+    )
+    | inr q ↦ inr (q .0, record { within = q .1 .within; part = has V6 _ _ _ (q .1 .part); is = read .is ∙ ap gives (part-accepted _ _ _ (read .tpdu) V6 (q .1 .part) .is) })
+  ]
+
+  pub some-bytes : 0 < length p
+  some-bytes = elim either [ inl q ↦ omega (arith, q .1 .fits, q .1 .within) | inr q ↦ omega (arith, q .1 .within) ]
+
+  pub as-ipv4 : getD p 0 0 / 16 ≡ 4 → Ipv4 p
+  as-ipv4 h = elim either [ inl q ↦ q .1 | inr q ↦ absurd (omega (arith, q .0)) ]
+
+  pub as-ipv6 : (getD p 0 0 / 16 ≡ 4 → ⊥) → Ipv6 p
+  as-ipv6 h = elim either [ inl q ↦ absurd (h (q .0)) | inr q ↦ q .1 ]
+
+-- the part of an IPv4 packet, and of an IPv6 packet, as the code cuts it
+pub ipv4-part : (p : List ℕ) {n k : ℕ} → n ≡ field 2 2 p → k ≡ ihl p → take (n - k * 4) (drop (k * 4) p) ≡ take (field 2 2 p - ihl p * 4) (drop (ihl p * 4) p)
+ipv4-part p en ek = ap₂ (λ (n k : ℕ). take (n - k * 4) (drop (k * 4) p)) en ek
+
+pub ipv6-part : (p : List ℕ) {n : ℕ} → n ≡ field 2 4 p → take (n + 40 - 40) (drop 40 p) ≡ take (field 2 4 p) (drop 40 p)
+ipv6-part p {n} en = let e : n + 40 - 40 ≡ field 2 4 p = omega arith in ap (λ (n : ℕ). take n (drop 40 p)) e
+
+pub padded-whole : (l : List ℕ) (at : ℕ) → bytesAt 16 at l ≡ padded (bytesAt 16 at l)
+unfolding padded
+padded-whole l at = refl
+
+-- a version from its number
+pub version-again : (v : IpVersion) → versionNumbered (versionNumber v) ≡ v
+unfolding versionNumbered
+version-again V4 = refl
+version-again V6 = refl
+
+-- the reader's answer, put together from the numbers and the lent addresses
+module _ (x : TpduNumbers) (d : Decoding) (v : IpVersion) (s t : List ℕ) where
+  abbrev pub answerOf : DecodeResult
+  answerOf = record {
+    decoding = d;
+    tpdu = record {
+      flow = record { version = v; src = s; dst = t; «src_port» = x .«src_port»; «dst_port» = x .«dst_port» };
+      measurement = record { sequence = x .sequence; «send_timestamp_ns» = x .«send_timestamp_ns» };
+    };
+  }
+
+pub answered : (o : Outcome DecodedTpdu) → (o ≡ refused 0 → ⊥) → {x : TpduNumbers} {d : Decoding} {v : IpVersion} {s t : List ℕ} → x ≡ tpduNumbers o
+    → d ≡ decodingNumbered (x .number) → v ≡ versionNumbered (x .version) → s ≡ sourceLeft o (replicate 16 0) → t ≡ destinationLeft o (replicate 16 0)
+    → answerOf x d v s t ≡ decodeResult o
+unfolding tpduNumbers decodingNumbered versionNumbered sourceLeft destinationLeft decodeResult
+answered o h {x} {d} {v} {s} {t} ex ed ev es et =
+    let n = tpduNumbers o in
+    ap (λ (x : TpduNumbers). answerOf x d v s t) ex
+    ∙ ap₂ (λ (d : Decoding) (v : IpVersion). answerOf n d v s t) (ed ∙ ap (λ (x : TpduNumbers). decodingNumbered (x .number)) ex) (ev ∙ ap (λ (x : TpduNumbers). versionNumbered (x .version)) ex)
+    ∙ ap₂ (λ (s t : List ℕ). answerOf n (decodingNumbered (n .number)) (versionNumbered (n .version)) s t) es et ∙ go o h
+  where
+    go : (o : Outcome DecodedTpdu) → (o ≡ refused 0 → ⊥) → let n = tpduNumbers o in
+        answerOf n (decodingNumbered (n .number)) (versionNumbered (n .version)) (sourceLeft o (replicate 16 0)) (destinationLeft o (replicate 16 0)) ≡ decodeResult o
+    go (refused zero) h = absurd (h refl)
+    go (refused (suc n)) h = refl
+    go (gives t) h = ap (λ (v : IpVersion). answerOf (tpduNumbers (gives t)) Accepted v (t .flow .src) (t .flow .dst)) (version-again (t .flow .version))

@@ -1,2 +1,3 @@
--- The laws that the reader's functions cite.
+-- The laws that the reader's functions cite, and what their callers know.
+pub mod Callers
 pub mod Laws

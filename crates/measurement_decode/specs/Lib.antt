@@ -1,2 +1,3 @@
--- What the reader's helpers are handed.
+-- What the reader's helpers are handed, and its answer in numbers.
+pub mod Numbers
 pub mod Part

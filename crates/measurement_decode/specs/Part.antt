@@ -1,15 +1,27 @@
--- What the UDP reader is handed: addresses in the 16 bytes of a flow, with zeros behind an IPv4 address, and the part of the T-PDU that stands
--- behind the IP header. For the contracts of private functions.
+-- What the reader's helpers are handed. For the contracts of private functions.
 -- Assumes nothing.
-use Prim.Native.Nat.{ℕ, _<_, _≤_}
+use Prim.Native.Nat.{ℕ, _+_, _<_, _≤_}
 use mathlib.Core.Path.{_≡_}
 use mathlib.Core.List.{List}
+use mathlib.Core.Bool.{false}
 use lib.ListN.{length}
-use Rattle.measurement.specs.Packet.{address, padded}
+use Rattle.checksum.specs.Sum.{sumOf, foldOf}
+use Rattle.measurement.specs.Packet.{addressLength}
+use Rattle.measurement.specs.Read.{payload, lengthWrong}
 use Rattle.measurement.specs.declared.IpVersion.{IpVersion}
 
-pub record Part (version : IpVersion) (src dst udp : List ℕ) : Type 0 where
-  pub source : padded (address version src) ≡ src
-  pub destination : padded (address version dst) ≡ dst
+-- The part of the T-PDU that stands behind the IP header: room for a UDP header, and a length that a UDP length can count.
+pub record Part (udp : List ℕ) : Type 0 where
   pub has-header : 8 ≤ length udp
   pub short : length udp < 65536
+
+-- A number that stands for the words of a packet's two addresses, in any sum that is folded.
+pub record Addresses (v : IpVersion) (src dst : List ℕ) (sum : ℕ) : Type 0 where
+  pub source : length src ≡ addressLength v
+  pub destination : length dst ≡ addressLength v
+  pub folds : (n : ℕ) → foldOf (n + sum) ≡ foldOf (n + (sumOf src + sumOf dst))
+
+-- A part that nothing refuses: it has a whole probe.
+pub record HasProbe (udp : List ℕ) : Type 0 where
+  pub right : lengthWrong udp ≡ false
+  pub long : 24 ≤ length (payload udp)

@@ -1,5 +1,6 @@
-// Reading a measurement T-PDU (leaf 4; `decode_measurement_tpdu` of the Rust's measurement.rs). Each test stands in the order of the
-// rows in measurement's specs/Read.antt.
+// Reading a measurement T-PDU (leaf 4; `decode_measurement_tpdu` of the Rust's measurement.rs). A T-PDU is judged first, which comes to one
+// number, and its values are read where nothing is refused: a struct that is handed up from function to function is copied each time. Each
+// test stands in the order of the rows in measurement's specs/Read.antt. A slice that is handed on is sliced anew, as in `checksum::sum`.
 use measurement::DecodeResult;
 use measurement::DecodedTpdu;
 use measurement::Decoding;
@@ -7,15 +8,31 @@ use measurement::InnerIpFlow;
 use measurement::IpVersion;
 use measurement::MeasurementHeader;
 ghost use mathlib.Core.Path.{_≡_};
-ghost use Prim.Native.Nat.{_+_, _*_, _%_, _<_, _≤_};
+ghost use Prim.Native.Nat.{ℕ, _+_, _*_, _%_, _^_, _<_, _≤_};
 ghost use mathlib.Core.Bool.{false};
+ghost use mathlib.Core.List.{List};
 ghost use lib.ListN.{length};
-ghost use Rattle.error.specs.Outcome.{refused};
+ghost use Rattle.error.specs.Outcome.{refused, gives, outcomeNumber};
 ghost use Rattle.field.specs.Field.{bytesAt, field};
-ghost use Rattle.measurement.specs.Packet.{address, padded};
-ghost use Rattle.measurement.specs.Read.{lengthWrong, sumWrong, readProbe, readUdp, readIpv4, readIpv6, readOf};
+ghost use Rattle.checksum.specs.Sum.{sumOf, foldOf};
+ghost use Rattle.measurement.specs.Packet.{versionNumber, padded};
+ghost use Rattle.measurement.specs.Read.{payload, lengthWrong, sumWrong, tpduOf, readProbe, readUdp, readIpv4, readIpv6, readOf};
 ghost use Rattle.measurement.specs.Answer.{decodeResult};
-ghost use Rattle.measurement_decode.specs.Part.{Part};
+ghost use Rattle.measurement.specs.declared.IpVersion.{IpVersion};
+ghost use Rattle.measurement.specs.declared.IpVersion.the-variants.{V4, V6};
+ghost use Rattle.measurement_decode.specs.Part.{Part, Addresses, HasProbe};
+ghost use Rattle.measurement_decode.specs.Numbers.{decodingNumbered, tpduNumbers, sourceLeft, destinationLeft};
+
+// What reading answers in numbers: 0 and the values, or a refusal's number and zeros beside version 4. Two fields of one width never stand
+// side by side: such a pair is copied by one wide load, and that waits for the two stores before it.
+pub struct TpduNumbers {
+    pub sequence: u64,
+    pub number: u8,
+    pub src_port: u16,
+    pub send_timestamp_ns: u64,
+    pub version: u8,
+    pub dst_port: u16,
+}
 
 // A byte as a wide number.
 fn wide(x: u8) -> u64
@@ -40,28 +57,6 @@ fn read_u64(bytes: &[u8], at: usize) -> u64
     high + low
 }
 
-// A refusal: its number, and zeros.
-fn refusal(number: u8) -> DecodeResult
-    ensures { λ r. ⌜ r ≡ decodeResult (refused number) ⌝ }
-{
-    DecodeResult {
-        decoding: Decoding::Refused(number),
-        tpdu: DecodedTpdu {
-            flow: InnerIpFlow {
-                version: IpVersion::V4,
-                src: [0; 16],
-                dst: [0; 16],
-                src_port: 0,
-                dst_port: 0,
-            },
-            measurement: MeasurementHeader {
-                sequence: 0,
-                send_timestamp_ns: 0,
-            },
-        },
-    }
-}
-
 // Whether the UDP length is under 8 or past its part.
 fn length_wrong(udp: &[u8]) -> bool
     requires { ⌜ 8 ≤ length (now udp) ⌝ }
@@ -74,78 +69,82 @@ fn length_wrong(udp: &[u8]) -> bool
     udp.len() < n
 }
 
-// Whether the sum over the pseudo-header and the part is wrong.
-fn sum_wrong(version: IpVersion, src: [u8; 16], dst: [u8; 16], udp: &[u8]) -> bool
-    requires { ⌜ length (now udp) < 65536 ⌝ }
-    ensures { λ r. ⌜ r ≡ sumWrong version (address version src) (address version dst) (now (udp .entry)) ⌝ }
+// A number that folds, in any sum, as the words of an IPv4 address do: four bytes at once.
+fn ipv4_address_sum(address: &[u8]) -> u64
+    requires { ⌜ 4 ≤ length (now address) ⌝ }
+    ensures { λ r. ⌜ ((n : ℕ) → foldOf (n + r) ≡ foldOf (n + sumOf (bytesAt 4 0 (now (address .entry))))) × (r < 2 ^ 34) ⌝ }
 {
-    let length = udp.len() as u16;
-    let pseudo = measurement::pseudo_header_sum(version, src, dst, length);
-    checksum::sum(pseudo, udp) != 65535
+    field::double_word(address[0], address[1], address[2], address[3]) as u64
 }
 
-// The ports and the probe of a part whose UDP length is right.
-fn read_probe(version: IpVersion, src: [u8; 16], dst: [u8; 16], udp: &[u8]) -> DecodeResult
-    requires { ⌜ Part version src dst (now udp) × (lengthWrong (now udp) ≡ false) ⌝ }
-    ensures { λ r. ⌜ r ≡ decodeResult (readProbe version (address version src) (address version dst) (now (udp .entry))) ⌝ }
+// The same of an IPv6 address.
+fn ipv6_address_sum(address: &[u8]) -> u64
+    requires { ⌜ 16 ≤ length (now address) ⌝ }
+    ensures { λ r. ⌜ ((n : ℕ) → foldOf (n + r) ≡ foldOf (n + sumOf (bytesAt 16 0 (now (address .entry))))) × (r < 2 ^ 34) ⌝ }
+{
+    (field::double_word(address[0], address[1], address[2], address[3]) as u64)
+        + (field::double_word(address[4], address[5], address[6], address[7]) as u64)
+        + (field::double_word(address[8], address[9], address[10], address[11]) as u64)
+        + (field::double_word(address[12], address[13], address[14], address[15]) as u64)
+}
+
+// Whether the sum over the pseudo-header and the part is wrong. `addresses` folds as the words of both addresses do.
+fn sum_wrong(addresses: u64, udp: &[u8]) -> bool
+    requires { ⌜ (addresses < 2 ^ 35) × (length (now udp) < 65536) ⌝ }
+    ensures { λ r. ⌜ ((v : IpVersion) (src dst : List ℕ) → Addresses v src dst addresses → r ≡ sumWrong v src dst (now (udp .entry))) ⌝ }
+{
+    let length = udp.len() as u64;
+    checksum::sum(addresses + 17 + length, &udp[..]) != 65535
+}
+
+// 13 and 14, for a part whose UDP length is right.
+fn judge_probe(udp: &[u8]) -> u8
+    requires { ⌜ Part (now udp) × (lengthWrong (now udp) ≡ false) ⌝ }
+    ensures { λ r. ⌜ ((v : IpVersion) (src dst : List ℕ) → r ≡ outcomeNumber (readProbe v src dst (now (udp .entry)))) ⌝ }
 {
     let end = field::word(udp[4], udp[5]) as usize;
     let payload = &udp[8..end];
     if payload.len() < 24 {
-        return refusal(error::TRUNCATED_MEASUREMENT_HEADER);
+        return error::TRUNCATED_MEASUREMENT_HEADER;
     }
     if read_u64(payload, 0) != 0x4f50_4344_5054_4b31 {
-        return refusal(error::MEASUREMENT_MAGIC_MISMATCH);
+        return error::MEASUREMENT_MAGIC_MISMATCH;
     }
-    DecodeResult {
-        decoding: Decoding::Accepted,
-        tpdu: DecodedTpdu {
-            flow: InnerIpFlow {
-                version: version,
-                src: src,
-                dst: dst,
-                src_port: field::word(udp[0], udp[1]),
-                dst_port: field::word(udp[2], udp[3]),
-            },
-            measurement: MeasurementHeader {
-                sequence: read_u64(payload, 8),
-                send_timestamp_ns: read_u64(payload, 16),
-            },
-        },
-    }
+    0
 }
 
-// The UDP reader, for both versions: the part that starts after the IP header.
-fn read_udp(version: IpVersion, src: [u8; 16], dst: [u8; 16], udp: &[u8]) -> DecodeResult
-    requires { ⌜ Part version src dst (now udp) ⌝ }
-    ensures { λ r. ⌜ r ≡ decodeResult (readUdp version (address version src) (address version dst) (now (udp .entry))) ⌝ }
+// The part of an IPv4 packet that starts after its header.
+fn judge_ipv4_udp(addresses: u64, udp: &[u8]) -> u8
+    requires { ⌜ (addresses < 2 ^ 35) × Part (now udp) ⌝ }
+    ensures { λ r. ⌜ ((src dst : List ℕ) → Addresses V4 src dst addresses → r ≡ outcomeNumber (readUdp V4 src dst (now (udp .entry)))) ⌝ }
 {
-    match version {
-        IpVersion::V4 => {
-            if length_wrong(udp) {
-                return refusal(error::INVALID_UDP_LENGTH);
-            }
-            if field::word(udp[6], udp[7]) == 0 {
-                return read_probe(version, src, dst, udp);
-            }
-            if sum_wrong(version, src, dst, udp) {
-                return refusal(error::INVALID_UDP_CHECKSUM);
-            }
-            read_probe(version, src, dst, udp)
-        }
-        IpVersion::V6 => {
-            if field::word(udp[6], udp[7]) == 0 {
-                return refusal(error::IPV6_UDP_CHECKSUM_IS_ZERO);
-            }
-            if sum_wrong(version, src, dst, udp) {
-                return refusal(error::INVALID_UDP_CHECKSUM);
-            }
-            if length_wrong(udp) {
-                return refusal(error::INVALID_UDP_LENGTH);
-            }
-            read_probe(version, src, dst, udp)
-        }
+    if length_wrong(&udp[..]) {
+        return error::INVALID_UDP_LENGTH;
     }
+    if field::word(udp[6], udp[7]) == 0 {
+        return judge_probe(&udp[..]);
+    }
+    if sum_wrong(addresses, &udp[..]) {
+        return error::INVALID_UDP_CHECKSUM;
+    }
+    judge_probe(&udp[..])
+}
+
+// The part of an IPv6 packet that starts after its header.
+fn judge_ipv6_udp(addresses: u64, udp: &[u8]) -> u8
+    requires { ⌜ (addresses < 2 ^ 35) × Part (now udp) ⌝ }
+    ensures { λ r. ⌜ ((src dst : List ℕ) → Addresses V6 src dst addresses → r ≡ outcomeNumber (readUdp V6 src dst (now (udp .entry)))) ⌝ }
+{
+    if field::word(udp[6], udp[7]) == 0 {
+        return error::IPV6_UDP_CHECKSUM_IS_ZERO;
+    }
+    if sum_wrong(addresses, &udp[..]) {
+        return error::INVALID_UDP_CHECKSUM;
+    }
+    if length_wrong(&udp[..]) {
+        return error::INVALID_UDP_LENGTH;
+    }
+    judge_probe(&udp[..])
 }
 
 // The lower four bits of a byte: of the first one, the IPv4 header's length in words.
@@ -153,6 +152,73 @@ fn low_half(byte: u8) -> usize
     ensures { λ r. ⌜ (r ≡ byte % 16) × (r < 16) ⌝ }
 {
     (byte & 0x0f) as usize
+}
+
+// IPv4: options are stepped over, and what lies past the total length is ignored.
+fn judge_ipv4(tpdu: &[u8]) -> u8
+    ensures { λ r. ⌜ r ≡ outcomeNumber (readIpv4 (now (tpdu .entry))) ⌝ }
+{
+    if tpdu.len() < 20 {
+        return error::TRUNCATED_IPV4_HEADER;
+    }
+    let ihl = low_half(tpdu[0]);
+    if ihl < 5 {
+        return error::INVALID_IPV4_IHL;
+    }
+    let start = ihl * 4;
+    if tpdu.len() < start + 8 {
+        return error::INVALID_IPV4_IHL;
+    }
+    let end = field::word(tpdu[2], tpdu[3]) as usize;
+    if end < start + 8 {
+        return error::INVALID_IPV4_TOTAL_LENGTH;
+    }
+    if tpdu.len() < end {
+        return error::INVALID_IPV4_TOTAL_LENGTH;
+    }
+    if tpdu[9] != 17 {
+        return error::PAYLOAD_IS_NOT_UDP;
+    }
+    if checksum::checksum(&tpdu[..start]) != 0 {
+        return error::INVALID_IPV4_HEADER_CHECKSUM;
+    }
+    let addresses = ipv4_address_sum(&tpdu[12..16]) + ipv4_address_sum(&tpdu[16..20]);
+    judge_ipv4_udp(addresses, &tpdu[start..end])
+}
+
+fn judge_ipv6(tpdu: &[u8]) -> u8
+    ensures { λ r. ⌜ r ≡ outcomeNumber (readIpv6 (now (tpdu .entry))) ⌝ }
+{
+    if tpdu.len() < 48 {
+        return error::TRUNCATED_IPV6_UDP_PACKET;
+    }
+    if tpdu[6] != 17 {
+        return error::PAYLOAD_IS_NOT_UDP;
+    }
+    let length = field::word(tpdu[4], tpdu[5]) as usize;
+    if length < 8 {
+        return error::INVALID_IPV6_PAYLOAD_LENGTH;
+    }
+    let end = length + 40;
+    if tpdu.len() < end {
+        return error::INVALID_IPV6_PAYLOAD_LENGTH;
+    }
+    let addresses = ipv6_address_sum(&tpdu[8..24]) + ipv6_address_sum(&tpdu[24..40]);
+    judge_ipv6_udp(addresses, &tpdu[40..end])
+}
+
+// The number of the first cause of refusal, or 0.
+fn judge(tpdu: &[u8]) -> u8
+    ensures { λ r. ⌜ r ≡ outcomeNumber (readOf (now (tpdu .entry))) ⌝ }
+{
+    if tpdu.len() == 0 {
+        return error::TRUNCATED_IP_HEADER;
+    }
+    match tpdu[0] >> 4 {
+        4 => judge_ipv4(&tpdu[..]),
+        6 => judge_ipv6(&tpdu[..]),
+        _ => error::UNSUPPORTED_IP_VERSION,
+    }
 }
 
 // The IPv4 address at a place, in the 16 bytes of a flow: the rest is 0.
@@ -179,71 +245,91 @@ fn ipv6_address(tpdu: &[u8], at: usize) -> [u8; 16]
     address
 }
 
-// IPv4: options are stepped over, and what lies past the total length is ignored.
-fn decode_ipv4(tpdu: &[u8]) -> DecodeResult
-    ensures { λ r. ⌜ r ≡ decodeResult (readIpv4 (now (tpdu .entry))) ⌝ }
+// The values of a part that was accepted.
+fn values(version: u8, udp: &[u8]) -> TpduNumbers
+    requires { ⌜ HasProbe (now udp) ⌝ }
+    ensures { λ r. ⌜ ((v : IpVersion) (src dst : List ℕ) → version ≡ versionNumber v → r ≡ tpduNumbers (gives (tpduOf v src dst (now (udp .entry))))) ⌝ }
 {
-    if tpdu.len() < 20 {
-        return refusal(error::TRUNCATED_IPV4_HEADER);
+    let end = field::word(udp[4], udp[5]) as usize;
+    let payload = &udp[8..end];
+    TpduNumbers {
+        sequence: read_u64(payload, 8),
+        number: 0,
+        src_port: field::word(udp[0], udp[1]),
+        send_timestamp_ns: read_u64(payload, 16),
+        version: version,
+        dst_port: field::word(udp[2], udp[3]),
     }
-    let ihl = low_half(tpdu[0]);
-    if ihl < 5 {
-        return refusal(error::INVALID_IPV4_IHL);
-    }
-    let start = ihl * 4;
-    if tpdu.len() < start + 8 {
-        return refusal(error::INVALID_IPV4_IHL);
-    }
-    let end = field::word(tpdu[2], tpdu[3]) as usize;
-    if end < start + 8 {
-        return refusal(error::INVALID_IPV4_TOTAL_LENGTH);
-    }
-    if tpdu.len() < end {
-        return refusal(error::INVALID_IPV4_TOTAL_LENGTH);
-    }
-    if tpdu[9] != 17 {
-        return refusal(error::PAYLOAD_IS_NOT_UDP);
-    }
-    if checksum::checksum(&tpdu[..start]) != 0 {
-        return refusal(error::INVALID_IPV4_HEADER_CHECKSUM);
-    }
-    let src = ipv4_address(tpdu, 12);
-    let dst = ipv4_address(tpdu, 16);
-    read_udp(IpVersion::V4, src, dst, &tpdu[start..end])
 }
 
-fn decode_ipv6(tpdu: &[u8]) -> DecodeResult
-    ensures { λ r. ⌜ r ≡ decodeResult (readIpv6 (now (tpdu .entry))) ⌝ }
+// A refusal in numbers.
+fn no_values(number: u8) -> TpduNumbers
+    ensures { λ r. ⌜ r ≡ tpduNumbers (refused number) ⌝ }
 {
-    if tpdu.len() < 48 {
-        return refusal(error::TRUNCATED_IPV6_UDP_PACKET);
+    TpduNumbers {
+        sequence: 0,
+        number: number,
+        src_port: 0,
+        send_timestamp_ns: 0,
+        version: 4,
+        dst_port: 0,
     }
-    if tpdu[6] != 17 {
-        return refusal(error::PAYLOAD_IS_NOT_UDP);
+}
+
+// Reads a T-PDU: its addresses into lent arrays, which a refusal leaves as they were, and the rest in numbers.
+pub fn decode_into(tpdu: &[u8], src: &mut [u8; 16], dst: &mut [u8; 16]) -> TpduNumbers
+    ensures answer { λ r. ⌜ r ≡ tpduNumbers (readOf (now (tpdu .entry))) ⌝ }
+    ensures source { λ _. ⌜ now (src .exit) ≡ sourceLeft (readOf (now (tpdu .entry))) (now (src .entry)) ⌝ }
+    ensures destination { λ _. ⌜ now (dst .exit) ≡ destinationLeft (readOf (now (tpdu .entry))) (now (dst .entry)) ⌝ }
+{
+    let number = judge(&tpdu[..]);
+    if number != 0 {
+        return no_values(number);
     }
-    let length = field::word(tpdu[4], tpdu[5]) as usize;
-    if length < 8 {
-        return refusal(error::INVALID_IPV6_PAYLOAD_LENGTH);
+    if tpdu[0] >> 4 == 4 {
+        *src = ipv4_address(&tpdu[..], 12);
+        *dst = ipv4_address(&tpdu[..], 16);
+        let start = low_half(tpdu[0]) * 4;
+        let end = field::word(tpdu[2], tpdu[3]) as usize;
+        return values(4, &tpdu[start..end]);
     }
-    let end = length + 40;
-    if tpdu.len() < end {
-        return refusal(error::INVALID_IPV6_PAYLOAD_LENGTH);
+    *src = ipv6_address(&tpdu[..], 8);
+    *dst = ipv6_address(&tpdu[..], 24);
+    let end = (field::word(tpdu[4], tpdu[5]) as usize) + 40;
+    values(6, &tpdu[40..end])
+}
+
+// Whether a T-PDU was read, from the number that reading came to.
+fn decoding_of(number: u8) -> Decoding
+    ensures { λ r. ⌜ r ≡ decodingNumbered number ⌝ }
+{
+    if number == 0 {
+        return Decoding::Accepted;
     }
-    let src = ipv6_address(tpdu, 8);
-    let dst = ipv6_address(tpdu, 24);
-    read_udp(IpVersion::V6, src, dst, &tpdu[40..end])
+    Decoding::Refused(number)
 }
 
 // Reads a T-PDU: its flow, sequence and send time, or the first cause of refusal.
 pub fn decode_measurement_tpdu(tpdu: &[u8]) -> DecodeResult
     ensures { λ r. ⌜ r ≡ decodeResult (readOf (now (tpdu .entry))) ⌝ }
 {
-    if tpdu.len() == 0 {
-        return refusal(error::TRUNCATED_IP_HEADER);
-    }
-    match tpdu[0] >> 4 {
-        4 => decode_ipv4(tpdu),
-        6 => decode_ipv6(tpdu),
-        _ => refusal(error::UNSUPPORTED_IP_VERSION),
+    let mut src = [0; 16];
+    let mut dst = [0; 16];
+    let read = decode_into(tpdu, &mut src, &mut dst);
+    DecodeResult {
+        decoding: decoding_of(read.number),
+        tpdu: DecodedTpdu {
+            flow: InnerIpFlow {
+                version: measurement::version_of(read.version),
+                src: src,
+                dst: dst,
+                src_port: read.src_port,
+                dst_port: read.dst_port,
+            },
+            measurement: MeasurementHeader {
+                sequence: read.sequence,
+                send_timestamp_ns: read.send_timestamp_ns,
+            },
+        },
     }
 }

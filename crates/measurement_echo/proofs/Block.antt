@@ -9,20 +9,20 @@ use lib.Seq.{take-at, take-all}
 use borrow.Author.Tests.{lt-ltb}
 use Rattle.error.specs.Outcome.{Outcome, refused, gives}
 use Rattle.error.proofs.Causes.{refused-gives}
-use Rattle.measurement.specs.Packet.{ipHeaderLength, buildOf}
+use Rattle.measurement.specs.Packet.{versionNumbered, ipHeaderLength, buildOf}
 use Rattle.measurement.specs.Read.{readOf}
-use Rattle.measurement.specs.Echo.{reversedOf, echoOfTpdu, echoOf}
-use Rattle.measurement.specs.Answer.{Writing, wrote, writing, writingOf, decodeResult}
+use Rattle.measurement.specs.Echo.{echoOf}
+use Rattle.measurement.specs.Answer.{Writing, wrote, writing, writingOf}
 use Rattle.measurement.specs.declared.DecodedTpdu.{DecodedTpdu}
-use Rattle.measurement.specs.declared.DecodeResult.{DecodeResult}
-use Rattle.measurement.specs.declared.Decoding.{Decoding}
-use Rattle.measurement.specs.declared.Decoding.the-variants as decoding
 use Rattle.measurement.specs.declared.InnerIpFlow.{InnerIpFlow}
 use Rattle.measurement.specs.declared.IpVersion.{IpVersion}
 use Rattle.measurement.specs.declared.IpVersion.the-variants.{V4, V6}
 use Rattle.measurement.specs.declared.Written.{Written}
 use Rattle.measurement.specs.declared.Written.the-variants as written
 use Rattle.measurement_build.proofs.Whole.{build-length, writing-fits}
+use Rattle.measurement_decode.specs.Numbers.{tpduNumbers, sourceLeft, destinationLeft}
+use Rattle.measurement_decode.specs.declared.TpduNumbers.{TpduNumbers}
+use Rattle.measurement_decode.proofs.Laws.{version-again}
 
 module _ (f : InnerIpFlow) (s t : ℕ) where
   pub built-fits : length (buildOf f s t) ≤ 72
@@ -64,28 +64,26 @@ module _ (f : InnerIpFlow) (s t : ℕ) where
           ap₂ (λ (m : ℕ) (y : List ℕ). wrote (written.Bytes m) y) count-is p ∙ writing-fits b out (omega (arith, count-is))
 
 -- the echo's answer to what was read
-module _ (tpdu : List ℕ) {r : DecodeResult} (e : r ≡ decodeResult (readOf tpdu)) where
-  pub echo-refused : {n : ℕ} (out : List ℕ) → r .decoding ≡ decoding.Refused n → wrote (written.Refused n) out ≡ writingOf (echoOf tpdu) out
-  unfolding echoOf writingOf decodeResult
-  echo-refused {n} out q = go (readOf tpdu) refl
-    where
-      go : (o : Outcome DecodedTpdu) → readOf tpdu ≡ o → wrote (written.Refused n) out ≡ writingOf (echoOf tpdu) out
-      go (refused m) p =
-          let d : decoding.Refused m ≡ decoding.Refused n = ap (λ (x : DecodeResult). x .decoding) (ap decodeResult (sym p) ∙ sym e) ∙ q in
-          let h : m ≡ n = cc in
-          rw (p, echoOf, h)
-      go (gives t) p =
-          let d : decoding.Accepted ≡ decoding.Refused n = ap (λ (x : DecodeResult). x .decoding) (ap decodeResult (sym p) ∙ sym e) ∙ q in
-          absurd (let z : _≡_ {A = ℕ} 0 1 = cc in omega arith)
+module _ (tpdu out : List ℕ) where
+  pub echo-refused : {n : ℕ} → readOf tpdu ≡ refused n → wrote (written.Refused n) out ≡ writingOf (echoOf tpdu) out
+  unfolding echoOf writingOf
+  echo-refused e = rw (e, echoOf)
 
-  pub echo-given : (out : List ℕ) → r .decoding ≡ decoding.Accepted → writing (echoOfTpdu (r .tpdu)) out ≡ writingOf (echoOf tpdu) out
-  unfolding echoOf writingOf decodeResult
-  echo-given out q = go (readOf tpdu) refl
-    where
-      go : (o : Outcome DecodedTpdu) → readOf tpdu ≡ o → writing (echoOfTpdu (r .tpdu)) out ≡ writingOf (echoOf tpdu) out
-      go (refused m) p =
-          let d : decoding.Refused m ≡ decoding.Accepted = ap (λ (x : DecodeResult). x .decoding) (ap decodeResult (sym p) ∙ sym e) ∙ q in
-          absurd (let z : _≡_ {A = ℕ} 0 1 = cc in omega arith)
-      go (gives t) p =
-          let d : r .tpdu ≡ t = ap (λ (x : DecodeResult). x .tpdu) (e ∙ ap decodeResult p) in
-          rw (p, echoOf) (ap (λ (x : DecodedTpdu). writing (echoOfTpdu x) out) d)
+  module _ {t : DecodedTpdu} (e : readOf tpdu ≡ gives t) {x : TpduNumbers} (ex : x ≡ tpduNumbers (gives t)) where
+    pub echo-given : {v : IpVersion} {src dst : List ℕ} → v ≡ versionNumbered (x .version) → src ≡ sourceLeft (readOf tpdu) (replicate 16 0)
+        → dst ≡ destinationLeft (readOf tpdu) (replicate 16 0)
+        → writing (buildOf (record { version = v; src = dst; dst = src; «src_port» = x .«dst_port»; «dst_port» = x .«src_port» }) (x .sequence) (x .«send_timestamp_ns»)) out
+        ≡ writingOf (echoOf tpdu) out
+    unfolding echoOf writingOf tpduNumbers sourceLeft destinationLeft
+    echo-given {v} {src} {dst} ev es ed =
+        ap (λ (v : IpVersion). built x v src dst) (ev ∙ ap (λ (x : TpduNumbers). versionNumbered (x .version)) ex ∙ version-again (t .flow .version))
+        ∙ ap (λ (x : TpduNumbers). built x (t .flow .version) src dst) ex
+        ∙ ap₂ (λ (src dst : List ℕ). built (tpduNumbers (gives t)) (t .flow .version) src dst) (es ∙ left sourceLeft) (ed ∙ left destinationLeft)
+        ∙ rw (e, echoOf)
+      where
+        left : (f : Outcome DecodedTpdu → List ℕ → List ℕ) → f (readOf tpdu) (replicate 16 0) ≡ f (gives t) (replicate 16 0)
+        left f = ap (λ (o : Outcome DecodedTpdu). f o (replicate 16 0)) e
+
+        built : TpduNumbers → IpVersion → List ℕ → List ℕ → Writing
+        built x v src dst =
+            writing (buildOf (record { version = v; src = dst; dst = src; «src_port» = x .«dst_port»; «dst_port» = x .«src_port» }) (x .sequence) (x .«send_timestamp_ns»)) out

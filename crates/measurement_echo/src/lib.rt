@@ -1,5 +1,4 @@
 // The echo of a measurement T-PDU (leaf 4; `echo_tpdu` of the Rust's measurement.rs).
-use measurement::Decoding;
 use measurement::InnerIpFlow;
 use measurement::Written;
 ghost use mathlib.Core.Path.{_≡_};
@@ -39,20 +38,18 @@ fn write_from_block(
 pub fn echo_tpdu(tpdu: &[u8], out: &mut [u8]) -> Written
     ensures { λ r. ⌜ wrote r (now (out .exit)) ≡ writingOf (echoOf (now (tpdu .entry))) (now (out .entry)) ⌝ }
 {
-    let read = measurement_decode::decode_measurement_tpdu(tpdu);
-    let decoding = read.decoding;
-    match decoding {
-        Decoding::Refused(number) => Written::Refused(number),
-        Decoding::Accepted => {
-            let decoded = read.tpdu;
-            let flow = decoded.flow;
-            let header = decoded.measurement;
-            write_from_block(
-                flow.reversed(),
-                header.sequence,
-                header.send_timestamp_ns,
-                out,
-            )
-        }
+    let mut src = [0; 16];
+    let mut dst = [0; 16];
+    let read = measurement_decode::decode_into(tpdu, &mut src, &mut dst);
+    if read.number != 0 {
+        return Written::Refused(read.number);
     }
+    let reversed = InnerIpFlow {
+        version: measurement::version_of(read.version),
+        src: dst,
+        dst: src,
+        src_port: read.dst_port,
+        dst_port: read.src_port,
+    };
+    write_from_block(reversed, read.sequence, read.send_timestamp_ns, out)
 }

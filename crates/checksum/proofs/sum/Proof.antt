@@ -1,113 +1,58 @@
--- `checksum::sum` meets its contract. The loop's invariant: the sum so far and the words that are left fold to what all fold to.
+-- `checksum::sum` meets its contract.
 -- Assumes nothing.
-use Prim.Native.Nat.{ℕ, _+_, _-_, _*_, _<_, _≤_}
-use mathlib.Core.Path.{_≡_, refl, sym, ap, _∙_}
+use Prim.Native.Nat.{ℕ, _+_, _/_}
+use mathlib.Core.Path.{_≡_, ap, _∙_}
 use borrow.Author.Needs.{needs}
 use native.Mathlib.Omega.{arith}
-use native.Mathlib.Nat.{min-le-left}
-use mathlib.Core.List.{List}
-use lib.ListN.{length, drop, length-take, length-drop}
-use lib.Seq.{take-all}
+use lib.Bits.{bitAnd, and-mask}
 use Rattle.checksum.specs.Sum.{sumOf, foldOf}
-use Rattle.checksum.proofs.Sums.{block-added, block-turn}
+use Rattle.checksum.proofs.Carries.{like-halves, like-add, fold-of-like, fold-add}
+use Rattle.checksum.proofs.Sums.{block-added}
 use Rattle.checksum.proofs.sum.Statement.{statement}
 use Rattle.checksum.proofs.sum.Tie as tie
 
-abbrev Inv-loop : tie.InvT-loop
-Inv-loop start bytes sum₀ i₀ sum i = (i ≤ length bytes) × (sum < 65536) × (foldOf (sum + sumOf (drop i bytes)) ≡ foldOf (start + sumOf bytes))
-
-abbrev μ-loop : tie.MeasureT-loop
-μ-loop start bytes sum₀ i₀ sum i = length bytes - i
-
-loop-holds : tie.Need-loop-holds Inv-loop μ-loop
-loop-holds c = search needs
-
-sub-loop : tie.Need-sub-loop Inv-loop μ-loop
-sub-loop c = search needs
-
-add-end : tie.Need-add-end Inv-loop μ-loop
-add-end c = search needs
-
-sub-sum-block : tie.Need-sub-sum-block Inv-loop μ-loop
-sub-sum-block c = search needs
-
-part-sum-block-start : tie.Need-part-sum-block-start Inv-loop μ-loop
-part-sum-block-start c = search needs
-
-part-sum-block-end : tie.Need-part-sum-block-end Inv-loop μ-loop
-part-sum-block-end c = search needs
-
-sum-block-requires : tie.Need-sum-block-requires Inv-loop μ-loop
-sum-block-requires c κs = search needs
-
-cast-fold-u64 : tie.Need-cast-fold-u64 Inv-loop μ-loop
-cast-fold-u64 c = search needs
-
-add-fold-u64 : tie.Need-add-fold-u64 Inv-loop μ-loop
-add-fold-u64 c = search needs
-
-fold-u64-requires : tie.Need-fold-u64-requires Inv-loop μ-loop
+fold-u64-requires : tie.Need-fold-u64-requires
 fold-u64-requires c κs = search needs
 
-loop-less : tie.Need-loop-less Inv-loop μ-loop
-loop-less c = search needs
+sum-blocks-requires : tie.Need-sum-blocks-requires
+sum-blocks-requires c κs = search needs
 
-loop-again : tie.Need-loop-again Inv-loop μ-loop
-loop-again c =
-    let l = c .before .before .before .before .loop in
-    (omega arith, search needs, block-turn _ (l .i) 65536 (l .sum) (c .before .sum-block .result) (l .inv .2) (omega arith) refl (c .before .sum-block .ensures .0) (c .fold-u64 .ensures))
+returns : tie.Need-returns
+returns c =
+    let folded = c .before in
+    let a = folded .before .before .before .args in
+    c .sum-blocks .ensures ∙ ap (λ (n : ℕ). foldOf (n + sumOf (a .bytes .now))) (folded .fold-u64 .ensures) ∙ fold-add (a .start) (sumOf (a .bytes .now))
 
-sub-sum-block-2 : tie.Need-sub-sum-block-2 Inv-loop μ-loop
-sub-sum-block-2 c = search needs
+add-halves : tie.Need-add-halves
+add-halves c = omega (arith, and-mask (c .before .before .args .start) 32)
 
-part-sum-block-start-2 : tie.Need-part-sum-block-start-2 Inv-loop μ-loop
-part-sum-block-start-2 c = search needs
+sum-block-requires : tie.Need-sum-block-requires
+sum-block-requires c κs = search needs
 
-part-sum-block-end-2 : tie.Need-part-sum-block-end-2 Inv-loop μ-loop
-part-sum-block-end-2 c = search needs
+add-fold-u64 : tie.Need-add-fold-u64
+add-fold-u64 c = omega (arith, and-mask (c .before .before .before .args .start) 32, c .sum-block .ensures .1)
 
-sum-block-requires-2 : tie.Need-sum-block-requires-2 Inv-loop μ-loop
-sum-block-requires-2 c κs = search needs
-
-cast-fold-u64-2 : tie.Need-cast-fold-u64-2 Inv-loop μ-loop
-cast-fold-u64-2 c = search needs
-
-add-fold-u64-2 : tie.Need-add-fold-u64-2 Inv-loop μ-loop
-add-fold-u64-2 c = search needs
-
-fold-u64-requires-2 : tie.Need-fold-u64-requires-2 Inv-loop μ-loop
+fold-u64-requires-2 : tie.Need-fold-u64-requires-2
 fold-u64-requires-2 c κs = search needs
 
-returns : tie.Need-returns Inv-loop μ-loop
-returns c =
-    let l = c .before .before .before .before .loop in
-    let d = c .before .before .before .before .before .before .args .bytes .now in
-    let e = take-all (length d - l .i) (drop (l .i) d) (omega (arith, length-drop (l .i) d)) in
-    block-added (drop (l .i) d) (l .sum) (c .before .sum-block2 .result) (c .before .sum-block2 .ensures .0 ∙ ap (λ (x : List ℕ). foldOf (sumOf x)) e) (c .fold-u642 .ensures) ∙ l .inv .2
+returns-2 : tie.Need-returns-2
+returns-2 c =
+    let block = c .before in
+    let a = block .before .before .before .args in
+    let n = a .start in
+    let words = sumOf (a .bytes .now) in
+    block-added (a .bytes .now) (bitAnd n 4294967295 + n / 4294967296) (block .sum-block .result) (block .sum-block .ensures .0) (c .fold-u642 .ensures)
+    ∙ ap (λ (m : ℕ). foldOf (m + n / 4294967296 + words)) (and-mask n 32) ∙ fold-of-like (like-add words (like-halves n))
 
 pub sum-spec : {M : Type 1} → statement M
 sum-spec =
     tie.close
     (tie.spec
-    Inv-loop
-    μ-loop
-    loop-holds
-    sub-loop
-    add-end
-    sub-sum-block
-    part-sum-block-start
-    part-sum-block-end
-    sum-block-requires
-    cast-fold-u64
-    add-fold-u64
     fold-u64-requires
-    loop-less
-    loop-again
-    sub-sum-block-2
-    part-sum-block-start-2
-    part-sum-block-end-2
-    sum-block-requires-2
-    cast-fold-u64-2
-    add-fold-u64-2
+    sum-blocks-requires
+    returns
+    add-halves
+    sum-block-requires
+    add-fold-u64
     fold-u64-requires-2
-    returns)
+    returns-2)

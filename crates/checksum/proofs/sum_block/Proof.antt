@@ -9,7 +9,7 @@ use mathlib.Core.List.{List}
 use lib.ListN.{length, take, drop, length-take, length-drop}
 use lib.Seq.{take-all}
 use Rattle.checksum.specs.Sum.{sumOf, foldOf}
-use Rattle.checksum.proofs.Sums.{sum-four}
+use Rattle.checksum.proofs.Sums.{sum-eight}
 use Rattle.checksum.proofs.sum_block.Statement.{statement}
 use Rattle.checksum.proofs.sum_block.Tie as tie
 
@@ -49,11 +49,44 @@ shared-slice-read-double-word-4 c = omega arith
 double-word-requires : tie.Need-double-word-requires Inv-loop μ-loop
 double-word-requires c κs = search needs
 
-cast-sum : tie.Need-cast-sum Inv-loop μ-loop
-cast-sum c = search needs
+cast-first : tie.Need-cast-first Inv-loop μ-loop
+cast-first c = search needs
+
+add-double-word-4 : tie.Need-add-double-word-4 Inv-loop μ-loop
+add-double-word-4 c = omega arith
+
+shared-slice-read-double-word-5 : tie.Need-shared-slice-read-double-word-5 Inv-loop μ-loop
+shared-slice-read-double-word-5 c = omega arith
+
+add-double-word-5 : tie.Need-add-double-word-5 Inv-loop μ-loop
+add-double-word-5 c = omega arith
+
+shared-slice-read-double-word-6 : tie.Need-shared-slice-read-double-word-6 Inv-loop μ-loop
+shared-slice-read-double-word-6 c = omega arith
+
+add-double-word-6 : tie.Need-add-double-word-6 Inv-loop μ-loop
+add-double-word-6 c = omega arith
+
+shared-slice-read-double-word-7 : tie.Need-shared-slice-read-double-word-7 Inv-loop μ-loop
+shared-slice-read-double-word-7 c = omega arith
+
+add-double-word-7 : tie.Need-add-double-word-7 Inv-loop μ-loop
+add-double-word-7 c = omega arith
+
+shared-slice-read-double-word-8 : tie.Need-shared-slice-read-double-word-8 Inv-loop μ-loop
+shared-slice-read-double-word-8 c = omega arith
+
+double-word-requires-2 : tie.Need-double-word-requires-2 Inv-loop μ-loop
+double-word-requires-2 c κs = search needs
+
+cast-second : tie.Need-cast-second Inv-loop μ-loop
+cast-second c = search needs
 
 add-sum : tie.Need-add-sum Inv-loop μ-loop
 add-sum c = omega arith
+
+add-sum-2 : tie.Need-add-sum-2 Inv-loop μ-loop
+add-sum-2 c = omega arith
 
 add-i : tie.Need-add-i Inv-loop μ-loop
 add-i c = omega arith
@@ -63,39 +96,38 @@ loop-less c = omega arith
 
 loop-again : tie.Need-loop-again Inv-loop μ-loop
 loop-again c =
-    let b = c .before .before .before .before .before .before in
+    let v = c .before .before .before .before .before in
+    let b = v .before .before .before .before .before .before in
     let d = b .before .before .args .bytes .now in
-    (omega arith, omega arith, sum-four d (b .loop .i) (b .loop .sum) (omega arith) (b .loop .inv .2) (c .double-word .ensures))
+    (omega arith, omega arith, sum-eight d (b .loop .i) (b .loop .sum) (omega arith) (b .loop .inv .2) (v .double-word .ensures) (c .double-word2 .ensures))
 
-sub-sum-words : tie.Need-sub-sum-words Inv-loop μ-loop
-sub-sum-words c = omega arith
+sub-sum-tail : tie.Need-sub-sum-tail Inv-loop μ-loop
+sub-sum-tail c = omega arith
 
-part-sum-words-start : tie.Need-part-sum-words-start Inv-loop μ-loop
-part-sum-words-start c = omega arith
+part-sum-tail-start : tie.Need-part-sum-tail-start Inv-loop μ-loop
+part-sum-tail-start c = omega arith
 
-part-sum-words-end : tie.Need-part-sum-words-end Inv-loop μ-loop
-part-sum-words-end c = omega arith
+part-sum-tail-end : tie.Need-part-sum-tail-end Inv-loop μ-loop
+part-sum-tail-end c = omega arith
 
-sum-words-requires : tie.Need-sum-words-requires Inv-loop μ-loop
-sum-words-requires c κs =
+sum-tail-requires : tie.Need-sum-tail-requires Inv-loop μ-loop
+sum-tail-requires c κs =
     let d = c .before .before .before .before .args .bytes .now in
     let i = c .before .before .loop .i in
     simp (length-take, length-drop) (omega (arith, min-le-left (length d - i) (length d - i)))
 
-cast-result : tie.Need-cast-result Inv-loop μ-loop
-cast-result c = search needs
-
 add-result : tie.Need-add-result Inv-loop μ-loop
-add-result c = omega (arith, c .sum-words .ok)
+add-result c = omega (arith, c .sum-tail .ensures .1)
 
 returns : tie.Need-returns Inv-loop μ-loop
 returns c =
     let b = c .before .before .before in
     let d = b .before .before .args .bytes .now in
     let i = b .loop .i in
-    let e = take-all (length d - i) (drop i d) (omega (arith, length-drop i d)) in
-    let w : c .sum-words .result ≡ sumOf (drop i d) = omega (arith, ap sumOf e, c .sum-words .ensures) in
-    (ap (λ (n : ℕ). foldOf (b .loop .sum + n)) w ∙ b .loop .inv .2, omega (arith, c .sum-words .ok))
+    let whole = take-all (length d - i) (drop i d) (omega (arith, length-drop i d)) in (
+      c .sum-tail .ensures .0 (b .loop .sum) ∙ ap (λ (l : List ℕ). foldOf (b .loop .sum + sumOf l)) whole ∙ b .loop .inv .2,
+      omega (arith, c .sum-tail .ensures .1),
+    )
 
 pub sum-block-spec : {M : Type 1} → statement M
 sum-block-spec =
@@ -113,15 +145,25 @@ sum-block-spec =
     add-double-word-3
     shared-slice-read-double-word-4
     double-word-requires
-    cast-sum
+    cast-first
+    add-double-word-4
+    shared-slice-read-double-word-5
+    add-double-word-5
+    shared-slice-read-double-word-6
+    add-double-word-6
+    shared-slice-read-double-word-7
+    add-double-word-7
+    shared-slice-read-double-word-8
+    double-word-requires-2
+    cast-second
     add-sum
+    add-sum-2
     add-i
     loop-less
     loop-again
-    sub-sum-words
-    part-sum-words-start
-    part-sum-words-end
-    sum-words-requires
-    cast-result
+    sub-sum-tail
+    part-sum-tail-start
+    part-sum-tail-end
+    sum-tail-requires
     add-result
     returns)

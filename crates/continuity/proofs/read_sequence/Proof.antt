@@ -1,32 +1,31 @@
 -- `continuity::read_sequence` meets its contract: what the reader answers is what reading comes to.
 -- Assumes nothing.
+use mathlib.Core.Path.{ap}
 use borrow.Author.Needs.{needs}
-use Rattle.continuity.proofs.Laws.{read-refused, read-given}
+use Rattle.measurement_decode.specs.Numbers.{tpduNumbers}
+use Rattle.measurement_decode.specs.declared.TpduNumbers.{TpduNumbers}
+use Rattle.measurement_decode.proofs.Callers.{read-refused, read-given, numbers-given}
+use Rattle.continuity.proofs.Laws.{seen-refused, seen-given}
 use Rattle.continuity.proofs.read_sequence.Statement.{statement}
 use Rattle.continuity.proofs.read_sequence.Tie as tie
 
-decode-measurement-tpdu-requires : tie.Need-decode-measurement-tpdu-requires
-decode-measurement-tpdu-requires c κs = search needs
-
-enum-known-decoding : tie.Need-enum-known-decoding
-enum-known-decoding c = search needs
-
-enum-told : tie.Need-enum-told
-enum-told c = search needs
+decode-into-requires : tie.Need-decode-into-requires
+decode-into-requires c κs = search needs
 
 returns : tie.Need-returns
 returns c =
-    let known = c .before in
-    let read = known .before .before in
-    read-refused (read .before .before .args .tpdu .now) (read .decode-measurement-tpdu .ensures) (known .decoding .given .1)
+    let read = c .before .before in
+    let p = read .before .before .before .before .args .tpdu .now in
+    seen-refused p (read-refused p (read .decode-into .ensures .0) (c .if1 .taken))
 
 returns-2 : tie.Need-returns-2
+unfolding tpduNumbers
 returns-2 c =
-    let told = c .before .before in
-    let read = told .before .before in
-    read-given (read .before .before .args .tpdu .now) (read .decode-measurement-tpdu .ensures) (told .enum-told .given .1)
+    let read = c .before .before in
+    let p = read .before .before .before .before .args .tpdu .now in
+    let e = read .decode-into .ensures .0 in
+    let z = c .if1 .left in
+    seen-given p (read-given p e z .is) (ap (λ (x : TpduNumbers). x .sequence) (numbers-given p e z))
 
 pub read-sequence-spec : {M : Type 1} → statement M
-read-sequence-spec =
-    tie.close
-    (tie.spec decode-measurement-tpdu-requires enum-known-decoding enum-told returns returns-2)
+read-sequence-spec = tie.close (tie.spec decode-into-requires returns returns-2)

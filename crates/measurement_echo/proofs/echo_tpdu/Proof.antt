@@ -1,35 +1,26 @@
 -- `measurement_echo::echo_tpdu` meets its contract.
 -- Assumes nothing.
-use mathlib.Core.Path.{ap, _∙_}
-use Rattle.measurement.specs.Packet.{buildOf}
-use Rattle.measurement.specs.Answer.{writing}
-use Rattle.measurement.specs.declared.InnerIpFlow.{InnerIpFlow}
-use Rattle.measurement_echo.proofs.Block.{echo-refused, echo-given}
+use mathlib.Core.Path.{_∙_}
 use borrow.Author.Needs.{needs}
+use Rattle.measurement_decode.proofs.Callers.{read-refused, read-given, numbers-given}
+use Rattle.measurement_echo.proofs.Block.{echo-refused, echo-given}
 use Rattle.measurement_echo.proofs.echo_tpdu.Statement.{statement}
 use Rattle.measurement_echo.proofs.echo_tpdu.Tie as tie
 
-decode-measurement-tpdu-requires : tie.Need-decode-measurement-tpdu-requires
-decode-measurement-tpdu-requires c κs = search needs
-
-enum-known-decoding : tie.Need-enum-known-decoding
-enum-known-decoding c = search needs
-
-enum-told : tie.Need-enum-told
-enum-told c = search needs
-
-reversed-requires : tie.Need-reversed-requires
-reversed-requires c κs = search needs
-
-write-from-block-requires : tie.Need-write-from-block-requires
-write-from-block-requires c κs = search needs
+decode-into-requires : tie.Need-decode-into-requires
+decode-into-requires c κs = search needs
 
 returns : tie.Need-returns
 returns c =
-    let known = c .before in
-    let read = known .before .before in
-    let a = read .before .before .before .args in
-    echo-refused (a .tpdu .now) (read .decode-measurement-tpdu .ensures) (a .out .now) (known .decoding .given .1)
+    let read = c .before .before in
+    let a = read .before .before .before .before .before .args in
+    echo-refused (a .tpdu .now) (a .out .now) (read-refused (a .tpdu .now) (read .decode-into .ensures .0) (c .if1 .taken))
+
+version-of-requires : tie.Need-version-of-requires
+version-of-requires c κs = search needs
+
+write-from-block-requires : tie.Need-write-from-block-requires
+write-from-block-requires c κs = search needs
 
 same-length : tie.Need-same-length
 same-length c = search needs
@@ -37,24 +28,22 @@ same-length c = search needs
 returns-2 : tie.Need-returns-2
 returns-2 c =
     let at-write = c .before .before in
-    let turned = at-write .before .before in
-    let told = turned .before .before .before .before in
-    let read = told .before .before in
-    let a = read .before .before .before .args in
+    let version = at-write .before .before in
+    let read = version .before .before .before in
+    let a = read .before .before .before .before .before .args in
+    let p = a .tpdu .now in
+    let e = read .decode-into .ensures .0 in
+    let z = version .before .if1 .left in
     at-write .write-from-block .ensures
-    ∙ ap (λ (f : InnerIpFlow). writing (buildOf f (read .decode-measurement-tpdu .result .tpdu .measurement .sequence) (read .decode-measurement-tpdu .result .tpdu .measurement .«send_timestamp_ns»)) (a .out .now))
-    (turned .reversed .ensures)
-    ∙ echo-given (a .tpdu .now) (read .decode-measurement-tpdu .ensures) (a .out .now) (told .enum-told .given .1)
+    ∙ echo-given p (a .out .now) (read-given p e z .is) (numbers-given p e z) (version .version-of .ensures) (read .decode-into .ensures .1 .0) (read .decode-into .ensures .1 .1)
 
 pub echo-tpdu-spec : {M : Type 1} → statement M
 echo-tpdu-spec =
     tie.close
     (tie.spec
-    decode-measurement-tpdu-requires
-    enum-known-decoding
-    enum-told
-    reversed-requires
-    write-from-block-requires
+    decode-into-requires
     returns
+    version-of-requires
+    write-from-block-requires
     same-length
     returns-2)

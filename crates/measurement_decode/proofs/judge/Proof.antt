@@ -1,0 +1,52 @@
+-- `measurement_decode::judge` meets its contract.
+-- Assumes nothing.
+use mathlib.Core.Path.{refl, ap, _∙_}
+use borrow.Author.Needs.{needs}
+use Rattle.error.specs.Outcome.{outcomeNumber}
+use Rattle.measurement.proofs.Rows.{row-1, row-2, version-4, version-6}
+use Rattle.measurement_decode.proofs.judge.Statement.{statement}
+use Rattle.measurement_decode.proofs.judge.Tie as tie
+
+returns : tie.Need-returns
+returns c = ap outcomeNumber (row-1 (c .before .before .args .tpdu .now) (c .if1 .taken))
+
+shared-slice-read-match : tie.Need-shared-slice-read-match
+shared-slice-read-match c = search needs
+
+judge-ipv4-requires : tie.Need-judge-ipv4-requires
+judge-ipv4-requires c κs = search needs
+
+judge-ipv6-requires : tie.Need-judge-ipv6-requires
+judge-ipv6-requires c κs = search needs
+
+returns-2 : tie.Need-returns-2
+returns-2 c =
+    let k = c .before in
+    let e1 = k .before .before in
+    let p = e1 .before .before .args .tpdu .now in
+    c .judge-ipv4 .ensures ∙ ap outcomeNumber (version-4 p (e1 .if1 .left) refl (k .match .keys1))
+
+returns-3 : tie.Need-returns-3
+returns-3 c =
+    let k = c .before in
+    let e1 = k .before .before in
+    let p = e1 .before .before .args .tpdu .now in
+    c .judge-ipv6 .ensures ∙ ap outcomeNumber (version-6 p (e1 .if1 .left) refl (k .match .keys2))
+
+returns-4 : tie.Need-returns-4
+returns-4 c =
+    let e1 = c .before .before in
+    let p = e1 .before .before .args .tpdu .now in
+    ap outcomeNumber (row-2 p (e1 .if1 .left) refl (c .match .rest .0 .1) (c .match .rest .1))
+
+pub judge-spec : {M : Type 1} → statement M
+judge-spec =
+    tie.close
+    (tie.spec
+    returns
+    shared-slice-read-match
+    judge-ipv4-requires
+    judge-ipv6-requires
+    returns-2
+    returns-3
+    returns-4)

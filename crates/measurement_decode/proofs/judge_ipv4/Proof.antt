@@ -1,0 +1,226 @@
+-- `measurement_decode::judge_ipv4` meets its contract.
+-- Assumes nothing.
+use Prim.Native.Nat.{ℕ, _-_, _*_}
+use mathlib.Core.Path.{_≡_, ap, sym, _∙_}
+use native.Mathlib.Omega.{arith}
+use borrow.Author.Needs.{needs}
+use lib.ListN.{drop, length-take, length-drop}
+use lib.Seq.{length-take-le}
+use Rattle.error.specs.Outcome.{outcomeNumber}
+use Rattle.field.specs.Field.{bytesAt, field}
+use Rattle.measurement.specs.Packet.{addressLength}
+use Rattle.measurement.specs.Read.{ihl}
+use Rattle.measurement.specs.declared.IpVersion.the-variants.{V4}
+use Rattle.measurement.proofs.Rows.{row-3, row-4-low, row-4-cut, row-5-low, row-5-past, row-6-ipv4, row-7, rest-ipv4}
+use Rattle.measurement_decode.proofs.Laws.{part-short, addresses}
+use Rattle.measurement_decode.proofs.judge_ipv4.Statement.{statement}
+use Rattle.measurement_decode.proofs.judge_ipv4.Tie as tie
+
+returns : tie.Need-returns
+returns c = ap outcomeNumber (row-3 (c .before .before .args .tpdu .now) (c .if1 .taken))
+
+shared-slice-read-low-half : tie.Need-shared-slice-read-low-half
+shared-slice-read-low-half c = search needs
+
+low-half-requires : tie.Need-low-half-requires
+low-half-requires c κs = search needs
+
+returns-2 : tie.Need-returns-2
+unfolding ihl
+returns-2 c =
+    let l = c .before in
+    let e1 = l .before .before in
+    ap outcomeNumber (row-4-low (e1 .before .before .args .tpdu .now) (e1 .if1 .left) (l .low-half .ensures .0) (c .if2 .taken))
+
+mul-start : tie.Need-mul-start
+mul-start c = search needs
+
+add-if3 : tie.Need-add-if3
+add-if3 c = search needs
+
+returns-3 : tie.Need-returns-3
+unfolding ihl
+returns-3 c =
+    let l = c .before .before in
+    let e1 = l .before .before in
+    ap outcomeNumber (row-4-cut (e1 .before .before .args .tpdu .now) (e1 .if1 .left) (l .low-half .ensures .0) (c .if3 .taken))
+
+shared-slice-read-word : tie.Need-shared-slice-read-word
+shared-slice-read-word c = search needs
+
+shared-slice-read-word-2 : tie.Need-shared-slice-read-word-2
+shared-slice-read-word-2 c = search needs
+
+word-requires : tie.Need-word-requires
+word-requires c κs = search needs
+
+cast-end : tie.Need-cast-end
+cast-end c = search needs
+
+add-if4 : tie.Need-add-if4
+add-if4 c = search needs
+
+returns-4 : tie.Need-returns-4
+unfolding ihl
+returns-4 c =
+    let w = c .before in
+    let e3 = w .before .before .before in
+    let e2 = e3 .before in
+    let l = e2 .before in
+    let e1 = l .before .before in
+    let p = e1 .before .before .args .tpdu .now in
+    let en : w .word .result ≡ field 2 2 p = omega arith in
+    ap outcomeNumber (row-5-low p (e1 .if1 .left) (l .low-half .ensures .0) (e2 .if2 .left) (e3 .if3 .left) en (c .if4 .taken))
+
+returns-5 : tie.Need-returns-5
+unfolding ihl
+returns-5 c =
+    let w = c .before .before in
+    let e3 = w .before .before .before in
+    let e2 = e3 .before in
+    let l = e2 .before in
+    let e1 = l .before .before in
+    let p = e1 .before .before .args .tpdu .now in
+    let en : w .word .result ≡ field 2 2 p = omega arith in
+    ap outcomeNumber (row-5-past p (e1 .if1 .left) (l .low-half .ensures .0) (e2 .if2 .left) (e3 .if3 .left) en (c .if5 .taken))
+
+shared-slice-read-if6 : tie.Need-shared-slice-read-if6
+shared-slice-read-if6 c = search needs
+
+returns-6 : tie.Need-returns-6
+unfolding ihl
+returns-6 c =
+    let e5 = c .before .before in
+    let e4 = e5 .before in
+    let w = e4 .before in
+    let e3 = w .before .before .before in
+    let e2 = e3 .before in
+    let l = e2 .before in
+    let e1 = l .before .before in
+    let p = e1 .before .before .args .tpdu .now in
+    let en : w .word .result ≡ field 2 2 p = omega arith in
+    ap outcomeNumber (row-6-ipv4 p (e1 .if1 .left) (l .low-half .ensures .0) (e2 .if2 .left) (e3 .if3 .left) en (e4 .if4 .left) (e5 .if5 .left) (c .if6 .taken))
+
+slice-aggregate-checksum : tie.Need-slice-aggregate-checksum
+slice-aggregate-checksum c =
+    let e3 = c .before .before .before .before .before .before .before .before in
+    let l = e3 .before .before in
+    let p = l .before .before .before .before .args .tpdu .now in
+    sym (length-take-le (l .low-half .result * 4) p (omega (arith, e3 .if3 .left)))
+
+checksum-requires : tie.Need-checksum-requires
+checksum-requires c κs = search needs
+
+returns-7 : tie.Need-returns-7
+unfolding ihl
+returns-7 c =
+    let k = c .before in
+    let e6 = k .before .before in
+    let e5 = e6 .before .before in
+    let e4 = e5 .before in
+    let w = e4 .before in
+    let e3 = w .before .before .before in
+    let e2 = e3 .before in
+    let l = e2 .before in
+    let e1 = l .before .before in
+    let p = e1 .before .before .args .tpdu .now in
+    let en : w .word .result ≡ field 2 2 p = omega arith in
+    ap outcomeNumber (row-7 p (e1 .if1 .left) (l .low-half .ensures .0) (e2 .if2 .left) (e3 .if3 .left) en (e4 .if4 .left) (e5 .if5 .left) (e6 .if6 .left) (k .checksum .ensures) (c .if7 .taken))
+
+sub-ipv4-address-sum : tie.Need-sub-ipv4-address-sum
+sub-ipv4-address-sum c = search needs
+
+part-ipv4-address-sum-start : tie.Need-part-ipv4-address-sum-start
+part-ipv4-address-sum-start c = search needs
+
+part-ipv4-address-sum-end : tie.Need-part-ipv4-address-sum-end
+part-ipv4-address-sum-end c = search needs
+
+ipv4-address-sum-requires : tie.Need-ipv4-address-sum-requires
+ipv4-address-sum-requires c κs = search needs
+
+sub-ipv4-address-sum-2 : tie.Need-sub-ipv4-address-sum-2
+sub-ipv4-address-sum-2 c = search needs
+
+part-ipv4-address-sum-start-2 : tie.Need-part-ipv4-address-sum-start-2
+part-ipv4-address-sum-start-2 c = search needs
+
+part-ipv4-address-sum-end-2 : tie.Need-part-ipv4-address-sum-end-2
+part-ipv4-address-sum-end-2 c = search needs
+
+ipv4-address-sum-requires-2 : tie.Need-ipv4-address-sum-requires-2
+ipv4-address-sum-requires-2 c κs = search needs
+
+add-addresses : tie.Need-add-addresses
+add-addresses c = search needs
+
+sub-judge-ipv4-udp : tie.Need-sub-judge-ipv4-udp
+sub-judge-ipv4-udp c = search needs
+
+part-judge-ipv4-udp-start : tie.Need-part-judge-ipv4-udp-start
+part-judge-ipv4-udp-start c = search needs
+
+part-judge-ipv4-udp-end : tie.Need-part-judge-ipv4-udp-end
+part-judge-ipv4-udp-end c = search needs
+
+judge-ipv4-udp-requires : tie.Need-judge-ipv4-udp-requires
+judge-ipv4-udp-requires c κs = search needs
+
+returns-8 : tie.Need-returns-8
+unfolding ihl addressLength
+returns-8 c =
+    let y = c .before .before in
+    let x = y .before .before in
+    let e7 = x .before .before in
+    let k = e7 .before in
+    let e6 = k .before .before in
+    let e5 = e6 .before .before in
+    let e4 = e5 .before in
+    let w = e4 .before in
+    let e3 = w .before .before .before in
+    let e2 = e3 .before in
+    let l = e2 .before in
+    let e1 = l .before .before in
+    let p = e1 .before .before .args .tpdu .now in
+    let en : w .word .result ≡ field 2 2 p = omega arith in
+    c .judge-ipv4-udp .ensures (bytesAt 4 12 p) (bytesAt 4 16 p)
+    (addresses V4 p 12 16 20 (x .ipv4-address-sum .result) (y .ipv4-address-sum2 .result) (omega arith) (omega arith) (x .ipv4-address-sum .ensures .0) (y .ipv4-address-sum2 .ensures .0))
+    ∙ ap outcomeNumber (rest-ipv4 p (e1 .if1 .left) (l .low-half .ensures .0) (e2 .if2 .left) (e3 .if3 .left) en (e4 .if4 .left) (e5 .if5 .left) (e6 .if6 .left) (k .checksum .ensures) (e7 .if7 .left))
+
+pub judge-ipv4-spec : {M : Type 1} → statement M
+judge-ipv4-spec =
+    tie.close
+    (tie.spec
+    returns
+    shared-slice-read-low-half
+    low-half-requires
+    returns-2
+    mul-start
+    add-if3
+    returns-3
+    shared-slice-read-word
+    shared-slice-read-word-2
+    word-requires
+    cast-end
+    add-if4
+    returns-4
+    returns-5
+    shared-slice-read-if6
+    returns-6
+    slice-aggregate-checksum
+    checksum-requires
+    returns-7
+    sub-ipv4-address-sum
+    part-ipv4-address-sum-start
+    part-ipv4-address-sum-end
+    ipv4-address-sum-requires
+    sub-ipv4-address-sum-2
+    part-ipv4-address-sum-start-2
+    part-ipv4-address-sum-end-2
+    ipv4-address-sum-requires-2
+    add-addresses
+    sub-judge-ipv4-udp
+    part-judge-ipv4-udp-start
+    part-judge-ipv4-udp-end
+    judge-ipv4-udp-requires
+    returns-8)

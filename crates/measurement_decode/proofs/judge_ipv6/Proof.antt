@@ -1,0 +1,143 @@
+-- `measurement_decode::judge_ipv6` meets its contract.
+-- Assumes nothing.
+use Prim.Native.Nat.{ℕ, _+_, _-_}
+use mathlib.Core.Path.{_≡_, ap, _∙_}
+use native.Mathlib.Omega.{arith}
+use borrow.Author.Needs.{needs}
+use lib.ListN.{drop, length-take, length-drop}
+use Rattle.error.specs.Outcome.{outcomeNumber}
+use Rattle.field.specs.Field.{bytesAt, field}
+use Rattle.measurement.specs.Packet.{addressLength}
+use Rattle.measurement.specs.declared.IpVersion.the-variants.{V6}
+use Rattle.measurement.proofs.Rows.{row-8, row-6-ipv6, row-9-low, row-9-past, rest-ipv6}
+use Rattle.measurement_decode.proofs.Laws.{part-short, addresses}
+use Rattle.measurement_decode.proofs.judge_ipv6.Statement.{statement}
+use Rattle.measurement_decode.proofs.judge_ipv6.Tie as tie
+
+returns : tie.Need-returns
+returns c = ap outcomeNumber (row-8 (c .before .before .args .tpdu .now) (c .if1 .taken))
+
+shared-slice-read-if2 : tie.Need-shared-slice-read-if2
+shared-slice-read-if2 c = search needs
+
+returns-2 : tie.Need-returns-2
+returns-2 c =
+    let e1 = c .before .before in
+    ap outcomeNumber (row-6-ipv6 (e1 .before .before .args .tpdu .now) (e1 .if1 .left) (c .if2 .taken))
+
+shared-slice-read-word : tie.Need-shared-slice-read-word
+shared-slice-read-word c = search needs
+
+shared-slice-read-word-2 : tie.Need-shared-slice-read-word-2
+shared-slice-read-word-2 c = search needs
+
+word-requires : tie.Need-word-requires
+word-requires c κs = search needs
+
+cast-length : tie.Need-cast-length
+cast-length c = search needs
+
+returns-3 : tie.Need-returns-3
+returns-3 c =
+    let w = c .before in
+    let e2 = w .before .before .before in
+    let e1 = e2 .before .before in
+    let p = e1 .before .before .args .tpdu .now in
+    let en : w .word .result ≡ field 2 4 p = omega arith in
+    ap outcomeNumber (row-9-low p (e1 .if1 .left) (e2 .if2 .left) en (c .if3 .taken))
+
+add-end : tie.Need-add-end
+add-end c = search needs
+
+returns-4 : tie.Need-returns-4
+returns-4 c =
+    let w = c .before .before in
+    let e2 = w .before .before .before in
+    let e1 = e2 .before .before in
+    let p = e1 .before .before .args .tpdu .now in
+    let en : w .word .result ≡ field 2 4 p = omega arith in
+    ap outcomeNumber (row-9-past p (e1 .if1 .left) (e2 .if2 .left) en (c .if4 .taken))
+
+sub-ipv6-address-sum : tie.Need-sub-ipv6-address-sum
+sub-ipv6-address-sum c = search needs
+
+part-ipv6-address-sum-start : tie.Need-part-ipv6-address-sum-start
+part-ipv6-address-sum-start c = search needs
+
+part-ipv6-address-sum-end : tie.Need-part-ipv6-address-sum-end
+part-ipv6-address-sum-end c = search needs
+
+ipv6-address-sum-requires : tie.Need-ipv6-address-sum-requires
+ipv6-address-sum-requires c κs = search needs
+
+sub-ipv6-address-sum-2 : tie.Need-sub-ipv6-address-sum-2
+sub-ipv6-address-sum-2 c = search needs
+
+part-ipv6-address-sum-start-2 : tie.Need-part-ipv6-address-sum-start-2
+part-ipv6-address-sum-start-2 c = search needs
+
+part-ipv6-address-sum-end-2 : tie.Need-part-ipv6-address-sum-end-2
+part-ipv6-address-sum-end-2 c = search needs
+
+ipv6-address-sum-requires-2 : tie.Need-ipv6-address-sum-requires-2
+ipv6-address-sum-requires-2 c κs = search needs
+
+add-addresses : tie.Need-add-addresses
+add-addresses c = search needs
+
+sub-judge-ipv6-udp : tie.Need-sub-judge-ipv6-udp
+sub-judge-ipv6-udp c = search needs
+
+part-judge-ipv6-udp-start : tie.Need-part-judge-ipv6-udp-start
+part-judge-ipv6-udp-start c = search needs
+
+part-judge-ipv6-udp-end : tie.Need-part-judge-ipv6-udp-end
+part-judge-ipv6-udp-end c = search needs
+
+judge-ipv6-udp-requires : tie.Need-judge-ipv6-udp-requires
+judge-ipv6-udp-requires c κs = search needs
+
+returns-5 : tie.Need-returns-5
+unfolding addressLength
+returns-5 c =
+    let y = c .before .before in
+    let x = y .before .before in
+    let e4 = x .before .before in
+    let e3 = e4 .before in
+    let w = e3 .before in
+    let e2 = w .before .before .before in
+    let e1 = e2 .before .before in
+    let p = e1 .before .before .args .tpdu .now in
+    let en : w .word .result ≡ field 2 4 p = omega arith in
+    c .judge-ipv6-udp .ensures (bytesAt 16 8 p) (bytesAt 16 24 p)
+    (addresses V6 p 8 24 40 (x .ipv6-address-sum .result) (y .ipv6-address-sum2 .result) (omega arith) (omega arith) (x .ipv6-address-sum .ensures .0) (y .ipv6-address-sum2 .ensures .0))
+    ∙ ap outcomeNumber (rest-ipv6 p (e1 .if1 .left) (e2 .if2 .left) en (e3 .if3 .left) (e4 .if4 .left))
+
+pub judge-ipv6-spec : {M : Type 1} → statement M
+judge-ipv6-spec =
+    tie.close
+    (tie.spec
+    returns
+    shared-slice-read-if2
+    returns-2
+    shared-slice-read-word
+    shared-slice-read-word-2
+    word-requires
+    cast-length
+    returns-3
+    add-end
+    returns-4
+    sub-ipv6-address-sum
+    part-ipv6-address-sum-start
+    part-ipv6-address-sum-end
+    ipv6-address-sum-requires
+    sub-ipv6-address-sum-2
+    part-ipv6-address-sum-start-2
+    part-ipv6-address-sum-end-2
+    ipv6-address-sum-requires-2
+    add-addresses
+    sub-judge-ipv6-udp
+    part-judge-ipv6-udp-start
+    part-judge-ipv6-udp-end
+    judge-ipv6-udp-requires
+    returns-5)
