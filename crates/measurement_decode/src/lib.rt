@@ -16,7 +16,7 @@ ghost use Rattle.error.specs.Outcome.{refused, gives, outcomeNumber};
 ghost use Rattle.field.specs.Field.{bytesAt, field};
 ghost use Rattle.checksum.specs.Sum.{sumOf, foldOf};
 ghost use Rattle.measurement.specs.Packet.{versionNumber, padded};
-ghost use Rattle.measurement.specs.Read.{payload, lengthWrong, sumWrong, tpduOf, readProbe, readUdp, readIpv4, readIpv6, readOf};
+ghost use Rattle.measurement.specs.Read.{lengthWrong, sumWrong, tpduOf, readProbe, readUdp, readIpv4, readIpv6, readOf};
 ghost use Rattle.measurement.specs.Answer.{decodeResult};
 ghost use Rattle.measurement.specs.declared.IpVersion.{IpVersion};
 ghost use Rattle.measurement.specs.declared.IpVersion.the-variants.{V4, V6};
