@@ -11,6 +11,7 @@ use native.Mathlib.Omega.{arith}
 use lib.Dec.{ltb}
 use lib.ListN.{length, getD, take, drop, length-take, length-drop}
 use lib.Seq.{drop-cons, getD-take, length-take-le}
+use borrow.Author.Tests.{lt-ltb, le-ltb}
 use Rattle.observer.specs.Judge.{rising}
 
 pub and-assoc : (a b c : Bool) → (a && b) && c ≡ a && (b && c)
@@ -70,7 +71,7 @@ rising-short (x ∷ []) h = refl
 rising-short (x ∷ y ∷ l) h = absurd (omega arith)
 
 module _ (column : List ℕ) (n : ℕ) (fits : n ≤ length column) where
-  pub rising-turn : (so-far : Bool) (i : ℕ) → 1 ≤ i → i < n → so-far && rising (drop (i - 1) (take n column)) ≡ rising (take n column)
+  rising-turn : (so-far : Bool) (i : ℕ) → 1 ≤ i → i < n → so-far && rising (drop (i - 1) (take n column)) ≡ rising (take n column)
       → (so-far && ltb (getD column (i - 1) 0) (getD column i 0)) && rising (drop (i + 1 - 1) (take n column)) ≡ rising (take n column)
   rising-turn so-far zero l h e = absurd (omega arith)
   rising-turn so-far (suc j) l h e =
@@ -78,6 +79,20 @@ module _ (column : List ℕ) (n : ℕ) (fits : n ≤ length column) where
       let d' : suc j + 1 - 1 ≡ suc j = omega arith in
       rw (d, d', ← getD-take n column j 0 (omega arith), ← getD-take n column (suc j) 0 h)
       (rising-more so-far (take n column) j (omega (arith, length-take-le n column fits)) ∙ (rw d at e))
+
+  -- the neighbours before i rise: the rest decides
+  pub rising-on : (i : ℕ) → 1 ≤ i → i < n → getD column (i - 1) 0 < getD column i 0
+      → rising (drop (i - 1) (take n column)) ≡ rising (take n column) → rising (drop (i + 1 - 1) (take n column)) ≡ rising (take n column)
+  rising-on i l h g e =
+      ap (λ (b : Bool). b && rising (drop (i + 1 - 1) (take n column))) (sym (lt-ltb (getD column (i - 1) 0) (getD column i 0) g))
+      ∙ rising-turn true i l h e
+
+  -- two neighbours do not: nor does the whole
+  pub rising-stops : (i : ℕ) → 1 ≤ i → i < n → getD column i 0 ≤ getD column (i - 1) 0
+      → rising (drop (i - 1) (take n column)) ≡ rising (take n column) → false ≡ rising (take n column)
+  rising-stops i l h g e =
+      ap (λ (b : Bool). b && rising (drop (i + 1 - 1) (take n column))) (sym (le-ltb (getD column (i - 1) 0) (getD column i 0) g))
+      ∙ rising-turn true i l h e
 
   pub rising-end : (so-far : Bool) (i : ℕ) → 1 ≤ i → n ≤ i → so-far && rising (drop (i - 1) (take n column)) ≡ rising (take n column)
       → so-far ≡ rising (take n column)

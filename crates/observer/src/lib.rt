@@ -141,18 +141,19 @@ fn capacity(sequences: usize, send_timestamps: usize, latencies: usize, marks: u
     )
 }
 
-// Whether the first `used` sequences rise. The loop gathers and never leaves early, so that it is vectorised.
+// Whether the first `used` sequences rise. The loop leaves at the first that does not: gathering, it was vectorised, and slower.
 fn sequences_rise(sequences: &[u64], used: usize) -> bool
     requires { ⌜ used ≤ length (now sequences) ⌝ }
     ensures { λ r. ⌜ r ≡ rising (take used (now (sequences .entry))) ⌝ }
 {
-    let mut rise = true;
     let mut i = 1;
     while i < used {
-        rise = rise & (sequences[i - 1] < sequences[i]);
+        if sequences[i] <= sequences[i - 1] {
+            return false;
+        }
         i += 1;
     }
-    rise
+    true
 }
 
 // Whether the first `used` marks are 0 or 1.
