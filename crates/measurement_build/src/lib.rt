@@ -11,6 +11,7 @@ ghost use Rattle.field.specs.Field.{bytesAt};
 ghost use Rattle.checksum.specs.Sum.{sumOf, foldOf};
 ghost use Rattle.measurement.specs.Packet.{ipv4Header, ipv6, nonzero, udpSegment, buildOf};
 ghost use Rattle.measurement.specs.Answer.{wrote, writing};
+ghost use Rattle.measurement.specs.declared.IpVersion.the-variants.{V4};
 ghost use Rattle.measurement_build.specs.Segment.{segmentOver};
 
 // What the words of the IPv4 header come to more than those of the pseudo-header, which has the addresses, protocol and UDP length.
@@ -166,4 +167,29 @@ pub fn build_measurement_tpdu(
         &mut out[start..],
     );
     Written::Bytes(start + 32)
+}
+
+// The same for an IPv4 flow that is given in parts: where the caller has the addresses in arrays of its own, it makes no flow of them.
+pub fn build_ipv4_tpdu(
+    src: [u8; 16],
+    dst: [u8; 16],
+    src_port: u16,
+    dst_port: u16,
+    sequence: u64,
+    send_timestamp_ns: u64,
+    out: &mut [u8],
+) -> Written
+    ensures { λ r. ⌜ wrote r (now (out .exit)) ≡ writing (buildOf (record { version = V4; src = src; dst = dst; «src_port» = «src_port»; «dst_port» = «dst_port» }) sequence «send_timestamp_ns») (now (out .entry)) ⌝ }
+{
+    if out.len() < 52 {
+        return Written::Refused(error::OUTPUT_TOO_SHORT);
+    }
+    let header = MeasurementHeader {
+        sequence: sequence,
+        send_timestamp_ns: send_timestamp_ns,
+    };
+    let pseudo = measurement::pseudo_header_words(IpVersion::V4, src, dst, 32);
+    write_ipv4_header(pseudo, src, dst, out);
+    write_udp_segment(pseudo, src_port, dst_port, header, &mut out[20..]);
+    Written::Bytes(52)
 }

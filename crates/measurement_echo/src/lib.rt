@@ -5,6 +5,7 @@ ghost use mathlib.Core.Path.{_≡_};
 ghost use Rattle.measurement.specs.Packet.{buildOf};
 ghost use Rattle.measurement.specs.Echo.{echoOf};
 ghost use Rattle.measurement.specs.Answer.{wrote, writing, writingOf};
+ghost use Rattle.measurement.specs.declared.IpVersion.the-variants.{V4};
 
 // A T-PDU made in a block of 72 zero bytes, whose bytes are then copied out: where they do not fit, the output is untouched.
 fn write_from_block(
@@ -34,6 +35,41 @@ fn write_from_block(
     }
 }
 
+// The same for IPv4, from parts: of each array only the four bytes of the address are read, as they were stored. A flow would be copied by wider
+// loads, which wait for those stores. With the length known, the compiler keeps the block in registers.
+fn write_ipv4_from_block(
+    src: [u8; 16],
+    dst: [u8; 16],
+    src_port: u16,
+    dst_port: u16,
+    sequence: u64,
+    send_timestamp_ns: u64,
+    out: &mut [u8],
+) -> Written
+    ensures { λ r. ⌜ wrote r (now (out .exit)) ≡ writing (buildOf (record { version = V4; src = src; dst = dst; «src_port» = «src_port»; «dst_port» = «dst_port» }) sequence «send_timestamp_ns») (now (out .entry)) ⌝ }
+{
+    let mut block = [0; 72];
+    let built = measurement_build::build_ipv4_tpdu(
+        src,
+        dst,
+        src_port,
+        dst_port,
+        sequence,
+        send_timestamp_ns,
+        &mut block,
+    );
+    match built {
+        Written::Refused(number) => Written::Refused(number),
+        Written::Bytes(count) => {
+            if out.len() < count {
+                return Written::Refused(error::OUTPUT_TOO_SHORT);
+            }
+            bytes::copy(&block[..count], out);
+            Written::Bytes(count)
+        }
+    }
+}
+
 // Reads a T-PDU and writes its echo to the front of `out`: source and destination exchanged, sequence and time kept.
 pub fn echo_tpdu(tpdu: &[u8], out: &mut [u8]) -> Written
     ensures { λ r. ⌜ wrote r (now (out .exit)) ≡ writingOf (echoOf (now (tpdu .entry))) (now (out .entry)) ⌝ }
@@ -43,6 +79,17 @@ pub fn echo_tpdu(tpdu: &[u8], out: &mut [u8]) -> Written
     let read = measurement_decode::decode_into(tpdu, &mut src, &mut dst);
     if read.number != 0 {
         return Written::Refused(read.number);
+    }
+    if read.version == 4 {
+        return write_ipv4_from_block(
+            dst,
+            src,
+            read.dst_port,
+            read.src_port,
+            read.sequence,
+            read.send_timestamp_ns,
+            out,
+        );
     }
     let reversed = InnerIpFlow {
         version: measurement::version_of(read.version),

@@ -1,7 +1,8 @@
 -- `measurement_echo::echo_tpdu` meets its contract.
 -- Assumes nothing.
-use mathlib.Core.Path.{_∙_}
+use mathlib.Core.Path.{sym, ap, _∙_}
 use borrow.Author.Needs.{needs}
+use Rattle.measurement.specs.Packet.{versionNumbered}
 use Rattle.measurement_decode.proofs.Callers.{read-refused, read-given, numbers-given}
 use Rattle.measurement_echo.proofs.Block.{echo-refused, echo-given}
 use Rattle.measurement_echo.proofs.echo_tpdu.Statement.{statement}
@@ -16,24 +17,45 @@ returns c =
     let a = read .before .before .before .before .before .args in
     echo-refused (a .tpdu .now) (a .out .now) (read-refused (a .tpdu .now) (read .decode-into .ensures .0) (c .if1 .taken))
 
+write-ipv4-from-block-requires : tie.Need-write-ipv4-from-block-requires
+write-ipv4-from-block-requires c κs = search needs
+
+same-length : tie.Need-same-length
+same-length c = search needs
+
+returns-2 : tie.Need-returns-2
+unfolding versionNumbered
+returns-2 c =
+    let at-write = c .before .before in
+    let four = at-write .before .before in
+    let otherwise = four .before .before in
+    let read = otherwise .before .before in
+    let a = read .before .before .before .before .before .args in
+    let p = a .tpdu .now in
+    let e = read .decode-into .ensures .0 in
+    let z = otherwise .if1 .left in
+    at-write .write-ipv4-from-block .ensures
+    ∙ echo-given p (a .out .now) (read-given p e z .is) (numbers-given p e z) (ap versionNumbered (sym (four .if2 .taken))) (read .decode-into .ensures .1 .0) (read .decode-into .ensures .1 .1)
+
 version-of-requires : tie.Need-version-of-requires
 version-of-requires c κs = search needs
 
 write-from-block-requires : tie.Need-write-from-block-requires
 write-from-block-requires c κs = search needs
 
-same-length : tie.Need-same-length
-same-length c = search needs
+same-length-2 : tie.Need-same-length-2
+same-length-2 c = search needs
 
-returns-2 : tie.Need-returns-2
-returns-2 c =
+returns-3 : tie.Need-returns-3
+returns-3 c =
     let at-write = c .before .before in
     let version = at-write .before .before in
-    let read = version .before .before .before in
+    let otherwise = version .before .before .before in
+    let read = otherwise .before .before in
     let a = read .before .before .before .before .before .args in
     let p = a .tpdu .now in
     let e = read .decode-into .ensures .0 in
-    let z = version .before .if1 .left in
+    let z = otherwise .if1 .left in
     at-write .write-from-block .ensures
     ∙ echo-given p (a .out .now) (read-given p e z .is) (numbers-given p e z) (version .version-of .ensures) (read .decode-into .ensures .1 .0) (read .decode-into .ensures .1 .1)
 
@@ -43,7 +65,10 @@ echo-tpdu-spec =
     (tie.spec
     decode-into-requires
     returns
+    write-ipv4-from-block-requires
+    same-length
+    returns-2
     version-of-requires
     write-from-block-requires
-    same-length
-    returns-2)
+    same-length-2
+    returns-3)
