@@ -2,12 +2,33 @@
 use measurement::InnerIpFlow;
 use measurement::Written;
 ghost use mathlib.Core.Path.{_≡_};
+ghost use Prim.Native.Nat.{ℕ};
+ghost use lib.ListN.{replicate};
 ghost use Rattle.measurement.specs.Packet.{buildOf};
 ghost use Rattle.measurement.specs.Echo.{echoOf};
 ghost use Rattle.measurement.specs.Answer.{wrote, writing, writingOf};
+ghost use Rattle.measurement.specs.declared.InnerIpFlow.{InnerIpFlow};
 ghost use Rattle.measurement.specs.declared.IpVersion.the-variants.{V4};
+ghost use Rattle.measurement_echo.specs.Block.{InBlock};
 
-// A T-PDU made in a block of 72 zero bytes, whose bytes are then copied out: where they do not fit, the output is untouched.
+// Copies a T-PDU out of the block that it was built in: where it does not fit, the output is untouched.
+fn copy_out(built: Written, block: &[u8], out: &mut [u8]) -> Written
+    requires { ⌜ InBlock built (now block) ⌝ }
+    ensures { λ r. ⌜ ((flow : InnerIpFlow) (sequence time : ℕ) → wrote built (now (block .entry)) ≡ writing (buildOf flow sequence time) (replicate 72 0) → wrote r (now (out .exit)) ≡ writing (buildOf flow sequence time) (now (out .entry))) ⌝ }
+{
+    match built {
+        Written::Refused(number) => Written::Refused(number),
+        Written::Bytes(n) => {
+            if out.len() < n {
+                return Written::Refused(error::OUTPUT_TOO_SHORT);
+            }
+            bytes::copy(&block[..n], out);
+            Written::Bytes(n)
+        }
+    }
+}
+
+// A T-PDU made in a block of 72 zero bytes, whose bytes are then copied out.
 fn write_from_block(
     flow: InnerIpFlow,
     sequence: u64,
@@ -23,16 +44,7 @@ fn write_from_block(
         send_timestamp_ns,
         &mut block,
     );
-    match built {
-        Written::Refused(number) => Written::Refused(number),
-        Written::Bytes(n) => {
-            if out.len() < n {
-                return Written::Refused(error::OUTPUT_TOO_SHORT);
-            }
-            bytes::copy(&block[..n], out);
-            Written::Bytes(n)
-        }
-    }
+    copy_out(built, &block, out)
 }
 
 // The same for IPv4, from parts: of each array only the four bytes of the address are read, as they were stored. A flow would be copied by wider
@@ -58,16 +70,7 @@ fn write_ipv4_from_block(
         send_timestamp_ns,
         &mut block,
     );
-    match built {
-        Written::Refused(number) => Written::Refused(number),
-        Written::Bytes(count) => {
-            if out.len() < count {
-                return Written::Refused(error::OUTPUT_TOO_SHORT);
-            }
-            bytes::copy(&block[..count], out);
-            Written::Bytes(count)
-        }
-    }
+    copy_out(built, &block, out)
 }
 
 // Reads a T-PDU and writes its echo to the front of `out`: source and destination exchanged, sequence and time kept.

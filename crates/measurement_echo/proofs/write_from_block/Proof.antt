@@ -1,9 +1,5 @@
 -- `measurement_echo::write_from_block` meets its contract.
 -- Assumes nothing.
-use mathlib.Core.Path.{sym, ap, _∙_}
-use native.Mathlib.Omega.{arith}
-use lib.ListN.{length}
-use Rattle.measurement_echo.proofs.Block.{built-fits, not-refused, count-is, front-is, out-short, out-copied}
 use borrow.Author.Needs.{needs}
 use Rattle.measurement_echo.proofs.write_from_block.Statement.{statement}
 use Rattle.measurement_echo.proofs.write_from_block.Tie as tie
@@ -14,69 +10,21 @@ slice-aggregate-build-measurement-tpdu c = search needs
 build-measurement-tpdu-requires : tie.Need-build-measurement-tpdu-requires
 build-measurement-tpdu-requires c κs = search needs
 
-enum-known-built : tie.Need-enum-known-built
-enum-known-built c = search needs
+slice-aggregate-copy-out : tie.Need-slice-aggregate-copy-out
+slice-aggregate-copy-out c = search needs
 
-enum-known-built-2 : tie.Need-enum-known-built-2
-enum-known-built-2 c = search needs
-
-returns : tie.Need-returns
-returns c =
-    let told = c .before in
-    let known = told .before in
-    let made = known .before .before .before in
-    let s = made .before .before .before in
-    let a = s .args in
-    out-short (a .flow) (a .sequence) (a .send-timestamp-ns) (made .build-measurement-tpdu .result) (made .build-measurement-tpdu .last .1 .1 .1 .0) (made .build-measurement-tpdu .ensures) (known .built2 .given .1) (a .out .now) (c .if1 .taken)
-
-array-share-prefix-block : tie.Need-array-share-prefix-block
-array-share-prefix-block c =
-    let told = c .before in
-    let known = told .before in
-    let made = known .before .before .before in
-    let s = made .before .before .before in
-    let a = s .args in
-    omega (arith, count-is (a .flow) (a .sequence) (a .send-timestamp-ns) (made .build-measurement-tpdu .result) (made .build-measurement-tpdu .last .1 .1 .1 .0) (made .build-measurement-tpdu .ensures) (known .built2 .given .1), built-fits (a .flow) (a .sequence) (a .send-timestamp-ns))
-
-slice-aggregate-copy : tie.Need-slice-aggregate-copy
-slice-aggregate-copy c =
-    let told = c .before .before in
-    let known = told .before in
-    let made = known .before .before .before in
-    let s = made .before .before .before in
-    let a = s .args in
-    count-is (a .flow) (a .sequence) (a .send-timestamp-ns) (made .build-measurement-tpdu .result) (made .build-measurement-tpdu .last .1 .1 .1 .0) (made .build-measurement-tpdu .ensures) (known .built2 .given .1) ∙ sym (ap length (front-is (a .flow) (a .sequence) (a .send-timestamp-ns) (made .build-measurement-tpdu .result) (made .build-measurement-tpdu .last .1 .1 .1 .0) (made .build-measurement-tpdu .ensures) (known .built2 .given .1)))
-
-copy-requires : tie.Need-copy-requires
-copy-requires c κs =
-    let told = c .before .before .before in
-    let known = told .before in
-    let made = known .before .before .before in
-    let s = made .before .before .before in
-    let a = s .args in
-    omega (arith, c .before .before .if1 .left, count-is (a .flow) (a .sequence) (a .send-timestamp-ns) (made .build-measurement-tpdu .result) (made .build-measurement-tpdu .last .1 .1 .1 .0) (made .build-measurement-tpdu .ensures) (known .built2 .given .1), ap length (front-is (a .flow) (a .sequence) (a .send-timestamp-ns) (made .build-measurement-tpdu .result) (made .build-measurement-tpdu .last .1 .1 .1 .0) (made .build-measurement-tpdu .ensures) (known .built2 .given .1)))
-
-returns-2 : tie.Need-returns-2
-returns-2 c =
-    let told = c in
-    let known = told .before in
-    let made = known .before .before .before in
-    let s = made .before .before .before in
-    let a = s .args in
-    not-refused (a .flow) (a .sequence) (a .send-timestamp-ns) (made .build-measurement-tpdu .result) (made .build-measurement-tpdu .last .1 .1 .1 .0) (made .build-measurement-tpdu .ensures) (known .built .given .1)
+copy-out-requires : tie.Need-copy-out-requires
+copy-out-requires c κs = search needs
 
 same-length : tie.Need-same-length
 same-length c = search needs
 
-returns-3 : tie.Need-returns-3
-returns-3 c =
+returns : tie.Need-returns
+returns c =
     let at-copy = c .before .before in
-    let told = at-copy .before .before .before .before in
-    let known = told .before in
-    let made = known .before .before .before in
-    let s = made .before .before .before in
-    let a = s .args in
-    out-copied (a .flow) (a .sequence) (a .send-timestamp-ns) (made .build-measurement-tpdu .result) (made .build-measurement-tpdu .last .1 .1 .1 .0) (made .build-measurement-tpdu .ensures) (known .built2 .given .1) (a .out .now) (at-copy .copy .last .1 .0) (at-copy .before .before .before .if1 .left) (at-copy .copy .ensures .1)
+    let made = at-copy .before .before .before .before in
+    let a = made .before .before .before .args in
+    at-copy .copy-out .ensures (a .flow) (a .sequence) (a .send-timestamp-ns) (made .build-measurement-tpdu .ensures)
 
 pub write-from-block-spec : {M : Type 1} → statement M
 write-from-block-spec =
@@ -84,12 +32,7 @@ write-from-block-spec =
     (tie.spec
     slice-aggregate-build-measurement-tpdu
     build-measurement-tpdu-requires
-    enum-known-built
-    enum-known-built-2
-    returns
-    array-share-prefix-block
-    slice-aggregate-copy
-    copy-requires
-    returns-2
+    slice-aggregate-copy-out
+    copy-out-requires
     same-length
-    returns-3)
+    returns)
