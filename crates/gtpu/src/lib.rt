@@ -5,6 +5,7 @@ ghost use Prim.Native.Nat.{_<_, _≤_};
 ghost use lib.ListN.{length, getD};
 ghost use Rattle.gtpu.specs.Message.{messageTypesOf};
 ghost use Rattle.gtpu.specs.Element.{otherLength, elementOf, endOf, elementsFrom, elementsOf};
+ghost use Rattle.gtpu.specs.Claims.{SameRule, EndRule, EmptyList, ErrorIndicationAccepted, Examples};
 ghost use Rattle.gtpu.specs.Answer.{means, numbered, judgedMeans, goOn, walkedMeans, Advanced};
 
 // The message types, under the Rust's names. `message_types` proves that they are those of specs/Message.antt.
@@ -182,3 +183,13 @@ pub fn validate_error_indication_ies(payload: &[u8]) -> ElementsChecked
         has_peer_address = answer / 2 % 2 == 1;
     }
 }
+
+// Carries what is claimed of the walk: each element, and the end of the list, is read by the rule of leaf 8.
+pub fn elements_read_by_one_rule()
+    ensures { λ _. ⌜ SameRule × EndRule × EmptyList × Examples ⌝ }
+{}
+
+// Carries that the payload of the reflector's Error Indication is accepted.
+pub fn error_indication_accepted()
+    ensures { λ _. ⌜ ErrorIndicationAccepted ⌝ }
+{}

@@ -15,6 +15,7 @@ ghost use Rattle.observer.specs.Place.{place, holds};
 ghost use Rattle.observer.specs.Columns.{marksKnown, anyMarked, inserted};
 ghost use Rattle.observer.specs.Sending.{recordSent};
 ghost use Rattle.observer.specs.Returning.{recordReturn, recordErrorIndication};
+ghost use Rattle.observer.specs.Claims.{PutBack, FreshIsWell, CallsKeepWell, SearchFinds, FullOnlyWhenFull, FullAtRow2049, SentAgain, BelowHighestMarked};
 ghost use Rattle.observer.specs.Answer.{observerOf, acceptance, refusal, recorded, returnedMeans, walkedMeans};
 
 pub mod batch; // batch.rt: the packets of a plan, or a list of returns, in one call
@@ -449,3 +450,18 @@ pub fn record_error_indication(
         Walked::Accepted => counts.one_error_indication().accepted(),
     }
 }
+
+// Carries that 21 is never due on a sheet that was fresh and that only these calls have written since.
+pub fn calls_keep_well_formed()
+    ensures { λ _. ⌜ PutBack × FreshIsWell × CallsKeepWell ⌝ }
+{}
+
+// Carries that 22 is said at row 2,049 and no sooner, and never of a sequence that is on the sheet.
+pub fn full_at_row_2049()
+    ensures { λ _. ⌜ FullOnlyWhenFull × FullAtRow2049 × SentAgain ⌝ }
+{}
+
+// Carries that the search finds a sequence exactly where a used row has it, and that both readings of "out of order" agree.
+pub fn search_finds()
+    ensures { λ _. ⌜ SearchFinds × BelowHighestMarked ⌝ }
+{}

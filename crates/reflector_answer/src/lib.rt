@@ -17,6 +17,7 @@ ghost use Rattle.measurement.specs.Packet.{addressLength};
 ghost use Rattle.reflector_sessions.specs.Judge.{sessionFound};
 ghost use Rattle.reflector_answer.specs.State.{counted, nextErrorSequence, stateCounted};
 ghost use Rattle.reflector_answer.specs.Answer.{errorIndicationBlock, errorIndicationTo, ignored, gpduKnown, gpduUnknown, echoRequest, otherMessage, answer};
+ghost use Rattle.reflector_answer.specs.Claims.{IndicationAccepted, EchoReadsBack};
 ghost use Rattle.reflector_answer.specs.Handle.{nothingSent, handledOf, forwarded, Answers, handleFound};
 
 // Where the policy `Route` sends G-PDUs.
@@ -467,3 +468,13 @@ pub fn handle_found(
         }
     }
 }
+
+// Carries that the walk accepts every Error Indication that the reflector answers with.
+pub fn indications_accepted()
+    ensures { λ _. ⌜ IndicationAccepted ⌝ }
+{}
+
+// Carries that an echo which the reflector answers with reads back to the reversed flow, with sequence and time kept.
+pub fn echoes_read_back()
+    ensures { λ _. ⌜ EchoReadsBack ⌝ }
+{}

@@ -11,6 +11,7 @@ ghost use Rattle.reflector_sessions.specs.Session.{valueOf, noSession, s
 ghost use Rattle.reflector_sessions.specs.Judge.{tableOutcome, judgedMeans, sessionFound};
 ghost use Rattle.reflector_sessions.specs.Table.{tableOf, foundIn, searchedCount, searchedRows, putIf};
 ghost use Rattle.reflector_sessions.specs.Register.{invalidSession, sessionOutcome, registerOutcome, registerSession, registrationOf, registeredOf, Registers};
+ghost use Rattle.reflector_sessions.specs.Claims.{AddedIsFound, UnchangedIsFound, RemovedIsNotFound, StaysUnique};
 ghost use Rattle.reflector_sessions.specs.Remove.{removeOutcome, removeSession, removedOf, Removes};
 
 // A UDP socket address: the Rust's `SocketAddr`, where flow info and scope are 0. Of an IPv4 address only the first 4 bytes count.
@@ -390,3 +391,13 @@ pub fn remove_session(
     swap_remove(sessions, used, answer.used, found.place);
     answer
 }
+
+// Carries that a session is found after it was registered, and not after it was removed.
+pub fn registered_until_removed()
+    ensures { λ _. ⌜ AddedIsFound × UnchangedIsFound × RemovedIsNotFound ⌝ }
+{}
+
+// Carries that no call gives two rows of the table one TEID.
+pub fn teids_stay_unique()
+    ensures { λ _. ⌜ StaysUnique ⌝ }
+{}
