@@ -3,6 +3,7 @@
 use Prim.Native.Nat.{ℕ}
 use mathlib.Core.List.{List}
 use mathlib.Core.Bool.{true, false}
+use mathlib.Core.Option.{Option, some, none}
 use lib.Dec.{eqb}
 use Rattle.error.specs.Outcome.{Outcome, refused, gives, outcomeNumber}
 use Rattle.measurement.specs.Packet.{versionNumbered}
@@ -20,8 +21,7 @@ use Rattle.traffic.specs.declared.TrafficPlan.{TrafficPlan}
 use Rattle.continuity.specs.Returns.{MessageStep}
 use Rattle.continuity.specs.declared.GtpuReturnDatagramOutcome.{GtpuReturnDatagramOutcome}
 use Rattle.continuity.specs.declared.GtpuReturnDatagramOutcome.the-variants.{MeasurementTpdu, ErrorIndication, EchoResponse, Ignored}
-use Rattle.evidence.specs.declared.Latency.{Latency}
-use Rattle.evidence.specs.declared.Latency.the-variants.{Absent, Summary}
+use Rattle.evidence.specs.Latency.{latencyMeans}
 use Rattle.evidence.specs.declared.LatencySummary.{LatencySummary}
 use Rattle.evidence.specs.declared.PacketContinuityBudget.{PacketContinuityBudget}
 use Rattle.evidence.specs.declared.PacketContinuityReport.{PacketContinuityReport}
@@ -154,9 +154,9 @@ abbrev pub budgetOf : ℕ → ℕ → ℕ → PacketContinuityBudget
 budgetOf lost run outage = record { «max_lost_packets» = lost; «max_consecutive_lost_packets» = run; «outage_budget_ns» = outage }
 
 -- Latencies: absent is false and zeros.
-abbrev pub latencyNumbers : Latency → LatencyNumbers
-latencyNumbers Absent = record { present = false; summary = record { «min_ns» = 0; «max_ns» = 0; «avg_ns» = 0 } }
-latencyNumbers (Summary s) = record { present = true; summary = s }
+abbrev pub latencyNumbers : Option LatencySummary → LatencyNumbers
+latencyNumbers none = record { present = false; summary = record { «min_ns» = 0; «max_ns» = 0; «avg_ns» = 0 } }
+latencyNumbers (some s) = record { present = true; summary = s }
 
 -- 0 and the report, or a refusal's number and zeros.
 abbrev pub reportNumbers : Outcome PacketContinuityReport → TestkitReport
@@ -194,10 +194,10 @@ reportNumbers (gives r) = record {
   «gtpu_error_indications» = r .«gtpu_error_indications»;
   «max_consecutive_lost_packets» = r .«max_consecutive_lost_packets»;
   «max_gap_duration_ns» = r .«max_gap_duration_ns»;
-  «has_latency» = latencyNumbers (r .latency) .present;
-  «min_ns» = latencyNumbers (r .latency) .summary .«min_ns»;
-  «max_ns» = latencyNumbers (r .latency) .summary .«max_ns»;
-  «avg_ns» = latencyNumbers (r .latency) .summary .«avg_ns»;
+  «has_latency» = latencyNumbers (latencyMeans (r .latency)) .present;
+  «min_ns» = latencyNumbers (latencyMeans (r .latency)) .summary .«min_ns»;
+  «max_ns» = latencyNumbers (latencyMeans (r .latency)) .summary .«max_ns»;
+  «avg_ns» = latencyNumbers (latencyMeans (r .latency)) .summary .«avg_ns»;
   «max_lost» = r .budget .«max_lost_packets»;
   «max_consecutive» = r .budget .«max_consecutive_lost_packets»;
   «outage_budget_ns» = r .budget .«outage_budget_ns»;

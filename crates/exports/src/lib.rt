@@ -39,6 +39,7 @@ ghost use Rattle.observer.specs.BatchAnswer.{planRecorded};
 ghost use Rattle.continuity.specs.Returns.{recordReceivedTpdu, recordReturnMessage};
 ghost use Rattle.continuity.specs.Answer.{messageMeans};
 ghost use Rattle.continuity.specs.Batch.{recordReceivedTpdus, receivedAll};
+ghost use Rattle.evidence.specs.Latency.{latencyMeans};
 ghost use Rattle.report.specs.Report.{reporting};
 ghost use Rattle.report.specs.Answer.{reportedMeans};
 ghost use Rattle.exports.specs.Interface.{flowOf, writtenNumbers, testkitTpdu, planOf, generatedNumbers, countsOf, recordedNumbers, RecordedStep, planAnswer, returnsAnswer, kindNumber, ignoredType, messageNumbers, MessageStepNumbers, latencyNumbers, budgetOf, reportNumbers};
@@ -554,7 +555,7 @@ struct LatencyNumbers {
 }
 
 fn latency_numbers(latency: Latency) -> LatencyNumbers
-    ensures { λ r. ⌜ r ≡ latencyNumbers latency ⌝ }
+    ensures { λ r. ⌜ r ≡ latencyNumbers (latencyMeans latency) ⌝ }
 {
     match latency {
         Latency::Absent => LatencyNumbers {

@@ -4,12 +4,12 @@ use Prim.Native.Nat.{ℕ, suc, _+_, _-_, _/_, _≤_, _<_, min, max}
 use mathlib.Core.Path.{_≡_, refl, ap, _∙_}
 use mathlib.Core.List.{List, [], _∷_, map}
 use mathlib.Core.Bool.{Bool, true, false}
+use mathlib.Core.Option.{some}
 use native.Mathlib.Numerals.{add-one}
 use native.Mathlib.Omega.{arith}
 use lib.Dec.{eqb, eqb·suc-zero}
 use lib.ListN.{length, getD, take, drop}
 use borrow.Author.Tests.{eq-eqb, ne-eqb}
-use Rattle.evidence.specs.declared.Latency.the-variants.{Summary}
 use Rattle.observer.specs.Observer.{Row}
 use Rattle.report.specs.Report.{latenciesOf, total, greatest, least, latencyOf}
 use Rattle.report.specs.Loops.{markedOf, leastSoFar, leastFrom, summaryOf, wordsOf, Within, Gathers}
@@ -87,7 +87,7 @@ least-after n low (x ∷ xs) = ap (λ (y : ℕ). leastFrom (suc (suc n)) y xs) (
 
 summary-is : (xs : List ℕ) → summaryOf (length xs) (leastFrom 0 0 xs) (greatest xs) (total xs) ≡ latencyOf xs
 summary-is [] = refl
-summary-is (x ∷ xs) = rw (eqb·suc-zero (length xs), summaryOf) (ap (λ (low : ℕ). Summary (record { «min_ns» = low; «max_ns» = greatest (x ∷ xs); «avg_ns» = total (x ∷ xs) / length (x ∷ xs) })) (least-after 0 x xs))
+summary-is (x ∷ xs) = rw (eqb·suc-zero (length xs), summaryOf) (ap (λ (low : ℕ). some (record { «min_ns» = low; «max_ns» = greatest (x ∷ xs); «avg_ns» = total (x ∷ xs) / length (x ∷ xs) })) (least-after 0 x xs))
 
 pub summary-of : (xs : List ℕ) (g : Gathered) → Gathers xs g → summaryOf (g .count) (g .low) (g .high) (wordsOf (g .upper) (g .lower)) ≡ latencyOf xs
 summary-of xs g k = rw (k .count, k .low, k .high, k .sum) (summary-is xs)

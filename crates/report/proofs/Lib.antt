@@ -3,3 +3,4 @@ pub mod Division
 pub mod Latencies
 pub mod Runs
 pub mod Reporting
+pub mod Claims

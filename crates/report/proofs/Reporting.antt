@@ -1,7 +1,7 @@
 -- The report: leaf 7's definitions over the used rows are what the loops compute over the columns.
 -- Assumes nothing.
 use Prim.Native.Nat.{ℕ, _-_, _≤_}
-use mathlib.Core.Path.{_≡_, sym, ap, _∙_}
+use mathlib.Core.Path.{_≡_, refl, sym, ap, _∙_}
 use mathlib.Core.List.{List, map}
 use mathlib.Core.Bool.{false}
 use native.Mathlib.Omega.{arith}
@@ -9,7 +9,9 @@ use lib.Dec.{ltb}
 use lib.ListN.{length, take, length-take}
 use Rattle.error.specs.Number.{malformedObserver}
 use Rattle.error.specs.Outcome.{refused, gives}
+use Rattle.evidence.specs.Latency.{latencyMeans, latencyFor}
 use Rattle.evidence.specs.declared.Latency.{Latency}
+use Rattle.evidence.specs.declared.Latency.the-variants.{Absent, Summary}
 use Rattle.evidence.specs.declared.PacketContinuityBudget.{PacketContinuityBudget}
 use Rattle.evidence.specs.declared.PacketContinuityReport.{PacketContinuityReport}
 use Rattle.observer.specs.Observer.{Observer, rows}
@@ -25,6 +27,11 @@ pub reported-malformed : (o : Observer) (start end : ℕ) (budget : PacketContin
     → refused malformedObserver ≡ reporting o start end budget
 unfolding reporting
 reported-malformed o start end budget e = judged-malformed o _ e
+
+-- a case of the enum is the one for what it means
+meant : (latency : Latency) → latency ≡ latencyFor (latencyMeans latency)
+meant Absent = refl
+meant (Summary s) = refl
 
 module _ {o : Observer} (w : Well o) where
   -- the latencies that the loop gathers
@@ -51,7 +58,7 @@ module _ {o : Observer} (w : Well o) where
 
   pub reported : (start end : ℕ) (budget : PacketContinuityBudget) (n run outage : ℕ) (latency : Latency)
       → n ≡ length gathered → run ≡ longestIn 0 (take (o .counts .used) (o .marks))
-      → outage ≡ outageIn end 0 0 (take (o .counts .used) (o .sendTimes)) (take (o .counts .used) (o .marks)) → latency ≡ latencyOf gathered
+      → outage ≡ outageIn end 0 0 (take (o .counts .used) (o .sendTimes)) (take (o .counts .used) (o .marks)) → latencyMeans latency ≡ latencyOf gathered
       → gives
       (record {
         «window_start_ns» = start;
@@ -72,6 +79,6 @@ module _ {o : Observer} (w : Well o) where
       ≡ reporting o start end budget
   unfolding reporting reportOf
   reported start end budget n run outage latency en er eo el =
-      rw (en, er, eo, el)
+      rw (en, er, eo, meant latency ∙ ap latencyFor el)
       (sym (ap (λ (x : PacketContinuityReport). gives x) (rw (w .fronts .count, latencies-are, longest-is end, outage-is end)))
       ∙ judged-well o _ (w .accepted))

@@ -2,3 +2,4 @@
 pub mod Report
 pub mod Answer
 pub mod Loops
+pub mod Claims

@@ -4,10 +4,10 @@ use Prim.Native.Nat.{ℕ, suc, _+_, _-_, _*_, _/_, _≤_, min, max}
 use mathlib.Core.Path.{_≡_}
 use mathlib.Core.List.{List, [], _∷_}
 use mathlib.Core.Bool.{true, false}
+use mathlib.Core.Option.{Option, some, none}
 use lib.Dec.{eqb}
 use lib.ListN.{length}
-use Rattle.evidence.specs.declared.Latency.{Latency}
-use Rattle.evidence.specs.declared.Latency.the-variants.{Absent, Summary}
+use Rattle.evidence.specs.declared.LatencySummary.{LatencySummary}
 use Rattle.report.specs.Report.{total, greatest}
 use Rattle.report.specs.declared.Gathered.{Gathered}
 
@@ -43,8 +43,8 @@ pub record Gathers (xs : List ℕ) (g : Gathered) : Type 0 where
   pub bounded : Within (g .count) (wordsOf (g .upper) (g .lower))
 
 -- the summary of n latencies
-abbrev pub summaryOf : ℕ → ℕ → ℕ → ℕ → Latency
-summaryOf n low high sum = elim (eqb n 0) [ true ↦ Absent | false ↦ Summary (record { «min_ns» = low; «max_ns» = high; «avg_ns» = sum / n }) ]
+abbrev pub summaryOf : ℕ → ℕ → ℕ → ℕ → Option LatencySummary
+summaryOf n low high sum = elim (eqb n 0) [ true ↦ none | false ↦ some (record { «min_ns» = low; «max_ns» = high; «avg_ns» = sum / n }) ]
 
 -- how long a run of n rows lasts that began at `since`; no run, no time
 abbrev pub gapOf : ℕ → ℕ → ℕ → ℕ

@@ -3,11 +3,12 @@
 use Prim.Native.Nat.{ℕ, suc, _+_, _-_, _/_, min, max}
 use mathlib.Core.List.{List, [], _∷_, map}
 use mathlib.Core.Bool.{Bool, true, false, _&&_}
+use mathlib.Core.Option.{Option, some, none}
 use lib.Dec.{leb, ltb, eqb}
 use lib.ListN.{length}
 use Rattle.error.specs.Outcome.{Outcome, gives}
-use Rattle.evidence.specs.declared.Latency.{Latency}
-use Rattle.evidence.specs.declared.Latency.the-variants.{Absent, Summary}
+use Rattle.evidence.specs.Latency.{latencyFor}
+use Rattle.evidence.specs.declared.LatencySummary.{LatencySummary}
 use Rattle.evidence.specs.declared.PacketContinuityBudget.{PacketContinuityBudget}
 use Rattle.evidence.specs.declared.PacketContinuityReport.{PacketContinuityReport}
 use Rattle.observer.specs.Observer.{Row, Observer, rows}
@@ -35,10 +36,10 @@ least x [] = x
 least x (y ∷ ys) = min x (least y ys)
 
 -- "Latency: minimum, maximum, mean rounded down; absent without returns."
-abbrev pub latencyOf : List ℕ → Latency
-latencyOf [] = Absent
+abbrev pub latencyOf : List ℕ → Option LatencySummary
+latencyOf [] = none
 latencyOf (x ∷ xs) =
-    Summary (record { «min_ns» = least x xs; «max_ns» = greatest (x ∷ xs); «avg_ns» = total (x ∷ xs) / length (x ∷ xs) })
+    some (record { «min_ns» = least x xs; «max_ns» = greatest (x ∷ xs); «avg_ns» = total (x ∷ xs) / length (x ∷ xs) })
 
 -- ---- runs of rows that did not return
 
@@ -102,7 +103,7 @@ reportOf rs counts windowStart windowEnd budget =
       «gtpu_error_indications» = counts .«gtpu_error_indications»;
       «max_consecutive_lost_packets» = run;
       «max_gap_duration_ns» = outage;
-      latency = latencyOf (latenciesOf rs);
+      latency = latencyFor (latencyOf (latenciesOf rs));
       budget = budget;
       «forwarding_proven» = ltb 0 returned;
       «packet_continuity_proven» = withinBudget budget (sent - returned) run outage (counts .«gtpu_error_indications»);

@@ -3,9 +3,11 @@
 ghost use mathlib.Core.Path.{_≡_};
 ghost use Prim.Native.Nat.{_≤_, _<_, _+_, _/_, max};
 ghost use lib.ListN.{length, take};
+ghost use Rattle.evidence.specs.Latency.{latencyMeans};
 ghost use Rattle.observer.specs.Answer.{observerOf};
 ghost use Rattle.report.specs.Report.{withinBudget, reporting};
 ghost use Rattle.report.specs.Answer.{reportedMeans};
+ghost use Rattle.report.specs.Claims.{LatencyOfTheRows};
 ghost use Rattle.report.specs.Loops.{markedOf, leastSoFar, wordsOf, Within, Gathers, summaryOf, gapOf, sinceOf, longestIn, outageIn};
 use evidence::Latency;
 use evidence::LatencySummary;
@@ -113,7 +115,7 @@ fn mean(upper: u64, lower: u64, n: u64) -> u64
 
 fn summary(g: Gathered) -> Latency
     requires { ⌜ (g .count ≤ 2048) × Within (g .count) (wordsOf (g .upper) (g .lower)) ⌝ }
-    ensures { λ r. ⌜ r ≡ summaryOf (g .count) (g .low) (g .high) (wordsOf (g .upper) (g .lower)) ⌝ }
+    ensures { λ r. ⌜ latencyMeans r ≡ summaryOf (g .count) (g .low) (g .high) (wordsOf (g .upper) (g .lower)) ⌝ }
 {
     let n = g.count;
     if n == 0 {
@@ -229,3 +231,8 @@ pub fn report(
         packet_continuity_proven: within_budget(budget, lost, worst, counts.gtpu_error_indications),
     })
 }
+
+// Carries that the latency of a report means what leaf 7 says of its rows.
+pub fn latency_is_that_of_the_rows()
+    ensures { λ _. ⌜ LatencyOfTheRows ⌝ }
+{}

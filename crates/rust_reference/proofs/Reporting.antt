@@ -10,6 +10,7 @@ use lib.Dec.{eqb, ltb, lit≤}
 use lib.ListN.{length, length-map}
 use borrow.Author.Tests.{ltb-true, ltb-false, eq-eqb, ne-eqb}
 use Rattle.error.specs.Outcome.{gives}
+use Rattle.evidence.specs.Latency.{latencyFor}
 use Rattle.evidence.specs.declared.Latency.{Latency}
 use Rattle.evidence.specs.declared.LatencySummary.{LatencySummary}
 use Rattle.evidence.specs.declared.PacketContinuityBudget.{PacketContinuityBudget}
@@ -90,7 +91,7 @@ latency-loop (x ∷ xs) low high sum count f h k =
 mean-fits : (xs : List ℕ) → Fit xs → total xs / length xs ≤ «u64_max»
 mean-fits xs f = div-le-of-le-mul (length xs) (total-bound xs f)
 
-summary-is : (xs : List ℕ) → Fit xs → length xs ≤ 2048 → latencyOf («latency_summary» xs) ≡ leaf.latencyOf xs
+summary-is : (xs : List ℕ) → Fit xs → length xs ≤ 2048 → latencyOf («latency_summary» xs) ≡ latencyFor (leaf.latencyOf xs)
 unfolding «latency_summary»
 summary-is [] f h = refl
 summary-is (x ∷ xs) f h =
@@ -275,7 +276,7 @@ module _ (rust : ContinuityObserver) (o : Observer) (same : Same rust o) (start 
   received-is : length (rust .received) ≡ length (latenciesOf rs)
   received-is = sym (length-map (rust .received) (λ e. e .value)) ∙ ap length values-same
 
-  latency-is : latencyOf («latency_summary» (values (rust .received))) ≡ leaf.latencyOf (latenciesOf rs)
+  latency-is : latencyOf («latency_summary» (values (rust .received))) ≡ latencyFor (leaf.latencyOf (latenciesOf rs))
   latency-is =
       ap (λ (l : List ℕ). latencyOf («latency_summary» l)) values-same
       ∙ summary-is (latenciesOf rs) (subst Fit values-same (values-fit (rust .received) (same .latencies))) (omega (arith, few, few-latencies rs))
