@@ -17,7 +17,7 @@ use Rattle.observer.specs.declared.ObserverCounts.{ObserverCounts}
 use Rattle.observer.specs.declared.batch.PlanRecorded.{PlanRecorded}
 use Rattle.observer.specs.declared.batch.ReturnsRecorded.{ReturnsRecorded}
 use Rattle.traffic.specs.Generate.{Generating}
-use Rattle.traffic.specs.declared.TrafficPlan.{TrafficPlan}
+use Rattle.plan.specs.declared.TrafficPlan.{TrafficPlan}
 use Rattle.continuity.specs.Returns.{MessageStep}
 use Rattle.continuity.specs.declared.GtpuReturnDatagramOutcome.{GtpuReturnDatagramOutcome}
 use Rattle.continuity.specs.declared.GtpuReturnDatagramOutcome.the-variants.{MeasurementTpdu, ErrorIndication, EchoResponse, Ignored}

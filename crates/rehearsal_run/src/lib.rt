@@ -15,6 +15,7 @@ use measurement::InnerIpFlow;
 use measurement::IpVersion;
 use measurement::Written;
 use observer::ObserverCounts;
+use plan::TrafficPlan;
 use reflector_answer::GtpuMessage;
 use reflector_answer::Handled;
 use reflector_answer::MultiSessionReflectorConfig;
@@ -31,7 +32,6 @@ use reflector_sessions::SocketAddr;
 use report::Reported;
 use scenario::Scenario;
 use scenario::Taken;
-use traffic::TrafficPlan;
 ghost use mathlib.Core.Path.{_≡_};
 ghost use lib.ListN.{length};
 

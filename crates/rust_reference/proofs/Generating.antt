@@ -14,12 +14,12 @@ use Rattle.field.specs.Field.{Bytes}
 use Rattle.measurement.specs.Packet.{buildOf}
 use Rattle.measurement.specs.declared.InnerIpFlow.{InnerIpFlow}
 use Rattle.measurement.specs.declared.MeasurementHeader.{MeasurementHeader}
-use Rattle.traffic.specs.Plan.{top, interval, intervalOf, timeAt, packetAt, packetsFrom, packetsOf, causesAt, causesFrom, Judged, firstPlanCause, judgePackets, judgePlan}
+use Rattle.plan.specs.Plan.{top, interval, intervalOf, timeAt, packetAt, packetsFrom, packetsOf, causesAt, causesFrom, Judged, firstPlanCause, judgePackets, judgePlan}
 use Rattle.traffic.specs.Generate.{endToEnd, Generating, placing, generateOf}
-use Rattle.traffic.specs.declared.TrafficPlan.{TrafficPlan}
-use Rattle.traffic.proofs.Judged.{rate-zero, rate-high, rate-good, plan-refused, plan-too-many, plan-judged, plan-timed}
+use Rattle.plan.specs.declared.TrafficPlan.{TrafficPlan}
+use Rattle.plan.proofs.Judged.{rate-zero, rate-high, rate-good, plan-refused, plan-too-many, plan-judged, plan-timed}
 use Rattle.traffic.proofs.Answers.{placing-short, placing-fits, generate-refused}
-use Rattle.traffic.proofs.Rows.{refusedAt, here, later, refuses}
+use Rattle.plan.proofs.Rows.{refusedAt, here, later, refuses}
 use Rattle.traffic.proofs.Packets.{end-to-end-append}
 use Rattle.rust_reference.specs.Claims.{NoneAdded, IntervalNs, Generate}
 use Rattle.rust_reference.specs.Error as error

@@ -18,9 +18,9 @@ use Rattle.measurement.specs.Echo.{echoOf}
 use Rattle.measurement.specs.Answer.{writing, writingOf}
 use Rattle.measurement.specs.Claims.{InRange}
 use Rattle.measurement.specs.declared.InnerIpFlow.{InnerIpFlow}
-use Rattle.traffic.specs.Plan.{intervalOf, judgePlan}
+use Rattle.plan.specs.Plan.{intervalOf, judgePlan}
 use Rattle.traffic.specs.Generate.{generateOf}
-use Rattle.traffic.specs.declared.TrafficPlan.{TrafficPlan}
+use Rattle.plan.specs.declared.TrafficPlan.{TrafficPlan}
 use Rattle.observer.specs.Answer.{observerOf}
 use Rattle.observer.specs.Counts.{fresh}
 use Rattle.observer.specs.Judge.{wellFormed}

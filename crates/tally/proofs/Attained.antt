@@ -19,8 +19,9 @@ use Rattle.measurement.specs.Echo.{reversedOf}
 use Rattle.measurement.specs.Claims.{InRange, Travelled, arrives, echoes, echoesOf}
 use Rattle.measurement.specs.declared.InnerIpFlow.{InnerIpFlow}
 use Rattle.measurement.proofs.Built.{packet-bytes}
-use Rattle.traffic.specs.Plan.{timeAt, packetsFrom, packetsOf}
-use Rattle.traffic.proofs.Claims.{accepted-if-acceptable, room-decides}
+use Rattle.plan.specs.Plan.{timeAt, packetsFrom, packetsOf}
+use Rattle.plan.proofs.Claims.{accepted-if-acceptable}
+use Rattle.traffic.proofs.Claims.{room-decides}
 use Rattle.counter.specs.Counter.{oneMore}
 use Rattle.observer.specs.Observer.{capacity, rows, withRows}
 use Rattle.observer.specs.Judge.{wellFormed, judged}

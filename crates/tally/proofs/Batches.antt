@@ -9,10 +9,11 @@ use native.Mathlib.Omega.{arith}
 use lib.ListN.{take}
 use Rattle.measurement.specs.declared.InnerIpFlow.{InnerIpFlow}
 use Rattle.measurement.specs.declared.MeasurementHeader.{MeasurementHeader}
-use Rattle.traffic.specs.Plan.{top, interval, timeAt, packetsOf, Judged}
-use Rattle.traffic.specs.Plan as plans
-use Rattle.traffic.specs.declared.TrafficPlan.{TrafficPlan}
-use Rattle.traffic.proofs.Claims.{success-is-complete, acceptable-if-accepted}
+use Rattle.plan.specs.Plan.{top, interval, timeAt, packetsOf, Judged}
+use Rattle.plan.specs.Plan as plans
+use Rattle.plan.specs.declared.TrafficPlan.{TrafficPlan}
+use Rattle.plan.proofs.Claims.{acceptable-if-accepted}
+use Rattle.traffic.proofs.Claims.{success-is-complete}
 use Rattle.observer.specs.Observer.{Observer}
 use Rattle.observer.specs.Sending.{recordSent}
 use Rattle.observer.specs.InTurn.{Packet, packetsFrom, goesOn, inTurn, sendPacket, recordSentPlan}

@@ -12,7 +12,7 @@ use Rattle.measurement.specs.Read.{payload, lengthWrong, covered, sumWrong, pro
 use Rattle.measurement.specs.Echo.{echoOf}
 use Rattle.measurement.specs.Claims.{InRange}
 use Rattle.measurement.specs.declared.DecodedTpdu.{DecodedTpdu}
-use Rattle.traffic.specs.Plan.{rateCauses, intervalOf}
+use Rattle.plan.specs.Plan.{rateCauses, intervalOf}
 use Rattle.gtpu.specs.Element.{endOf, walk, elementsFrom, elementsOf}
 use Rattle.observer.specs.Observer.{Observer, capacity, rows, withRows}
 use Rattle.observer.specs.Judge.{wellFormed, judged}

@@ -10,8 +10,8 @@ use Rattle.measurement.specs.Read.{readOf}
 use Rattle.measurement.specs.declared.DecodedTpdu.{DecodedTpdu}
 use Rattle.measurement.specs.declared.InnerIpFlow.{InnerIpFlow}
 use Rattle.measurement.proofs.Claims.{damage-found}
-use Rattle.traffic.specs.Plan.{packetsOf}
-use Rattle.traffic.specs.declared.TrafficPlan.{TrafficPlan}
+use Rattle.plan.specs.Plan.{packetsOf}
+use Rattle.plan.specs.declared.TrafficPlan.{TrafficPlan}
 use Rattle.observer.specs.Counts.{withUsed}
 use Rattle.observer.specs.Observer.{Observer, rows}
 use Rattle.observer.specs.declared.ObserverCounts.{ObserverCounts}

@@ -11,8 +11,8 @@ use lib.Seq.{take-length, drop-length}
 use borrow.Author.Tests.{le-ltb}
 use Rattle.error.specs.Outcome.{gives}
 use Rattle.error.proofs.Causes.{refused-gives}
-use Rattle.traffic.specs.Plan.{timeAt, packetsFrom, packetsOf}
-use Rattle.traffic.specs.declared.TrafficPlan.{TrafficPlan}
+use Rattle.plan.specs.Plan.{timeAt, packetsFrom, packetsOf}
+use Rattle.plan.specs.declared.TrafficPlan.{TrafficPlan}
 use Rattle.observer.specs.Counts.{fresh}
 use Rattle.observer.specs.Observer.{Row, Observer, capacity, rows, sequencesOf, sentRow, withRows}
 use Rattle.observer.specs.Judge.{wellFormed, Step, step}

@@ -6,7 +6,7 @@ use mathlib.Core.Path.{refl, ap, _∙_}
 use lib.ListN.{length, take, drop}
 use lib.Seq.{take-at}
 use Rattle.measurement_build.proofs.Whole.{build-length}
-use Rattle.traffic.specs.Plan.{timeAt, packetsOf}
+use Rattle.plan.specs.Plan.{timeAt, packetsOf}
 use Rattle.traffic.specs.Generate.{endToEnd, Generating}
 use Rattle.traffic.proofs.Packets.{size}
 use Rattle.traffic.proofs.Claims.{success, standing}

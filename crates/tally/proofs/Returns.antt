@@ -12,10 +12,11 @@ use Rattle.measurement.specs.Claims.{InRange, tpduBuilt, built, RefusesOr, echo
 use Rattle.measurement.specs.declared.DecodedTpdu.{DecodedTpdu}
 use Rattle.measurement.specs.declared.InnerIpFlow.{InnerIpFlow}
 use Rattle.measurement.proofs.Claims.{reads-back-alone, echo-alone, reversed-in-range, damage-found, legs-chained}
-use Rattle.traffic.specs.Plan.{timeAt, packetsOf, Judged}
-use Rattle.traffic.specs.Claims.{Acceptable}
-use Rattle.traffic.specs.declared.TrafficPlan.{TrafficPlan}
-use Rattle.traffic.proofs.Claims.{success-is-complete, acceptable-if-accepted}
+use Rattle.plan.specs.Plan.{timeAt, packetsOf, Judged}
+use Rattle.plan.specs.Claims.{Acceptable}
+use Rattle.plan.specs.declared.TrafficPlan.{TrafficPlan}
+use Rattle.plan.proofs.Claims.{acceptable-if-accepted}
+use Rattle.traffic.proofs.Claims.{success-is-complete}
 use Rattle.tally.specs.Demand.{Accepted, packet, Return, bytesGiven, wholeBytes}
 use Rattle.tally.proofs.Steps.{Reads}
 

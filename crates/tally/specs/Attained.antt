@@ -9,10 +9,10 @@ use Rattle.error.specs.Outcome.{gives}
 use Rattle.measurement.specs.Packet.{ipHeaderLength}
 use Rattle.measurement.specs.Claims.{InRange, echoesOf}
 use Rattle.measurement.specs.declared.InnerIpFlow.{InnerIpFlow}
-use Rattle.traffic.specs.Plan.{packetsOf}
+use Rattle.plan.specs.Plan.{packetsOf}
 use Rattle.traffic.specs.Generate.{generateOf}
-use Rattle.traffic.specs.Claims.{Acceptable}
-use Rattle.traffic.specs.declared.TrafficPlan.{TrafficPlan}
+use Rattle.plan.specs.Claims.{Acceptable}
+use Rattle.plan.specs.declared.TrafficPlan.{TrafficPlan}
 use Rattle.observer.specs.Counts.{fresh}
 use Rattle.observer.specs.Observer.{Observer, capacity, rows}
 use Rattle.observer.specs.Answer.{observerOf}

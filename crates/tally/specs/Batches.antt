@@ -6,8 +6,8 @@ use mathlib.Core.Path.{_≡_}
 use mathlib.Core.List.{List, map}
 use lib.ListN.{take}
 use Rattle.measurement.specs.declared.InnerIpFlow.{InnerIpFlow}
-use Rattle.traffic.specs.Plan.{interval, packetsOf}
-use Rattle.traffic.specs.declared.TrafficPlan.{TrafficPlan}
+use Rattle.plan.specs.Plan.{interval, packetsOf}
+use Rattle.plan.specs.declared.TrafficPlan.{TrafficPlan}
 use Rattle.observer.specs.Observer.{Observer}
 use Rattle.observer.specs.InTurn.{recordSentPlan}
 use Rattle.continuity.specs.Batch.{Received, tpdusOf, receivedOf, returnsIn, recordReceivedTpdus}

@@ -15,7 +15,7 @@ use Rattle.measurement.specs.Packet.{buildOf}
 use Rattle.measurement.specs.Echo.{echoOf}
 use Rattle.measurement.specs.declared.InnerIpFlow.{InnerIpFlow}
 use Rattle.measurement.specs.declared.IpVersion.the-variants.{V4, V6}
-use Rattle.traffic.specs.Plan.{intervalOf}
+use Rattle.plan.specs.Plan.{intervalOf}
 use Rattle.gtpu.specs.Element.{elementsOf}
 use Rattle.observer.specs.Counts.{fresh}
 use Rattle.observer.specs.Observer.{Observer}

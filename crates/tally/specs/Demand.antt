@@ -12,9 +12,9 @@ use Rattle.measurement.specs.Packet.{buildOf}
 use Rattle.measurement.specs.Claims.{InRange, DamageFound, Travelled, arrives, echoes, echoesOf}
 use Rattle.measurement.specs.declared.InnerIpFlow.{InnerIpFlow}
 use Rattle.measurement.specs.declared.MeasurementHeader.{MeasurementHeader}
-use Rattle.traffic.specs.Plan.{timeAt, packetsOf}
+use Rattle.plan.specs.Plan.{timeAt, packetsOf}
 use Rattle.traffic.specs.Generate.{generateOf}
-use Rattle.traffic.specs.declared.TrafficPlan.{TrafficPlan}
+use Rattle.plan.specs.declared.TrafficPlan.{TrafficPlan}
 use Rattle.gtpu.specs.Message.{gtpuMsgGpdu}
 use Rattle.observer.specs.Counts.{fresh}
 use Rattle.observer.specs.Observer.{Observer, rows}

@@ -14,14 +14,15 @@ use Rattle.measurement.specs.declared.IpVersion.{IpVersion}
 use Rattle.measurement.specs.declared.IpVersion.the-variants.{V4, V6}
 use Rattle.measurement.specs.declared.MeasurementHeader.{MeasurementHeader}
 use Rattle.measurement.specs.declared.Written.the-variants as written
-use Rattle.traffic.specs.Plan.{top, interval, Judged, packetsOf, judgePlan}
+use Rattle.plan.specs.Plan.{top, interval, Judged, packetsOf, judgePlan}
+use Rattle.plan.specs.Judge.{judgedPlan}
+use Rattle.plan.specs.Claims.{Acceptable, accepted}
+use Rattle.plan.specs.declared.Interval.the-variants as answer
+use Rattle.plan.specs.declared.JudgedPlan.{JudgedPlan}
+use Rattle.plan.specs.declared.TrafficPlan.{TrafficPlan}
+use Rattle.plan.proofs.Answers.{behind-last, next-is, answer-refused, answer-accepted}
 use Rattle.traffic.specs.Generate.{endToEnd, placing, generateOf, generated}
-use Rattle.traffic.specs.Judge.{Fits, intervalAnswer, judgedPlan}
-use Rattle.traffic.specs.Claims.{Acceptable, accepted}
-use Rattle.traffic.specs.declared.Interval.the-variants as answer
-use Rattle.traffic.specs.declared.JudgedPlan.{JudgedPlan}
-use Rattle.traffic.specs.declared.TrafficPlan.{TrafficPlan}
-use Rattle.traffic.proofs.Judged.{plan-accepted}
+use Rattle.traffic.specs.Fits.{Fits}
 use Rattle.traffic.proofs.Packets.{size, packets-length}
 
 -- bytes into a buffer
@@ -47,11 +48,6 @@ all-fits flow n s h e =
     let m : n * s ≤ 2048 * 72 = mul-le-mul h l in
     omega arith
 
--- the sequence behind the last
-pub behind-last : (n next : ℕ) → next ≤ top → ((k : ℕ) → k < n → next + k < top) → next + n ≤ top
-behind-last zero next low all = omega arith
-behind-last (suc n) next low all = omega (arith, all n (omega arith))
-
 module _ (flow : InnerIpFlow) (plan : TrafficPlan) (next : ℕ) (buffer : List ℕ) where
   abbrev bytes-of : List ℕ
   bytes-of = endToEnd flow (packetsOf plan next)
@@ -73,48 +69,14 @@ module _ (flow : InnerIpFlow) (plan : TrafficPlan) (next : ℕ) (buffer : List �
 
   -- the code's answers
   module _ (r : JudgedPlan) (e : r ≡ judgedPlan plan (judgePlan plan next)) where
-    interval-is : r .interval ≡ intervalAnswer (interval (plan .«target_rate_pps»)) (judgePlan plan next .outcome)
-    interval-is = ap (λ (x : JudgedPlan). x .interval) e
-
-    next-is : r .«next_sequence» ≡ judgePlan plan next .next
-    next-is = ap (λ (x : JudgedPlan). x .«next_sequence») e
-
-    pub answer-refused : (n : ℕ) → r .interval ≡ answer.Refused n
+    pub answer-refuses : (n : ℕ) → r .interval ≡ answer.Refused n
         → generated (written.Refused n) (r .«next_sequence») buffer ≡ generateOf flow plan next buffer
-    unfolding intervalAnswer
-    answer-refused n a = go (judgePlan plan next .outcome) refl (sym a ∙ interval-is)
-      where
-        go : (o : Outcome (List MeasurementHeader)) → judgePlan plan next .outcome ≡ o
-            → answer.Refused n ≡ intervalAnswer (interval (plan .«target_rate_pps»)) (judgePlan plan next .outcome)
-            → generated (written.Refused n) (r .«next_sequence») buffer ≡ generateOf flow plan next buffer
-        go (refused m) q f =
-            let g : answer.Refused n ≡ answer.Refused m = f ∙ ap (intervalAnswer (interval (plan .«target_rate_pps»))) q in
-            let same : m ≡ n = cc in
-            ap (λ (x : ℕ). record { outcome = refused n; next = x; buffer = buffer }) next-is ∙ generate-refused n (q ∙ ap refused same)
-        go (gives p) q f =
-            let g : answer.Refused n ≡ answer.Nanoseconds (interval (plan .«target_rate_pps»)) = f ∙ ap (intervalAnswer (interval (plan .«target_rate_pps»))) q in
-            let z : _≡_ {A = ℕ} 0 1 = cc in absurd (omega arith)
-
-    pub answer-accepted : (i : ℕ) → r .interval ≡ answer.Nanoseconds i
-        → (i ≡ interval (plan .«target_rate_pps»)) × Acceptable plan next × (judgePlan plan next ≡ accepted plan next)
-    unfolding intervalAnswer
-    answer-accepted i a = go (judgePlan plan next .outcome) refl (sym a ∙ interval-is)
-      where
-        go : (o : Outcome (List MeasurementHeader)) → judgePlan plan next .outcome ≡ o
-            → answer.Nanoseconds i ≡ intervalAnswer (interval (plan .«target_rate_pps»)) (judgePlan plan next .outcome)
-            → (i ≡ interval (plan .«target_rate_pps»)) × Acceptable plan next × (judgePlan plan next ≡ accepted plan next)
-        go (refused m) q f =
-            let g : answer.Nanoseconds i ≡ answer.Refused m = f ∙ ap (intervalAnswer (interval (plan .«target_rate_pps»))) q in
-            let z : _≡_ {A = ℕ} 0 1 = cc in absurd (omega arith)
-        go (gives p) q f =
-            let g : answer.Nanoseconds i ≡ answer.Nanoseconds (interval (plan .«target_rate_pps»)) = f ∙ ap (intervalAnswer (interval (plan .«target_rate_pps»))) q in
-            let same : i ≡ interval (plan .«target_rate_pps») = cc in
-            let h = plan-accepted plan next p q in
-            (same, h .0, h .1)
+    answer-refuses n a =
+        ap (λ (x : ℕ). record { outcome = refused n; next = x; buffer = buffer }) (next-is plan next r e) ∙ generate-refused n (answer-refused plan next r e n a)
 
     module _ (i : ℕ) (a : r .interval ≡ answer.Nanoseconds i) where
       count-fits : plan .«packet_count» ≤ 2048
-      count-fits = answer-accepted i a .1 .count-within
+      count-fits = answer-accepted plan next r e i a .1 .count-within
 
       pub length-fits : (s : ℕ) → s ≡ size flow → plan .«packet_count» * s < 2 ^ 64
       length-fits s es = all-fits flow (plan .«packet_count») s count-fits es
@@ -123,11 +85,11 @@ module _ (flow : InnerIpFlow) (plan : TrafficPlan) (next : ℕ) (buffer : List �
           → generated (written.Refused 15) next buffer ≡ generateOf flow plan next buffer
       answer-short s es h =
           placing-short bytes-of next (next + plan .«packet_count») buffer (omega (arith, bytes-length, ap (λ (x : ℕ). plan .«packet_count» * x) es))
-          ∙ generate-accepted (answer-accepted i a .2)
+          ∙ generate-accepted (answer-accepted plan next r e i a .2)
 
       pub answer-fits : (s : ℕ) → s ≡ size flow → next ≤ top → plan .«packet_count» * s ≤ length buffer → Fits flow plan i next buffer
       answer-fits s es low h =
-          let t = answer-accepted i a in
+          let t = answer-accepted plan next r e i a in
           record {
             is = t .0;
             count = t .1 .count-within;
@@ -140,9 +102,9 @@ module _ (flow : InnerIpFlow) (plan : TrafficPlan) (next : ℕ) (buffer : List �
           → whole ≡ bytes-of ++ drop (plan .«packet_count» * size flow) buffer
           → generated (written.Bytes (plan .«packet_count» * s)) (r .«next_sequence») whole ≡ generateOf flow plan next buffer
       answer-written s whole es h ew =
-          let t = answer-accepted i a .2 in
+          let t = answer-accepted plan next r e i a .2 in
           let n : plan .«packet_count» * s ≡ plan .«packet_count» * size flow = ap (λ (x : ℕ). plan .«packet_count» * x) es in
-          let after : r .«next_sequence» ≡ next + plan .«packet_count» = next-is ∙ ap (λ (j : Judged). j .next) t in
+          let after : r .«next_sequence» ≡ next + plan .«packet_count» = next-is plan next r e ∙ ap (λ (j : Judged). j .next) t in
           ap₂ (λ (x y : ℕ). record { outcome = gives x; next = y; buffer = whole }) (n ∙ sym bytes-length) after
           ∙ ap (λ (x : List ℕ). record { outcome = gives (length bytes-of); next = next + plan .«packet_count»; buffer = x })
           (ew ∙ ap (λ (x : ℕ). bytes-of ++ drop x buffer) (sym bytes-length))

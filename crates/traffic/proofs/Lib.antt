@@ -1,6 +1,4 @@
--- The causes of a plan and their closed form, the packets end to end, the code's answers, and the claims.
-pub mod Rows
-pub mod Judged
+-- The packets end to end, the code's answers, and the claims.
 pub mod Packets
 pub mod Answers
 pub mod Claims

@@ -14,10 +14,10 @@ use Rattle.measurement.specs.declared.InnerIpFlow.{InnerIpFlow}
 use Rattle.measurement.specs.declared.MeasurementHeader.{MeasurementHeader}
 use Rattle.measurement.specs.declared.Written.{Written}
 use Rattle.measurement_build.proofs.Whole.{build-length, writing-fits}
-use Rattle.traffic.specs.Plan.{top, timeAt, packetAt, packetsFrom, packetsOf}
+use Rattle.plan.specs.Plan.{top, timeAt, packetAt, packetsFrom, packetsOf}
+use Rattle.plan.specs.declared.TrafficPlan.{TrafficPlan}
 use Rattle.traffic.specs.Generate.{endToEnd}
-use Rattle.traffic.specs.Judge.{Fits}
-use Rattle.traffic.specs.declared.TrafficPlan.{TrafficPlan}
+use Rattle.traffic.specs.Fits.{Fits}
 
 abbrev pub size : InnerIpFlow → ℕ
 size flow = ipHeaderLength (flow .version) + 32

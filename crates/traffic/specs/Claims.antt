@@ -1,8 +1,8 @@
--- What is claimed of plans and of what they generate. proofs/Claims.antt proves each claim.
+-- What is claimed of what plans generate. proofs/Claims.antt proves each claim.
 -- Assumes nothing.
 use Prim.Native.Nat.{ℕ, _+_, _*_, _<_, _≤_}
 use mathlib.Core.Path.{_≡_}
-use mathlib.Core.List.{List, [], _∷_}
+use mathlib.Core.List.{List}
 use mathlib.Core.Logic.{_⊎_}
 use lib.ListN.{length, drop}
 use Rattle.error.specs.Outcome.{refused, gives}
@@ -10,61 +10,10 @@ use Rattle.measurement.specs.Packet.{ipHeaderLength}
 use Rattle.measurement.specs.Read.{readOf}
 use Rattle.measurement.specs.Claims.{InRange, tpduBuilt}
 use Rattle.measurement.specs.declared.InnerIpFlow.{InnerIpFlow}
-use Rattle.measurement.specs.declared.MeasurementHeader.{MeasurementHeader}
-use Rattle.traffic.specs.Plan.{top, intervalOf, timeAt, packetsOf, Judged, judgePlan}
+use Rattle.plan.specs.Plan.{timeAt, judgePlan}
+use Rattle.plan.specs.Claims.{accepted}
+use Rattle.plan.specs.declared.TrafficPlan.{TrafficPlan}
 use Rattle.traffic.specs.Generate.{generateOf}
-use Rattle.traffic.specs.declared.TrafficPlan.{TrafficPlan}
-
--- What it takes to be accepted, packet by packet: the top sequence is never sent, and no time passes the top.
-pub record Acceptable (plan : TrafficPlan) (next : ℕ) : Type 0 where
-  pub rate-positive : 0 < plan .«target_rate_pps»
-  pub rate-within : plan .«target_rate_pps» ≤ 1000000000
-  pub count-within : plan .«packet_count» ≤ 2048
-  pub sequences : (k : ℕ) → k < plan .«packet_count» → next + k < top
-  pub times : (k : ℕ) → k < plan .«packet_count» → timeAt plan k ≤ top
-
--- The judgement of an accepted plan.
-abbrev pub accepted : TrafficPlan → ℕ → Judged
-accepted plan next = record { outcome = gives (packetsOf plan next); next = next + plan .«packet_count» }
-
--- A plan is accepted if and only if it is acceptable: sequence 18,446,744,073,709,551,615 "is never sent".
-abbrev pub AcceptedIfAcceptable : Type 0
-AcceptedIfAcceptable = (plan : TrafficPlan) (next : ℕ) → Acceptable plan next → judgePlan plan next ≡ accepted plan next
-
-abbrev pub AcceptableIfAccepted : Type 0
-AcceptableIfAccepted = (plan : TrafficPlan) (next : ℕ) (packets : List MeasurementHeader)
-    → judgePlan plan next .outcome ≡ gives packets → Acceptable plan next × (judgePlan plan next ≡ accepted plan next)
-
--- "19 before 20 at the lowest failing k": every packet before k is right.
-pub record FirstAt (plan : TrafficPlan) (next k : ℕ) : Type 0 where
-  pub rate-positive : 0 < plan .«target_rate_pps»
-  pub rate-within : plan .«target_rate_pps» ≤ 1000000000
-  pub count-within : plan .«packet_count» ≤ 2048
-  pub among : k < plan .«packet_count»
-  pub sequences : (j : ℕ) → j < k → next + j < top
-  pub times : (j : ℕ) → j < k → timeAt plan j ≤ top
-
-abbrev pub SequenceDecides : Type 0
-SequenceDecides = (plan : TrafficPlan) (next k : ℕ) → FirstAt plan next k → top ≤ next + k
-    → judgePlan plan next ≡ record { outcome = refused 19; next = next + k }
-
-abbrev pub TimeDecides : Type 0
-TimeDecides = (plan : TrafficPlan) (next k : ℕ) → FirstAt plan next k → next + k < top → top < timeAt plan k
-    → judgePlan plan next ≡ record { outcome = refused 20; next = next + k + 1 }
-
--- What holds of every element.
-abbrev pub Each : {A : Type 0} → (A → Type 0) → List A → Type 0
-Each P [] = Unit {0}
-Each P (x ∷ l) = P x × Each P l
-
--- The sequences rise strictly, and the times do not fall: each packet against every later one.
-abbrev pub Ordered : List MeasurementHeader → Type 0
-Ordered [] = Unit {0}
-Ordered (p ∷ packets) = Each (λ q. (p .sequence < q .sequence) × (p .«send_timestamp_ns» ≤ q .«send_timestamp_ns»)) packets × Ordered packets
-
-abbrev pub PacketsOrdered : Type 0
-PacketsOrdered = (plan : TrafficPlan) (next : ℕ) (packets : List MeasurementHeader) → judgePlan plan next .outcome ≡ gives packets
-    → Ordered packets × Each (λ p. (p .sequence < top) × (p .«send_timestamp_ns» ≤ top)) packets
 
 -- Every packet stands at its place in the buffer, and reads back to the flow, its sequence and its time.
 abbrev pub PacketsReadBack : Type 0
@@ -96,22 +45,3 @@ RoomDecides = (flow : InnerIpFlow) (plan : TrafficPlan) (next : ℕ) (buffer : L
 abbrev pub RefusalLeaves : Type 0
 RefusalLeaves = (flow : InnerIpFlow) (plan : TrafficPlan) (next : ℕ) (buffer : List ℕ) (n : ℕ) → generateOf flow plan next buffer .outcome ≡ refused n
     → (generateOf flow plan next buffer .buffer ≡ buffer) × ((n ≡ 19) ⊎ (n ≡ 20) ⊎ (generateOf flow plan next buffer .next ≡ next))
-
--- Document 01, case 4: "Rate 1,000,000,000 gives interval 1; 1,000,000,001 gives 17; 3 gives 333,333,333."
-pub record Intervals : Type 0 where
-  pub one : intervalOf 1000000000 ≡ gives 1
-  pub too-fast : intervalOf 1000000001 ≡ refused 17
-  pub third : intervalOf 3 ≡ gives 333333333
-  pub zero : intervalOf 0 ≡ refused 16
-
--- A plan of no packets is accepted whatever the next sequence is; one of 2,048 at the highest rate from the start; and one that ends just below the tops.
-pub record Examples : Type 0 where
-  pub empty : (next first : ℕ) → judgePlan (record { «packet_count» = 0; «target_rate_pps» = 1; «first_send_timestamp_ns» = first }) next
-      ≡ record { outcome = gives []; next = next }
-  pub longest : (let plan : TrafficPlan = record { «packet_count» = 2048; «target_rate_pps» = 1000000000; «first_send_timestamp_ns» = 0 } in judgePlan plan 0 ≡ accepted plan 0)
-  pub highest : (let plan : TrafficPlan = record { «packet_count» = 2; «target_rate_pps» = 1; «first_send_timestamp_ns» = 18446744072709551615 } in
-      judgePlan plan 18446744073709551613 ≡ accepted plan 18446744073709551613)
-  pub tie : judgePlan (record { «packet_count» = 2; «target_rate_pps» = 1; «first_send_timestamp_ns» = 18446744072709551616 }) 18446744073709551614
-      ≡ record { outcome = refused 19; next = 18446744073709551615 }
-  pub time-first : judgePlan (record { «packet_count» = 2; «target_rate_pps» = 1; «first_send_timestamp_ns» = 18446744072709551616 }) 7
-      ≡ record { outcome = refused 20; next = 9 }

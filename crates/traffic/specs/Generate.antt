@@ -12,8 +12,8 @@ use Rattle.measurement.specs.Packet.{buildOf}
 use Rattle.measurement.specs.declared.InnerIpFlow.{InnerIpFlow}
 use Rattle.measurement.specs.declared.MeasurementHeader.{MeasurementHeader}
 use Rattle.measurement.specs.declared.Written.{Written}
-use Rattle.traffic.specs.Plan.{judgePlan}
-use Rattle.traffic.specs.declared.TrafficPlan.{TrafficPlan}
+use Rattle.plan.specs.Plan.{judgePlan}
+use Rattle.plan.specs.declared.TrafficPlan.{TrafficPlan}
 
 -- "packets lie end to end"
 unfoldable pub endToEnd : InnerIpFlow → List MeasurementHeader → List ℕ

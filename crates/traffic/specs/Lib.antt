@@ -1,5 +1,4 @@
--- Traffic plans: how they are judged, what is generated, and what is claimed of it.
-pub mod Plan
+-- What plans generate, and what is claimed of it.
 pub mod Generate
-pub mod Judge
+pub mod Fits
 pub mod Claims

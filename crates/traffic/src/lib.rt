@@ -1,113 +1,18 @@
-// Traffic plans and the packets that they ask for (leaf 5; `TrafficPlan` and `TrafficEngine` of the Rust's traffic.rs). What a plan comes to
-// is defined in specs/Plan.antt, what the generator leaves in specs/Generate.antt.
+// The packets that a traffic plan asks for (leaf 5; `TrafficEngine` of the Rust's traffic.rs). How a plan is judged is defined in the crate
+// `plan`, what the generator leaves in specs/Generate.antt.
 use measurement::InnerIpFlow;
 use measurement::IpVersion;
 use measurement::Written;
+use plan::Interval;
+use plan::TrafficPlan;
 ghost use mathlib.Core.Path.{_≡_};
-ghost use Prim.Native.Nat.{_+_, _*_, _<_};
+ghost use Prim.Native.Nat.{_+_, _*_};
 ghost use mathlib.Core.List.{_++_};
 ghost use lib.ListN.{drop};
 ghost use Rattle.measurement.specs.Packet.{ipHeaderLength};
-ghost use Rattle.traffic.specs.Plan.{intervalOf, intervalMeans, packetsOf, judgePackets, judgePlan};
+ghost use Rattle.plan.specs.Plan.{packetsOf};
 ghost use Rattle.traffic.specs.Generate.{endToEnd, generated, generateOf};
-ghost use Rattle.traffic.specs.Judge.{InTime, Timed, Fits, judgedPlan};
-
-// A plan of packets.
-pub struct TrafficPlan {
-    pub packet_count: u64,
-    pub target_rate_pps: u64,
-    pub first_send_timestamp_ns: u64,
-}
-
-// The time from one packet to the next, or why there is none.
-pub enum Interval {
-    Nanoseconds(u64),
-    Refused(u8),
-}
-
-impl TrafficPlan {
-    // The interval between the packets' send times.
-    pub fn interval_ns(self) -> Interval
-        ensures { λ r. ⌜ intervalMeans r ≡ intervalOf (self .«target_rate_pps») ⌝ }
-    {
-        let rate = self.target_rate_pps;
-        if rate == 0 {
-            return Interval::Refused(error::TARGET_RATE_IS_ZERO);
-        }
-        let interval = 1_000_000_000 / rate;
-        if interval == 0 {
-            return Interval::Refused(error::TARGET_RATE_EXCEEDS_RESOLUTION);
-        }
-        Interval::Nanoseconds(interval)
-    }
-}
-
-// A plan's judgement: its interval, or why it has none; and the next sequence afterwards.
-struct JudgedPlan {
-    interval: Interval,
-    next_sequence: u64,
-}
-
-// The top of a sequence and of a time.
-const TOP: u64 = 18_446_744_073_709_551_615;
-
-// How many of `count` packets have a send time that fits.
-fn packets_in_time(first: u64, interval: u64, count: u64) -> u64
-    requires { ⌜ 0 < interval ⌝ }
-    ensures { λ r. ⌜ InTime first interval count r ⌝ }
-{
-    let last = (TOP - first) / interval;
-    if last < count { last + 1 } else { count }
-}
-
-// The packets judged in closed form: the sequence fails first at packet TOP - next_sequence, the time at packet `in_time`.
-fn judge_packets(plan: TrafficPlan, interval: u64, next_sequence: u64) -> JudgedPlan
-    requires { ⌜ Timed plan interval ⌝ }
-    ensures { λ r. ⌜ r ≡ judgedPlan plan (judgePackets plan «next_sequence») ⌝ }
-{
-    let count = plan.packet_count;
-    let in_sequence = TOP - next_sequence;
-    let in_time = packets_in_time(plan.first_send_timestamp_ns, interval, count);
-    if in_sequence < count {
-        if in_sequence <= in_time {
-            return JudgedPlan {
-                interval: Interval::Refused(error::SEQUENCE_OVERFLOW),
-                next_sequence: next_sequence + in_sequence,
-            };
-        }
-    }
-    if in_time < count {
-        return JudgedPlan {
-            interval: Interval::Refused(error::SEND_TIMESTAMP_OVERFLOW),
-            next_sequence: next_sequence + in_time + 1,
-        };
-    }
-    JudgedPlan {
-        interval: Interval::Nanoseconds(interval),
-        next_sequence: next_sequence + count,
-    }
-}
-
-// A plan judged whole: 16 to 20.
-fn judge_plan(plan: TrafficPlan, next_sequence: u64) -> JudgedPlan
-    ensures { λ r. ⌜ r ≡ judgedPlan plan (judgePlan plan «next_sequence») ⌝ }
-{
-    match plan.interval_ns() {
-        Interval::Refused(number) => JudgedPlan {
-            interval: Interval::Refused(number),
-            next_sequence: next_sequence,
-        },
-        Interval::Nanoseconds(interval) => {
-            if 2048 < plan.packet_count {
-                return JudgedPlan {
-                    interval: Interval::Refused(error::TOO_MANY_PACKETS),
-                    next_sequence: next_sequence,
-                };
-            }
-            judge_packets(plan, interval, next_sequence)
-        }
-    }
-}
+ghost use Rattle.traffic.specs.Fits.{Fits};
 
 // The length of each packet.
 fn packet_length(version: IpVersion) -> usize
@@ -158,7 +63,7 @@ pub fn generate_packets(
 ) -> Generated
     ensures { λ r. ⌜ generated (r .written) (r .«next_sequence») (now (out .exit)) ≡ generateOf flow plan «next_sequence» (now (out .entry)) ⌝ }
 {
-    let judged = judge_plan(plan, next_sequence);
+    let judged = plan::judge_plan(plan, next_sequence);
     let answer = judged.interval;
     match answer {
         Interval::Refused(number) => Generated {

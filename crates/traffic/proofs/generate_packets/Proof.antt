@@ -1,7 +1,7 @@
 -- `traffic::generate_packets` meets its contract.
 -- Assumes nothing.
 use native.Mathlib.Omega.{arith}
-use Rattle.traffic.proofs.Answers.{answer-refused, length-fits, answer-short, answer-fits, answer-written}
+use Rattle.traffic.proofs.Answers.{answer-refuses, length-fits, answer-short, answer-fits, answer-written}
 use borrow.Author.Needs.{needs}
 use Rattle.traffic.proofs.generate_packets.Statement.{statement}
 use Rattle.traffic.proofs.generate_packets.Tie as tie
@@ -44,7 +44,7 @@ returns-2 c =
     let told = c .before in
     let called = told .before .before in
     let a = called .before .before .args in
-    answer-refused (a .flow) (a .plan) (a .next-sequence) (a .out .now) (called .judge-plan .result) (called .judge-plan .ensures) (told .answer .given .0 .0) (told .answer .given .1)
+    answer-refuses (a .flow) (a .plan) (a .next-sequence) (a .out .now) (called .judge-plan .result) (called .judge-plan .ensures) (told .answer .given .0 .0) (told .answer .given .1)
 
 same-length : tie.Need-same-length
 same-length c = search needs

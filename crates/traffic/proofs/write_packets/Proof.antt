@@ -7,7 +7,7 @@ use mathlib.Core.Path.{_≡_}
 use mathlib.Core.List.{_++_}
 use lib.ListN.{length, drop}
 use borrow.Author.Needs.{needs}
-use Rattle.traffic.specs.Plan.{packetsFrom}
+use Rattle.plan.specs.Plan.{packetsFrom}
 use Rattle.traffic.specs.Generate.{endToEnd}
 use Rattle.traffic.proofs.Packets.{time-fits, time-is, part-fits, turn, all-written}
 use Rattle.traffic.proofs.write_packets.Statement.{statement}

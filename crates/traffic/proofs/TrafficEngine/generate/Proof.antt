@@ -48,13 +48,13 @@ use Rattle.measurement.specs.declared.Written.{Written}
 use Rattle.traffic.specs.Generate.{generated, generateOf}
 use Rattle.traffic.specs.declared.Generated.{Generated}
 use Rattle.traffic.specs.declared.TrafficEngine.{TrafficEngine}
-use Rattle.traffic.specs.declared.TrafficPlan.{TrafficPlan}
+use Rattle.plan.specs.declared.TrafficPlan.{TrafficPlan}
 use Rattle.measurement.proofs.InnerIpFlow as F
 use Rattle.measurement.proofs.InnerIpFlow.Laws as F′
 use Rattle.measurement.proofs.Written as N
 use Rattle.measurement.proofs.Written.Laws as N′
-use Rattle.traffic.proofs.TrafficPlan as P
-use Rattle.traffic.proofs.TrafficPlan.Laws as P′
+use Rattle.plan.proofs.TrafficPlan as P
+use Rattle.plan.proofs.TrafficPlan.Laws as P′
 use Rattle.traffic.proofs.Generated as G
 use Rattle.traffic.proofs.Generated.Laws as G′
 use Rattle.traffic.proofs.TrafficEngine as T

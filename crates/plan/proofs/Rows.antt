@@ -8,7 +8,7 @@ use Rattle.error.specs.Outcome.{refused, gives, Cause, _⇒_, firstCause}
 use Rattle.error.proofs.Causes as causes
 use Rattle.error.proofs.Causes.{refused-gives}
 use Rattle.measurement.specs.declared.MeasurementHeader.{MeasurementHeader}
-use Rattle.traffic.specs.Plan.{PlanCause, _⇒_leaves_, leaving, Judged, firstPlanCause}
+use Rattle.plan.specs.Plan.{PlanCause, _⇒_leaves_, leaving, Judged, firstPlanCause}
 
 abbrev pub refusedAt : ℕ → ℕ → Judged
 refusedAt number next = record { outcome = refused number; next = next }

@@ -1,11 +1,11 @@
--- `traffic::judge_packets` meets its contract: the closed form of the two causes that stand at each packet.
+-- `plan::judge_packets` meets its contract: the closed form of the two causes that stand at each packet.
 -- Assumes nothing.
 use native.Mathlib.Omega.{arith}
 use mathlib.Core.Logic.{⊎-elim}
-use Rattle.traffic.proofs.Judged.{closed-19, closed-20, closed-accepted}
+use Rattle.plan.proofs.Judged.{closed-19, closed-20, closed-accepted}
 use borrow.Author.Needs.{needs}
-use Rattle.traffic.proofs.judge_packets.Statement.{statement}
-use Rattle.traffic.proofs.judge_packets.Tie as tie
+use Rattle.plan.proofs.judge_packets.Statement.{statement}
+use Rattle.plan.proofs.judge_packets.Tie as tie
 
 sub-in-sequence : tie.Need-sub-in-sequence
 sub-in-sequence c = search needs

@@ -1,18 +1,15 @@
--- For the contracts of private functions: the code's answer to a judgement, and what it is to fit.
+-- The code's answer to a judgement, and the contracts of private functions.
 -- Assumes nothing.
 use Prim.Native.Nat.{ℕ, _+_, _*_, _<_, _≤_}
 use mathlib.Core.Path.{_≡_}
 use mathlib.Core.List.{List}
-use lib.ListN.{length}
 use Rattle.error.specs.Outcome.{Outcome, refused, gives}
-use Rattle.measurement.specs.Packet.{ipHeaderLength}
-use Rattle.measurement.specs.declared.InnerIpFlow.{InnerIpFlow}
 use Rattle.measurement.specs.declared.MeasurementHeader.{MeasurementHeader}
-use Rattle.traffic.specs.Plan.{top, interval, timeAt, Judged}
-use Rattle.traffic.specs.declared.Interval.{Interval}
-use Rattle.traffic.specs.declared.Interval.the-variants as answer
-use Rattle.traffic.specs.declared.JudgedPlan.{JudgedPlan}
-use Rattle.traffic.specs.declared.TrafficPlan.{TrafficPlan}
+use Rattle.plan.specs.Plan.{top, interval, Judged}
+use Rattle.plan.specs.declared.Interval.{Interval}
+use Rattle.plan.specs.declared.Interval.the-variants as answer
+use Rattle.plan.specs.declared.JudgedPlan.{JudgedPlan}
+use Rattle.plan.specs.declared.TrafficPlan.{TrafficPlan}
 
 -- The answer to a judgement: of an accepted plan its interval.
 unfoldable pub intervalAnswer : ℕ → Outcome (List MeasurementHeader) → Interval
@@ -33,11 +30,3 @@ pub record Timed (plan : TrafficPlan) (i : ℕ) : Type 0 where
   pub is : i ≡ interval (plan .«target_rate_pps»)
   pub positive : 0 < i
   pub count : plan .«packet_count» ≤ 2048
-
--- An accepted plan, and a buffer for all of its packets.
-pub record Fits (flow : InnerIpFlow) (plan : TrafficPlan) (i next : ℕ) (buffer : List ℕ) : Type 0 where
-  pub is : i ≡ interval (plan .«target_rate_pps»)
-  pub count : plan .«packet_count» ≤ 2048
-  pub sequences : next + plan .«packet_count» ≤ top
-  pub times : (k : ℕ) → k < plan .«packet_count» → timeAt plan k ≤ top
-  pub room : plan .«packet_count» * (ipHeaderLength (flow .version) + 32) ≤ length buffer

@@ -7,9 +7,9 @@ use lib.Dec.{eqb, ltb}
 use Rattle.error.specs.Number.{targetRateIsZero, targetRateExceedsResolution, tooManyPackets, sequenceOverflow, sendTimestampOverflow}
 use Rattle.error.specs.Outcome.{Outcome, refused, gives, Cause, _⇒_, firstCause}
 use Rattle.measurement.specs.declared.MeasurementHeader.{MeasurementHeader}
-use Rattle.traffic.specs.declared.Interval.{Interval}
-use Rattle.traffic.specs.declared.Interval.the-variants as answer
-use Rattle.traffic.specs.declared.TrafficPlan.{TrafficPlan}
+use Rattle.plan.specs.declared.Interval.{Interval}
+use Rattle.plan.specs.declared.Interval.the-variants as answer
+use Rattle.plan.specs.declared.TrafficPlan.{TrafficPlan}
 
 -- The top of a sequence and of a time, which have 64 bits.
 abbrev pub top : ℕ

@@ -1,10 +1,10 @@
--- `traffic::packets_in_time` meets its contract.
+-- `plan::packets_in_time` meets its contract.
 -- Assumes nothing.
 use native.Mathlib.Omega.{arith}
-use Rattle.traffic.proofs.Judged.{in-time-some, in-time-all}
+use Rattle.plan.proofs.Judged.{in-time-some, in-time-all}
 use borrow.Author.Needs.{needs}
-use Rattle.traffic.proofs.packets_in_time.Statement.{statement}
-use Rattle.traffic.proofs.packets_in_time.Tie as tie
+use Rattle.plan.proofs.packets_in_time.Statement.{statement}
+use Rattle.plan.proofs.packets_in_time.Tie as tie
 
 sub-last : tie.Need-sub-last
 sub-last c = search needs

@@ -1,9 +1,9 @@
--- `traffic::TrafficPlan::interval_ns` meets its contract.
+-- `plan::TrafficPlan::interval_ns` meets its contract.
 -- Assumes nothing.
-use Rattle.traffic.proofs.Judged.{rate-zero, rate-high, rate-good}
+use Rattle.plan.proofs.Judged.{rate-zero, rate-high, rate-good}
 use borrow.Author.Needs.{needs}
-use Rattle.traffic.proofs.TrafficPlan.interval_ns.Statement.{statement}
-use Rattle.traffic.proofs.TrafficPlan.interval_ns.Tie as tie
+use Rattle.plan.proofs.TrafficPlan.interval_ns.Statement.{statement}
+use Rattle.plan.proofs.TrafficPlan.interval_ns.Tie as tie
 
 returns : tie.Need-returns
 returns c = rate-zero (c .before .args .self .«target_rate_pps») (c .if1 .taken)

@@ -1,13 +1,13 @@
--- `traffic::judge_plan` meets its contract.
+-- `plan::judge_plan` meets its contract.
 -- Assumes nothing.
 use native.Mathlib.Omega.{arith}
 use mathlib.Core.Path.{sym, ap, _∙_}
-use Rattle.traffic.specs.Plan.{intervalMeans}
-use Rattle.traffic.specs.Judge.{intervalAnswer, judgedPlan}
-use Rattle.traffic.proofs.Judged.{plan-refused, plan-too-many, plan-judged, plan-timed}
+use Rattle.plan.specs.Plan.{intervalMeans}
+use Rattle.plan.specs.Judge.{intervalAnswer, judgedPlan}
+use Rattle.plan.proofs.Judged.{plan-refused, plan-too-many, plan-judged, plan-timed}
 use borrow.Author.Needs.{needs}
-use Rattle.traffic.proofs.judge_plan.Statement.{statement}
-use Rattle.traffic.proofs.judge_plan.Tie as tie
+use Rattle.plan.proofs.judge_plan.Statement.{statement}
+use Rattle.plan.proofs.judge_plan.Tie as tie
 
 interval-ns-requires : tie.Need-interval-ns-requires
 interval-ns-requires c κs = search needs

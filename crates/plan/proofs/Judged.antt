@@ -13,12 +13,12 @@ use Rattle.error.specs.Outcome.{refused, gives, Cause, _⇒_}
 use Rattle.error.proofs.Causes as causes
 use Rattle.error.proofs.Causes.{refuses-front, refuses-behind, passes-both}
 use Rattle.measurement.specs.declared.MeasurementHeader.{MeasurementHeader}
-use Rattle.traffic.specs.Plan.{top, interval, rateCauses, intervalOf, timeAt, leaving, causesAt, causesFrom, judgePackets, planCauses, judgePlan}
-use Rattle.traffic.specs.Judge.{InTime, Timed, intervalAnswer, judgedPlan}
-use Rattle.traffic.specs.Claims.{Acceptable, accepted}
-use Rattle.traffic.specs.declared.Interval.the-variants as answer
-use Rattle.traffic.specs.declared.TrafficPlan.{TrafficPlan}
-use Rattle.traffic.proofs.Rows.{refusedAt, Refuses, here, later, Passes, none, past, refuses, passes, passed, leaving-refuses, leaving-passes, passed-leaving, passed-both, refused-by}
+use Rattle.plan.specs.Plan.{top, interval, rateCauses, intervalOf, timeAt, leaving, causesAt, causesFrom, judgePackets, planCauses, judgePlan}
+use Rattle.plan.specs.Judge.{InTime, Timed, intervalAnswer, judgedPlan}
+use Rattle.plan.specs.Claims.{Acceptable, accepted}
+use Rattle.plan.specs.declared.Interval.the-variants as answer
+use Rattle.plan.specs.declared.TrafficPlan.{TrafficPlan}
+use Rattle.plan.proofs.Rows.{refusedAt, Refuses, here, later, Passes, none, past, refuses, passes, passed, leaving-refuses, leaving-passes, passed-leaving, passed-both, refused-by}
 
 module _ (plan : TrafficPlan) (next : ℕ) where
   abbrev InSequence : ℕ → Type 0
