@@ -132,7 +132,7 @@ burst-same sent arrived b t h =
     let n = same-halves (missing (length sent))
     (same-trans (val-sum sent b) (same-trans h (same-sym (rw (t .same-length) at (val-sum arrived (t .bytes)))))) in
     let w = between (t .before) (t .span) (t .turned) (t .after) (t .same-span) (rw (t .sent-bits, t .arrived-bits) at n) in
-    let e = same-spans (t .span) (t .turned) (t .short) (t .same-span) (t .not-all) w in
+    let e = same-spans (t .span) (t .turned) (omega (arith, t .short)) (t .same-span) (t .not-all) w in
     bits-inj arrived sent (t .bytes) b (t .arrived-bits ∙ ap (λ (x : List Bool). t .before ++ (x ++ t .after)) e ∙ sym (t .sent-bits))
 
 pub burst : (sent arrived : List ℕ) → Bytes sent → Turned sent arrived → foldOf (sumOf sent) ≡ foldOf (sumOf arrived) → arrived ≡ sent

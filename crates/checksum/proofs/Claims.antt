@@ -13,7 +13,7 @@ use Rattle.checksum.specs.Sum.{sumOf, folding, foldOf, checksumOf, onesA
 use Rattle.checksum.specs.Damage.{isOne, lowBits, bits, Turned}
 use Rattle.checksum.specs.Claims.{Verifies, FoldedSum, SumInParts, PlacedVerifies, DamageFound, Undamaged, Clipped, DamageIs, Sharp, Examples}
 use Rattle.checksum.proofs.Carries.{fold-add, fold-low, fold-is, fold-like, Like, like-add, like-refl}
-use Rattle.checksum.proofs.Bits.{length-bits}
+use Rattle.checksum.proofs.Bits.{bit, length-bits}
 use Rattle.checksum.proofs.Sums.{sum-append, sealed}
 use Rattle.checksum.proofs.Burst.{burst}
 use Rattle.checksum.proofs.Clip.{turned-take, turned-drop, turned-front, turned-behind}
@@ -100,7 +100,70 @@ one-bit sent arrived bytes before after b p q = record {
   not-all = λ c e f. fewer (b ∷ []) c (omega arith) e;
 }
 
+-- bits of which the first two differ are not all equal
+unlike : (x c : Bool) (l m : List Bool) → x ∷ not x ∷ l ≡ c ∷ c ∷ m → ⊥
+unlike true c l m e = omega (arith, ap (λ (x : List Bool). bit (getD x 0 c)) e, ap (λ (x : List Bool). bit (getD x 1 c)) e)
+unlike false c l m e = omega (arith, ap (λ (x : List Bool). bit (getD x 0 c)) e, ap (λ (x : List Bool). bit (getD x 1 c)) e)
+
+abbrev zeroOnes : List Bool
+zeroOnes = false ∷ true ∷ false ∷ true ∷ false ∷ true ∷ false ∷ true ∷ []
+
+abbrev oneZeros : List Bool
+oneZeros = true ∷ false ∷ true ∷ false ∷ true ∷ false ∷ true ∷ false ∷ []
+
+abbrev fourZeros : List Bool
+fourZeros = false ∷ false ∷ false ∷ false ∷ []
+
+sixteen-unequal : (sent arrived : List ℕ) → Bytes arrived → length arrived ≡ length sent → (before after : List Bool)
+    → bits sent ≡ before ++ ((zeroOnes ++ zeroOnes) ++ after) → bits arrived ≡ before ++ ((oneZeros ++ oneZeros) ++ after) → Turned sent arrived
+sixteen-unequal sent arrived bytes same before after p q = record {
+  same-length = same;
+  bytes = bytes;
+  before = before;
+  span = zeroOnes ++ zeroOnes;
+  turned = oneZeros ++ oneZeros;
+  after = after;
+  sent-bits = p;
+  arrived-bits = q;
+  same-span = refl;
+  short = omega arith;
+  not-all = λ c e f. unlike false c _ _ e;
+}
+
+fifteen-equal : Turned (0 ∷ 0 ∷ []) (127 ∷ 255 ∷ [])
+unfolding bits lowBits isOne
+fifteen-equal = record {
+  same-length = refl;
+  bytes = omega arith;
+  before = false ∷ [];
+  span = replicate 15 false;
+  turned = replicate 15 true;
+  after = [];
+  sent-bits = refl;
+  arrived-bits = refl;
+  same-span = refl;
+  short = omega arith;
+  not-all = λ c e f. fewer (replicate 15 false) c (omega arith) e;
+}
+
+sixteen-not-all : Turned (0 ∷ 0 ∷ []) (128 ∷ 1 ∷ [])
+unfolding bits lowBits isOne
+sixteen-not-all = record {
+  same-length = refl;
+  bytes = omega arith;
+  before = [];
+  span = replicate 16 false;
+  turned = true ∷ (replicate 14 false ++ (true ∷ []));
+  after = [];
+  sent-bits = refl;
+  arrived-bits = refl;
+  same-span = refl;
+  short = omega arith;
+  not-all = λ c e f. unlike true (not c) _ _ f;
+}
+
 pub damage-is : DamageIs
+unfolding bits lowBits isOne
 damage-is = record {
   none = λ sent b. record {
     same-length = refl;
@@ -116,6 +179,10 @@ damage-is = record {
     not-all = λ c e f. fewer [] c (omega arith) e;
   };
   one-bit = one-bit;
+  sixteen-unequal = sixteen-unequal _ _ (omega arith) refl [] [] refl refl;
+  over-three-bytes = sixteen-unequal _ _ (omega arith) refl fourZeros fourZeros refl refl;
+  fifteen-equal = fifteen-equal;
+  sixteen-not-all = sixteen-not-all;
   not-sixteen-equal = λ t. differ 255 0 (ap first (unfound _ _ (omega arith) (sharp .sixteen-equal) t)) (omega arith);
   not-sixteen-across = λ t. differ 0 255 (ap second (unfound _ _ (omega arith) (sharp .sixteen-across) t)) (omega arith);
   not-seventeen = λ t. differ 0 1 (ap second (unfound _ _ (omega arith) (sharp .seventeen) t)) (omega arith);

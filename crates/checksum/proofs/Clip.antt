@@ -66,8 +66,8 @@ turned-take n {s} {a} t =
       short = omega (arith, length-take k (t .span), t .short);
       same-span = length-take k (t .turned) ∙ ap (min k) (t .same-span) ∙ sym (length-take k (t .span));
       not-all = λ b e f. t .not-all b
-          (sym (take-whole k (t .span) (t .span) b (t .short) e refl) ∙ e)
-          (sym (take-whole k (t .span) (t .turned) b (t .short) e (t .same-span)) ∙ f);
+          (sym (take-whole k (t .span) (t .span) b (omega (arith, t .short)) e refl) ∙ e)
+          (sym (take-whole k (t .span) (t .turned) b (omega (arith, t .short)) e (t .same-span)) ∙ f);
     }
 
 pub turned-drop : (n : ℕ) {s a : List ℕ} → Turned s a → Turned (drop n s) (drop n a)
@@ -87,8 +87,8 @@ turned-drop n {s} {a} t =
       short = omega (arith, length-drop k (t .span), t .short);
       same-span = length-drop k (t .turned) ∙ ap (λ (x : ℕ). x - k) (t .same-span) ∙ sym (length-drop k (t .span));
       not-all = λ b e f. t .not-all b
-          (sym (drop-whole k (t .span) (t .span) b (t .short) e) ∙ e)
-          (sym (drop-whole k (t .span) (t .turned) b (t .short) e) ∙ f);
+          (sym (drop-whole k (t .span) (t .span) b (omega (arith, t .short)) e) ∙ e)
+          (sym (drop-whole k (t .span) (t .turned) b (omega (arith, t .short)) e) ∙ f);
     }
 
 pub turned-front : (x : List ℕ) {s a : List ℕ} → Bytes x → Turned s a → Turned (x ++ s) (x ++ a)

@@ -49,6 +49,12 @@ pub record DamageIs : Type 0 where
   -- any one bit turned, wherever it stands
   pub one-bit : (sent arrived : List ℕ) → Bytes arrived → (before after : List Bool) (b : Bool)
       → bits sent ≡ before ++ (b ∷ after) → bits arrived ≡ before ++ (not b ∷ after) → Turned sent arrived
+  -- 16 bits that are not all equal, all turned, in two bytes and over three
+  pub sixteen-unequal : Turned (0x55 ∷ 0x55 ∷ []) (0xaa ∷ 0xaa ∷ [])
+  pub over-three-bytes : Turned (0x05 ∷ 0x55 ∷ 0x50 ∷ []) (0x0a ∷ 0xaa ∷ 0xa0 ∷ [])
+  -- 15 equal bits all turned, and 16 equal bits not all turned
+  pub fifteen-equal : Turned (0x00 ∷ 0x00 ∷ []) (0x7f ∷ 0xff ∷ [])
+  pub sixteen-not-all : Turned (0x00 ∷ 0x00 ∷ []) (0x80 ∷ 0x01 ∷ [])
   -- not 16 equal bits all turned, at an even place and across words
   pub not-sixteen-equal : Turned (0 ∷ 0 ∷ 1 ∷ 0 ∷ []) (255 ∷ 255 ∷ 1 ∷ 0 ∷ []) → ⊥
   pub not-sixteen-across : Turned (1 ∷ 255 ∷ 255 ∷ 0 ∷ []) (1 ∷ 0 ∷ 0 ∷ 0 ∷ []) → ⊥

@@ -6,7 +6,7 @@ ghost use mathlib.Core.Bool.{true};
 ghost use lib.Dec.{eqb};
 ghost use lib.ListN.{length};
 ghost use Rattle.checksum.specs.Sum.{sumOf, foldOf, checksumOf};
-ghost use Rattle.checksum.specs.Claims.{Undamaged};
+ghost use Rattle.checksum.specs.Claims.{FoldedSum, SumInParts, PlacedVerifies, DamageFound, Undamaged, Clipped, DamageIs, Sharp, Examples};
 
 // The carries of a sum folded into 16 bits: one fold leaves at most one carry, and a second none.
 pub fn fold(sum: u32) -> u16
@@ -117,3 +117,30 @@ pub fn verify(bytes: &[u8]) -> bool
 {
     sum(0, bytes) == 65535
 }
+
+// What is proved of the definitions (specs/Claims.antt), on the contracts of functions that do nothing.
+
+// Adding first and folding carries afterwards is RFC 1071's ones' complement sum; and its worked example.
+pub fn sum_is_that_of_rfc_1071()
+    ensures { λ _. ⌜ FoldedSum × Examples ⌝ }
+{}
+
+// A sum may be taken in parts, carries folded between them.
+pub fn sums_in_parts()
+    ensures { λ _. ⌜ SumInParts ⌝ }
+{}
+
+// A checksum put in its place verifies.
+pub fn placed_checksum_verifies()
+    ensures { λ _. ⌜ PlacedVerifies ⌝ }
+{}
+
+// The damage law; and damage to a message is damage to each part of it, and to any message that it is a part of.
+pub fn damage_is_found()
+    ensures { λ _. ⌜ DamageFound × Clipped ⌝ }
+{}
+
+// What counts as damage; and the law is sharp: what it leaves out is not found.
+pub fn what_counts_as_damage()
+    ensures { λ _. ⌜ DamageIs × Sharp ⌝ }
+{}
