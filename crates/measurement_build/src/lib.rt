@@ -82,7 +82,7 @@ fn nonzero_checksum(sum: u16) -> u16
 fn halves(x: u64) -> u64
     ensures { λ r. ⌜ (r ≡ x % 4294967296 + x / 4294967296) × (r < 2 ^ 33) ⌝ }
 {
-    x % 4294967296 + (x >> 32)
+    (x & 0xffff_ffff) + (x >> 32)
 }
 
 // A number that folds, in any sum, as the words of a UDP segment with a checksum field of 0 do.
