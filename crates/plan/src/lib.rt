@@ -3,6 +3,7 @@
 ghost use mathlib.Core.Path.{_≡_};
 ghost use Prim.Native.Nat.{_<_};
 ghost use Rattle.plan.specs.Plan.{intervalOf, intervalMeans, judgePackets, judgePlan};
+ghost use Rattle.plan.specs.Claims.{AcceptedIfAcceptable, AcceptableIfAccepted, SequenceDecides, TimeDecides, PacketsOrdered, Intervals, Examples};
 ghost use Rattle.plan.specs.Judge.{InTime, Timed, judgedPlan};
 
 // A plan of packets.
@@ -101,3 +102,18 @@ pub fn judge_plan(plan: TrafficPlan, next_sequence: u64) -> JudgedPlan
         }
     }
 }
+
+// Carries which plans are accepted, and which packets an accepted plan has.
+pub fn accepted_exactly_if_acceptable()
+    ensures { λ _. ⌜ AcceptedIfAcceptable × AcceptableIfAccepted × PacketsOrdered ⌝ }
+{}
+
+// Carries that the lowest packet that fails decides, by its sequence before its time.
+pub fn lowest_failing_packet_decides()
+    ensures { λ _. ⌜ SequenceDecides × TimeDecides ⌝ }
+{}
+
+// Carries the worked examples of intervals and plans.
+pub fn worked_examples()
+    ensures { λ _. ⌜ Intervals × Examples ⌝ }
+{}

@@ -11,6 +11,7 @@ ghost use mathlib.Core.List.{_++_};
 ghost use lib.ListN.{drop};
 ghost use Rattle.measurement.specs.Packet.{ipHeaderLength};
 ghost use Rattle.plan.specs.Plan.{packetsOf};
+ghost use Rattle.traffic.specs.Claims.{PacketsReadBack, SuccessIsComplete, RoomDecides, RefusalLeaves};
 ghost use Rattle.traffic.specs.Generate.{endToEnd, generated, generateOf};
 ghost use Rattle.traffic.specs.Fits.{Fits};
 
@@ -119,3 +120,13 @@ impl TrafficEngine {
         answer.written
     }
 }
+
+// Carries that a generated packet reads back at its place in the buffer, and that a success has every packet of the plan.
+pub fn every_packet_reads_back()
+    ensures { λ _. ⌜ PacketsReadBack × SuccessIsComplete ⌝ }
+{}
+
+// Carries that an accepted plan is refused only for want of room, and what a refusal leaves.
+pub fn refused_only_for_want_of_room()
+    ensures { λ _. ⌜ RoomDecides × RefusalLeaves ⌝ }
+{}
