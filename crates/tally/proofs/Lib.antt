@@ -5,6 +5,7 @@ pub mod Entry
 pub mod Returns
 pub mod Demand
 pub mod Generated
+pub mod Examples
 pub mod Attained
 pub mod Cases
 pub mod Batches

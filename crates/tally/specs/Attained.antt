@@ -1,13 +1,13 @@
 -- What keeps the hypotheses of demand 3 from being empty. proofs/Attained.antt proves it.
--- Assumes nothing.
 use Prim.Native.Nat.{ℕ, _+_, _*_, _≤_, _<_}
 use mathlib.Core.Path.{_≡_}
-use mathlib.Core.List.{[], _∷_, map}
+use mathlib.Core.List.{List, [], _∷_, map}
 use mathlib.Core.Bool.{Bool, true, false}
 use lib.ListN.{take, drop}
 use Rattle.error.specs.Outcome.{gives}
+use Rattle.field.specs.Field.{field}
 use Rattle.measurement.specs.Packet.{ipHeaderLength}
-use Rattle.measurement.specs.Claims.{InRange, echoesOf}
+use Rattle.measurement.specs.Claims.{InRange, Travelled, arrives, echoes, echoesOf}
 use Rattle.measurement.specs.declared.InnerIpFlow.{InnerIpFlow}
 use Rattle.plan.specs.Plan.{packetsOf}
 use Rattle.traffic.specs.Generate.{generateOf}
@@ -17,8 +17,8 @@ use Rattle.observer.specs.Counts.{fresh}
 use Rattle.observer.specs.Observer.{Observer, capacity, rows}
 use Rattle.observer.specs.Answer.{observerOf}
 use Rattle.tally.specs.Tally.{rowFor}
-use Rattle.tally.specs.Cases.{ipv6Flow}
-use Rattle.tally.specs.Demand.{Accepted, packet, sendAll, Takes, Call, Return, handed, receive, damagedOnALeg, damagedAtTheEnd}
+use Rattle.tally.specs.Cases.{ipv4Flow, ipv6Flow}
+use Rattle.tally.specs.Demand.{Accepted, packet, sendAll, Takes, Call, tpduCall, messageCall, Return, handed, receive, damagedOnALeg, damagedAtTheEnd}
 
 -- A plan that breaks no rule of leaf 5 is accepted, for every flow.
 abbrev pub PlansAccepted : Type 0
@@ -55,7 +55,7 @@ abbrev pub UndamagedComes : Type 0
 UndamagedComes = (flow : InnerIpFlow) (plan : TrafficPlan) (next : ℕ) → Accepted flow plan next → (k n time : ℕ) → k < plan .«packet_count» → (call : Call)
     → Undamaged flow plan next k n time call
 
--- ---- examples: one packet, the one of document 01's case 3
+-- ---- examples: a plan of one packet, that of document 01's case 1 or 3 by its flow
 
 abbrev pub examplePlan : TrafficPlan
 examplePlan = record { «packet_count» = 1; «target_rate_pps» = 1; «first_send_timestamp_ns» = 0 }
@@ -64,21 +64,58 @@ examplePlan = record { «packet_count» = 1; «target_rate_pps» = 1; «first_se
 abbrev pub exampleObserver : Observer
 exampleObserver = observerOf (7 ∷ []) (7 ∷ []) (7 ∷ []) (7 ∷ []) fresh
 
--- A damaged return, and whether the call refuses it.
-pub record DamagedReturn (refuses : Bool) : Type 0 where
-  pub accepted : Accepted ipv6Flow examplePlan 1
+-- What each leg ends with: what reaches each echo, and what arrives.
+abbrev pub legEnds : {sent arrived : List ℕ} {n : ℕ} → Travelled sent n arrived → List (List ℕ)
+legEnds (arrives {arrived = arrived} turned) = arrived ∷ []
+legEnds (echoes {at-echo = at-echo} turned echoed onward) = at-echo ∷ legEnds onward
+
+-- Whether a return is damaged, by either reading of the word, and whether its call refuses it.
+pub record Fate : Type 0 where
+  pub on-a-leg : Bool
+  pub at-the-end : Bool
+  pub refused : Bool
+
+-- The packet comes back by this call, with these numbers in a field of it at the end of each leg: there is one echo less than there are numbers.
+pub record Comes (flow : InnerIpFlow) (call : Call) (part : List ℕ → ℕ) (found : List ℕ) (fate : Fate) : Type 0 where
+  pub accepted : Accepted flow examplePlan 1
   pub takes : Takes examplePlan 1 exampleObserver
-  pub return : Return ipv6Flow examplePlan 1
-  pub on-a-leg : damagedOnALeg return ≡ true
-  pub at-the-end : damagedAtTheEnd return ≡ true
-  pub answer : receive (sendAll exampleObserver (packetsOf examplePlan 1)) (handed return) .refuses ≡ refuses
+  pub return : Return flow examplePlan 1
+  pub by : return .call ≡ call
+  pub at-leg-ends : map part (legEnds (return .travelled)) ≡ found
+  pub on-a-leg : damagedOnALeg return ≡ fate .on-a-leg
+  pub at-the-end : damagedAtTheEnd return ≡ fate .at-the-end
+  pub answer : receive (sendAll exampleObserver (packetsOf examplePlan 1)) (handed return) .refuses ≡ fate .refused
+
+-- where the fields stand
+abbrev pub hopLimit : List ℕ → ℕ
+hopLimit tpdu = field 1 7 tpdu
+
+abbrev pub sendTime : List ℕ → ℕ
+sendTime tpdu = field 8 64 tpdu
+
+abbrev pub udpChecksum : List ℕ → ℕ
+udpChecksum tpdu = field 2 26 tpdu
 
 pub record Attained : Type 0 where
   pub plans-accepted : PlansAccepted
   pub packets-generated : PacketsGenerated
   pub room-takes : RoomTakes
   pub undamaged-comes : UndamagedComes
-  -- the hop limit is under no checksum: a bit of it turned is not found
-  pub damaged-accepted : DamagedReturn false
-  -- a bit of the send time turned is found
-  pub damaged-refused : DamagedReturn true
+  -- A bit of the send time turned is found.
+  pub damage-refused : Comes ipv6Flow tpduCall sendTime (1 ∷ [])
+      (record { on-a-leg = true; at-the-end = true; refused = true })
+  -- The hop limit, sent as 64, is under no checksum: a bit of it turned is not found.
+  pub damage-accepted : Comes ipv6Flow tpduCall hopLimit (65 ∷ [])
+      (record { on-a-leg = true; at-the-end = true; refused = false })
+  -- Turned before an echo it is mended there: the two readings of "damaged" differ.
+  pub damage-mended : Comes ipv6Flow tpduCall hopLimit (65 ∷ 64 ∷ [])
+      (record { on-a-leg = true; at-the-end = false; refused = false })
+  -- "An IPv4 UDP checksum field of 0 is not verified": case 1's 0xB1D8, whose 16 bits are not all equal, turned to 0.
+  pub checksum-lost : Comes ipv4Flow tpduCall udpChecksum (0 ∷ [])
+      (record { on-a-leg = true; at-the-end = true; refused = false })
+  -- By the message call, damaged on two legs, on each within a span of its own.
+  pub message-returns : Comes ipv6Flow messageCall hopLimit (65 ∷ 65 ∷ [])
+      (record { on-a-leg = true; at-the-end = true; refused = false })
+  -- After two echoes, damaged between them.
+  pub two-echoes : Comes ipv6Flow tpduCall hopLimit (64 ∷ 65 ∷ 64 ∷ [])
+      (record { on-a-leg = true; at-the-end = false; refused = false })
