@@ -89,6 +89,20 @@ pub fn generate_packets(
     }
 }
 
+// `generate_packets` from the next sequence in the caller's record, which is changed there, also by the refusals 19 and 20.
+pub fn generate_from(
+    next_sequence: &mut u64,
+    flow: InnerIpFlow,
+    plan: TrafficPlan,
+    out: &mut [u8],
+) -> Written
+    ensures { λ r. ⌜ generated r (now («next_sequence» .exit)) (now (out .exit)) ≡ generateOf flow plan (now («next_sequence» .entry)) (now (out .entry)) ⌝ }
+{
+    let answer = generate_packets(flow, plan, *next_sequence, out);
+    *next_sequence = answer.next_sequence;
+    answer.written
+}
+
 // The generator's own record: the sequence of the next packet.
 pub struct TrafficEngine {
     pub next_sequence: u64,
@@ -111,13 +125,11 @@ impl TrafficEngine {
         }
     }
 
-    // `generate_packets` from the engine's next sequence, which is changed in place, also by the refusals 19 and 20.
+    // `generate_from` on the engine's next sequence.
     pub fn generate(&mut self, flow: InnerIpFlow, plan: TrafficPlan, out: &mut [u8]) -> Written
         ensures { λ r. ⌜ generated r (now (self .exit) .«next_sequence») (now (out .exit)) ≡ generateOf flow plan (now (self .entry) .«next_sequence») (now (out .entry)) ⌝ }
     {
-        let answer = generate_packets(flow, plan, self.next_sequence, out);
-        self.next_sequence = answer.next_sequence;
-        answer.written
+        generate_from(&mut self.next_sequence, flow, plan, out)
     }
 }
 
