@@ -17,7 +17,7 @@ use Rattle.checksum.specs.Claims.{Verifies}
 use Rattle.measurement.specs.Packet.{addressLength, address, padded, ipv4, ipv4Header, ipv6, ipHeader, ipHeaderLength, pseudoHeader, udp, udpSegment, probe, measurementMagic, buildOf}
 use Rattle.measurement.specs.Read.{payload, tpduOf, readUdp, ihl, readOf}
 use Rattle.measurement.specs.Echo.{reversedOf, echoOfTpdu, echoOf}
-use Rattle.measurement.specs.Claims.{InRange, canonical, tpduBuilt, ReadsBack, EchoIsReversed, EchoOfEcho, ChecksumsRight, ChecksumsVerify, Sent, built, echoed, RefusesOr, DamageOfOneLeg, DamageFound, SentIsRead, Travelled, arrives, echoes, echoesOf, Arrival, LegsChained}
+use Rattle.measurement.specs.Claims.{InRange, canonical, tpduBuilt, ReadsBack, EchoIsReversed, EchoOfEcho, ChecksumsRight, ChecksumsVerify, reversedTpdu, Sent, built, echoed, RefusesOr, DamageOfOneLeg, DamageFound, SentIsRead, Travelled, arrives, echoes, echoesOf, reversals, Arrival, LegsChained}
 use Rattle.measurement.specs.declared.DecodedTpdu.{DecodedTpdu}
 use Rattle.measurement.specs.declared.InnerIpFlow.{InnerIpFlow}
 use Rattle.measurement.specs.declared.IpVersion.{IpVersion}
@@ -157,66 +157,87 @@ read-in-range b r bytes e = go (accepted b r e)
         part-in-range V6 (bytesAt 16 8 b) (bytesAt 16 24 b) (take (field 2 4 b) (drop 40 b)) r (bytes-at 16 8 b bytes) (bytes-at 16 24 b bytes)
         (bytes-take (field 2 4 b) (drop 40 b) (bytes-drop 40 b bytes)) (omega arith) (omega arith) (x .1 .part)
 
-record Build (sent : List ℕ) : Type 0 where
+-- and its flow is canonical, so building and reading give it back
+part-canonical : (v : IpVersion) (src dst u : List ℕ) (r : DecodedTpdu) → padded (address v (padded src)) ≡ padded src → padded (address v (padded dst)) ≡ padded dst
+    → readUdp v src dst u ≡ gives r → canonical (r .flow) ≡ r .flow
+part-canonical v src dst u r hs hd e =
+    rw (part-accepted src dst u r v e .is)
+    (ap₂ (λ (x y : List ℕ). record { version = v; src = x; dst = y; «src_port» = field 2 0 u; «dst_port» = field 2 2 u }) hs hd)
+
+read-canonical : (b : List ℕ) (r : DecodedTpdu) → readOf b ≡ gives r → canonical (r .flow) ≡ r .flow
+unfolding address padded addressLength
+read-canonical b r e = go (accepted b r e)
+  where
+    go : ((getD b 0 0 / 16 ≡ 4) × Accepted4 b r) ⊎ ((getD b 0 0 / 16 ≡ 6) × Accepted6 b r) → canonical (r .flow) ≡ r .flow
+    go (inl x) = part-canonical V4 (bytesAt 4 12 b) (bytesAt 4 16 b) (take (field 2 2 b - ihl b * 4) (drop (ihl b * 4) b)) r refl refl (x .1 .part)
+    go (inr x) = part-canonical V6 (bytesAt 16 8 b) (bytesAt 16 24 b) (take (field 2 4 b) (drop 40 b)) r refl refl (x .1 .part)
+
+canonical-reversed : (d : DecodedTpdu) → canonical (d .flow) ≡ d .flow
+    → tpduBuilt (reversedOf (d .flow)) (d .measurement .sequence) (d .measurement .«send_timestamp_ns») ≡ reversedTpdu d
+canonical-reversed d e = ap (λ (f : InnerIpFlow). record { flow = reversedOf f; measurement = d .measurement }) e
+
+record Build (began : DecodedTpdu) (sent : List ℕ) : Type 0 where
   flow : InnerIpFlow
   sequence : ℕ
   time : ℕ
   in-range : InRange flow sequence time
   is : sent ≡ buildOf flow sequence time
+  begins : tpduBuilt flow sequence time ≡ began
 
-sent-is-built : (x : List ℕ) → Sent x → Build x
-sent-is-built x (built f s t g) = record { flow = f; sequence = s; time = t; in-range = g; is = refl }
-sent-is-built x (echoed b e bytes p) = go (readOf b) refl
-  where
-    go : (o : Outcome DecodedTpdu) → readOf b ≡ o → Build x
-    go (refused n) q = absurd (refused-gives (sym (echo-refused b n q) ∙ p))
-    go (gives d) q = record {
-      flow = reversedOf (d .flow);
-      sequence = d .measurement .sequence;
-      time = d .measurement .«send_timestamp_ns»;
-      in-range = reversed-in-range (read-in-range b d bytes q);
-      is = given (sym p ∙ echo-given b d q);
-    }
+sent-is-built : (d : DecodedTpdu) (x : List ℕ) → Sent d x → Build d x
+sent-is-built d x (built f s t g) = record { flow = f; sequence = s; time = t; in-range = g; is = refl; begins = refl }
+sent-is-built d x (echoed b e r bytes q p) = record {
+  flow = reversedOf (r .flow);
+  sequence = r .measurement .sequence;
+  time = r .measurement .«send_timestamp_ns»;
+  in-range = reversed-in-range (read-in-range b r bytes q);
+  is = given (sym p ∙ echo-given b r q);
+  begins = canonical-reversed r (read-canonical b r q);
+}
 
 -- one leg
-module _ (x a : List ℕ) (w : Build x) (q : Turned x a) where
-  abbrev whole : DecodedTpdu
-  whole = tpduBuilt (w .flow) (w .sequence) (w .time)
+module _ (d : DecodedTpdu) (x a : List ℕ) (w : Build d x) (q : Turned x a) where
+  whole-read : readOf x ≡ gives d
+  whole-read = ap readOf (w .is) ∙ reads-back-alone (w .flow) (w .sequence) (w .time) (w .in-range) ∙ ap gives (w .begins)
 
-  whole-read : readOf x ≡ gives whole
-  whole-read = ap readOf (w .is) ∙ reads-back-alone (w .flow) (w .sequence) (w .time) (w .in-range)
-
-  same : (r : DecodedTpdu) → readOf a ≡ gives r → r ≡ whole
+  same : (r : DecodedTpdu) → readOf a ≡ gives r → r ≡ d
   unfolding buildOf address
   same r e =
       let f = w .flow in
       let g = w .in-range in
       leg (f .src) (f .dst) (f .«src_port») (f .«dst_port») (w .sequence) (w .time) (g .source) (g .destination) (g .source-port) (g .destination-port) (g .sequence) (g .time)
-      a r (f .version) (rw (w .is) at q) e
+      a r (f .version) (rw (w .is) at q) e ∙ w .begins
 
-  one-leg : DamageOfOneLeg x a
+  one-leg : DamageOfOneLeg d x a
   one-leg = go (readOf a) refl
     where
-      go : (o : Outcome DecodedTpdu) → readOf a ≡ o → DamageOfOneLeg x a
-      go (refused n) e = record { reading = rw e tt; echoing = rw (echo-refused a n e) tt }
+      go : (o : Outcome DecodedTpdu) → readOf a ≡ o → DamageOfOneLeg d x a
+      go (refused n) e = record { reading = rw e tt; echoing = rw (echo-refused a n e) tt; undamaged-echo = echo-given x d whole-read }
       go (gives r) e = record {
-        reading = rw e (ap gives (same r e) ∙ sym whole-read);
-        echoing = rw (echo-given a r e) (ap (λ (d : DecodedTpdu). gives (echoOfTpdu d)) (same r e) ∙ sym (echo-given x whole whole-read));
+        reading = rw e (ap gives (same r e));
+        echoing = rw (echo-given a r e) (ap (λ (c : DecodedTpdu). gives (echoOfTpdu c)) (same r e) ∙ sym (echo-given x d whole-read));
+        undamaged-echo = echo-given x d whole-read;
       }
 
 pub damage-found : DamageFound
-damage-found x a s q = one-leg x a (sent-is-built x s) q
+damage-found d x a s q = one-leg d x a (sent-is-built d x s) q
 
 pub sent-is-read : SentIsRead
-sent-is-read x s n e =
-    let w = sent-is-built x s in
-    refused-gives (sym e ∙ ap readOf (w .is) ∙ reads-back-alone (w .flow) (w .sequence) (w .time) (w .in-range))
+sent-is-read d x s = let w = sent-is-built d x s in ap readOf (w .is) ∙ reads-back-alone (w .flow) (w .sequence) (w .time) (w .in-range) ∙ ap gives (w .begins)
 
 -- legs one after the other
+echo-was-read : (c e : List ℕ) → echoOf c ≡ gives e → (d : DecodedTpdu) → RefusesOr (readOf c) (gives d) → readOf c ≡ gives d
+echo-was-read c e p d h = go (readOf c) refl h
+  where
+    go : (o : Outcome DecodedTpdu) → readOf c ≡ o → RefusesOr o (gives d) → readOf c ≡ gives d
+    go (refused n) q h = absurd (refused-gives (sym (echo-refused c n q) ∙ p))
+    go (gives r) q h = q ∙ h
+
 pub legs-chained : LegsChained
 unfolding echoesOf
-legs-chained x a zero s (arrives q) = record { whole = x; echoed = refl; is-sent = s; turned = q }
-legs-chained x a (suc n) s (echoes {at-echo = c} {echo = e} q p w) =
-    let same : echoOf x ≡ gives e = sym (rw p at (damage-found x c s q .echoing)) in
-    let rest = legs-chained e a n (echoed c e (q .bytes) p) w in
+legs-chained d x a zero s (arrives q) = record { whole = x; echoed = refl; is-sent = s; turned = q }
+legs-chained d x a (suc n) s (echoes {at-echo = c} {echo = e} q p w) =
+    let found = damage-found d x c s q in
+    let same : echoOf x ≡ gives e = sym (rw p at (found .echoing)) in
+    let rest = legs-chained (reversedTpdu d) e a n (echoed c e d (q .bytes) (echo-was-read c e p d (found .reading)) p) w in
     record { whole = rest .whole; echoed = rw (same, echoesOf) (rest .echoed); is-sent = rest .is-sent; turned = rest .turned }

@@ -57,7 +57,7 @@ EchoOfEcho = (flow : InnerIpFlow) (sequence time : ℕ) → InRange flow sequenc
     → (echo : List ℕ) → echoOf (buildOf flow sequence time) ≡ gives echo → echoOf echo ≡ gives (buildOf flow sequence time)
 
 -- The checksums of a built packet are right by the RFCs: RFC 791's over the header, RFC 768's and RFC 8200's over pseudo-header and segment,
--- which is never sent as 0, and as all ones where it comes to 0.
+-- which is never sent as 0, and as all ones where it is 0.
 pub record ChecksumsRight (flow : InnerIpFlow) (s t : ℕ) : Type 0 where
   pub ipv4-header : flow .version ≡ V4 → Verifies (take 20 (buildOf flow s t))
   pub udp : let v : IpVersion = flow .version in
@@ -70,46 +70,66 @@ pub record ChecksumsRight (flow : InnerIpFlow) (s t : ℕ) : Type 0 where
 abbrev pub ChecksumsVerify : Type 0
 ChecksumsVerify = (flow : InnerIpFlow) (sequence time : ℕ) → InRange flow sequence time → ChecksumsRight flow sequence time
 
--- Every built or echoed T-PDU. Any bytes that are not refused may have been echoed.
-pub data Sent : List ℕ → Type 0 where
-  built : (flow : InnerIpFlow) (sequence time : ℕ) → InRange flow sequence time → Sent (buildOf flow sequence time)
-  echoed : (tpdu echo : List ℕ) → Bytes tpdu → echoOf tpdu ≡ gives echo → Sent echo
+-- What the leg of an echo begins with: the flow that was read, reversed; "sequence and time kept".
+abbrev pub reversedTpdu : DecodedTpdu → DecodedTpdu
+reversedTpdu tpdu = record { flow = reversedOf (tpdu .flow); measurement = tpdu .measurement }
+
+-- Every built or echoed T-PDU, with "the flow, sequence and time that the leg began with". Any bytes that are not
+-- refused may have been echoed.
+pub data Sent : DecodedTpdu → List ℕ → Type 0 where
+  built : (flow : InnerIpFlow) (sequence time : ℕ) → InRange flow sequence time
+      → Sent (tpduBuilt flow sequence time) (buildOf flow sequence time)
+  echoed : (tpdu echo : List ℕ) (read : DecodedTpdu) → Bytes tpdu → readOf tpdu ≡ gives read → echoOf tpdu ≡ gives echo
+      → Sent (reversedTpdu read) echo
 
 -- An outcome refuses, or is the one expected.
 abbrev pub RefusesOr : {A : Type 0} → Outcome A → Outcome A → Type 0
 RefusesOr (refused n) expected = Unit {0}
 RefusesOr (gives x) expected = gives x ≡ expected
 
--- Demand 3, first sentence: on one leg, whatever one span of bits turned, "reading refuses or gives the flow, sequence and time that the leg
--- began with, and echoing refuses or gives the echo of the undamaged T-PDU, byte for byte".
-pub record DamageOfOneLeg (sent arrived : List ℕ) : Type 0 where
-  pub reading : RefusesOr (readOf arrived) (readOf sent)
+-- Demand 3, first sentence, on one leg, whatever one span of bits turned.
+pub record DamageOfOneLeg (began : DecodedTpdu) (sent arrived : List ℕ) : Type 0 where
+  -- "reading refuses or gives the flow, sequence and time that the leg began with"
+  pub reading : RefusesOr (readOf arrived) (gives began)
+  -- "echoing refuses or gives the echo of the undamaged T-PDU, byte for byte"
   pub echoing : RefusesOr (echoOf arrived) (echoOf sent)
+  -- which is the build of the reversed flow, with that sequence and time
+  pub undamaged-echo : echoOf sent
+      ≡ gives (buildOf (reversedOf (began .flow)) (began .measurement .sequence) (began .measurement .«send_timestamp_ns»))
 
 abbrev pub DamageFound : Type 0
-DamageFound = (sent arrived : List ℕ) → Sent sent → Turned sent arrived → DamageOfOneLeg sent arrived
+DamageFound = (began : DecodedTpdu) (sent arrived : List ℕ) → Sent began sent → Turned sent arrived
+    → DamageOfOneLeg began sent arrived
 
--- A sent T-PDU itself is read, and echoed: so "refuses or is the same" compares with something.
+-- With no bit turned reading does not refuse: so "refuses or gives" is not met by refusing all.
 abbrev pub SentIsRead : Type 0
-SentIsRead = (sent : List ℕ) → Sent sent → (n : ℕ) → readOf sent ≡ refused n → ⊥
+SentIsRead = (began : DecodedTpdu) (sent : List ℕ) → Sent began sent → readOf sent ≡ gives began
 
--- A T-PDU on its way: echoed so many times, each leg from building or echoing to the next echoing or to the arrival damaged, no echo refused.
+-- A T-PDU on its way, echoed n times: each leg, from building or echoing to the next echoing or to the arrival, is damaged, and no echo
+-- is refused.
 pub data Travelled : List ℕ → ℕ → List ℕ → Type 0 where
   arrives : {sent arrived : List ℕ} → Turned sent arrived → Travelled sent 0 arrived
   echoes : {sent at-echo echo arrived : List ℕ} {n : ℕ} → Turned sent at-echo → echoOf at-echo ≡ gives echo → Travelled echo n arrived
       → Travelled sent (suc n) arrived
 
--- So many echoes with no bit turned.
+-- A T-PDU echoed n times, no bit turned.
 unfoldable pub echoesOf : ℕ → List ℕ → Outcome (List ℕ)
 echoesOf zero sent = gives sent
 echoesOf (suc n) sent = elim (echoOf sent) [ refused k ↦ refused k | gives echo ↦ echoesOf n echo ]
 
--- The legs chained: what arrives is the undamaged T-PDU, echoed as often, with one span turned.
-pub record Arrival (sent arrived : List ℕ) (n : ℕ) : Type 0 where
+-- What the leg after n echoes begins with.
+abbrev pub reversals : ℕ → DecodedTpdu → DecodedTpdu
+reversals zero began = began
+reversals (suc n) began = reversals n (reversedTpdu began)
+
+-- The legs chained: what arrives is the undamaged T-PDU, echoed as often, with one span turned; and its last leg began
+-- with the first one's flow, reversed as often, and with its sequence and time.
+pub record Arrival (began : DecodedTpdu) (sent arrived : List ℕ) (n : ℕ) : Type 0 where
   pub whole : List ℕ
   pub echoed : echoesOf n sent ≡ gives whole
-  pub is-sent : Sent whole
+  pub is-sent : Sent (reversals n began) whole
   pub turned : Turned whole arrived
 
 abbrev pub LegsChained : Type 0
-LegsChained = (sent arrived : List ℕ) (n : ℕ) → Sent sent → Travelled sent n arrived → Arrival sent arrived n
+LegsChained = (began : DecodedTpdu) (sent arrived : List ℕ) (n : ℕ) → Sent began sent → Travelled sent n arrived
+    → Arrival began sent arrived n

@@ -6,6 +6,7 @@ ghost use Prim.Native.Nat.{ℕ, _+_, _^_, _<_};
 ghost use Rattle.checksum.specs.Sum.{sumOf, foldOf};
 ghost use Rattle.measurement.specs.Packet.{versionNumbered, address, pseudoHeader, probe};
 ghost use Rattle.measurement.specs.Echo.{reversedOf};
+ghost use Rattle.measurement.specs.Claims.{ReadsBack, EchoIsReversed, EchoOfEcho, ChecksumsVerify, DamageFound, SentIsRead, LegsChained};
 
 pub enum IpVersion {
     V4,
@@ -137,3 +138,30 @@ pub fn pseudo_header_words(version: IpVersion, src: [u8; 16], dst: [u8; 16], udp
 {
     17 + (udp_length as u64) + address_sum(version, src) + address_sum(version, dst)
 }
+
+// What is proved of the definitions (specs/Claims.antt), on the contracts of functions that do nothing.
+
+// A built packet reads back to its flow, sequence and time.
+pub fn built_packet_reads_back()
+    ensures { λ _. ⌜ ReadsBack ⌝ }
+{}
+
+// Its echo is the build of the reversed flow, and the echo of its echo is the first packet.
+pub fn echo_is_reversed()
+    ensures { λ _. ⌜ EchoIsReversed × EchoOfEcho ⌝ }
+{}
+
+// The checksums of a built packet are right by the RFCs.
+pub fn checksums_verify()
+    ensures { λ _. ⌜ ChecksumsVerify ⌝ }
+{}
+
+// Demand 3, first sentence; and a T-PDU of which no bit turned is read as what its leg began with.
+pub fn damage_is_found()
+    ensures { λ _. ⌜ DamageFound × SentIsRead ⌝ }
+{}
+
+// Over any number of echoes, each leg damaged: what arrives is the undamaged T-PDU, echoed as often, with one span turned.
+pub fn legs_are_chained()
+    ensures { λ _. ⌜ LegsChained ⌝ }
+{}

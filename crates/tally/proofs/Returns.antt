@@ -8,9 +8,10 @@ use Rattle.error.specs.Outcome.{Outcome, refused, gives}
 use Rattle.measurement.specs.Packet.{buildOf}
 use Rattle.measurement.specs.Read.{readOf}
 use Rattle.measurement.specs.Echo.{reversedOf, echoOf}
-use Rattle.measurement.specs.Claims.{InRange, tpduBuilt, built, RefusesOr, echoesOf}
+use Rattle.measurement.specs.Claims.{InRange, tpduBuilt, built, RefusesOr, echoesOf, reversedTpdu, reversals}
 use Rattle.measurement.specs.declared.DecodedTpdu.{DecodedTpdu}
 use Rattle.measurement.specs.declared.InnerIpFlow.{InnerIpFlow}
+use Rattle.measurement.specs.declared.MeasurementHeader.{MeasurementHeader}
 use Rattle.measurement.proofs.Claims.{reads-back-alone, echo-alone, reversed-in-range, damage-found, legs-chained}
 use Rattle.plan.specs.Plan.{timeAt, packetsOf, Judged}
 use Rattle.plan.specs.Claims.{Acceptable}
@@ -42,8 +43,10 @@ reads-or : (x : Outcome DecodedTpdu) (d : DecodedTpdu) (s : ℕ) → d .measurem
 reads-or (refused m) d s e h = tt
 reads-or (gives c) d s e h = let same : c ≡ d = cc in ap (λ (x : DecodedTpdu). x .measurement .sequence) same ∙ e
 
-given : {x y : List ℕ} → gives x ≡ gives y → x ≡ y
-given e = cc
+-- an echo keeps sequence and time
+kept : (n : ℕ) (d : DecodedTpdu) → reversals n d .measurement ≡ d .measurement
+kept zero d = refl
+kept (suc n) d = kept n (reversedTpdu d)
 
 module _ {flow : InnerIpFlow} {plan : TrafficPlan} {next : ℕ} (a : Accepted flow plan next) where
   acceptable : Acceptable plan next
@@ -93,7 +96,8 @@ module _ {flow : InnerIpFlow} {plan : TrafficPlan} {next : ℕ} (a : Accepted fl
     -- demand 3's first sentence, leg after leg
     pub arrived-reads : Reads s (readOf (r .arrived))
     arrived-reads =
-        let c = legs-chained (packet flow plan next k) (r .arrived) (r .echo-count) (built flow s t (packet-in-range k (r .planned))) (r .travelled) in
-        let same : c .whole ≡ buildOf (undamaged .flow) s t = given (sym (c .echoed) ∙ undamaged .echoed) in
-        let read : readOf (c .whole) ≡ gives wholeTpdu = ap readOf same ∙ reads-back-alone (undamaged .flow) s t (undamaged .in-range) in
-        reads-or (readOf (r .arrived)) wholeTpdu s refl (rw read at (damage-found (c .whole) (r .arrived) (c .is-sent) (c .turned) .reading))
+        let n = r .echo-count in
+        let began : DecodedTpdu = tpduBuilt flow s t in
+        let c = legs-chained began (packet flow plan next k) (r .arrived) n (built flow s t (packet-in-range k (r .planned))) (r .travelled) in
+        reads-or (readOf (r .arrived)) (reversals n began) s (ap (λ (m : MeasurementHeader). m .sequence) (kept n began))
+        (damage-found (reversals n began) (c .whole) (r .arrived) (c .is-sent) (c .turned) .reading)
