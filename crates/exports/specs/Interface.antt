@@ -6,7 +6,7 @@ use mathlib.Core.Bool.{true, false}
 use mathlib.Core.Option.{Option, some, none}
 use lib.Dec.{eqb}
 use Rattle.error.specs.Outcome.{Outcome, refused, gives, outcomeNumber}
-use Rattle.measurement.specs.Packet.{versionNumbered}
+use Rattle.measurement.specs.Packet.{versionNumbered, versionNumber}
 use Rattle.measurement_decode.specs.declared.TpduNumbers.{TpduNumbers}
 use Rattle.measurement.specs.declared.InnerIpFlow.{InnerIpFlow}
 use Rattle.measurement.specs.declared.IpVersion.{IpVersion}
@@ -49,7 +49,7 @@ writtenNumbers (gives bytes) = record { number = 0; bytes = bytes }
 abbrev pub testkitTpdu : TpduNumbers → TestkitTpdu
 testkitTpdu n = record {
   number = n .number;
-  version = n .version;
+  version = versionNumber (n .version);
   «src_port» = n .«src_port»;
   «dst_port» = n .«dst_port»;
   sequence = n .sequence;

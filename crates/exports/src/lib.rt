@@ -159,9 +159,10 @@ pub extern "C" fn testkit_decode(tpdu: &[u8], src: &mut [u8; 16], dst: &mut [u8;
     ensures destination { λ _. ⌜ now (dst .exit) ≡ destinationLeft (readOf (now (tpdu .entry))) (now (dst .entry)) ⌝ }
 {
     let read = measurement_decode::decode_into(tpdu, src, dst);
+    let version = read.version;
     TestkitTpdu {
         number: read.number,
-        version: read.version,
+        version: version_number(version),
         src_port: read.src_port,
         dst_port: read.dst_port,
         sequence: read.sequence,

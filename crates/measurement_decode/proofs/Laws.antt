@@ -16,13 +16,12 @@ use Rattle.field.proofs.Fields.{front-bytes, length-bytesAt, bytesAt-drop, byte
 use Rattle.checksum.specs.Sum.{sumOf, foldOf, checksumOf}
 use Rattle.checksum.proofs.Carries.{fold-low}
 use Rattle.checksum.proofs.Sums.{sum-append}
-use Rattle.measurement.specs.Packet.{versionNumbered, versionNumber, addressLength, padded, pseudoHeader}
+use Rattle.measurement.specs.Packet.{addressLength, padded, pseudoHeader}
 use Rattle.measurement.specs.Read.{covered, payload, lengthWrong, sumWrong, tpduOf, readUdp, ihl, readOf}
 use Rattle.measurement.specs.Answer.{decodeResult}
 use Rattle.measurement.specs.declared.DecodedTpdu.{DecodedTpdu}
 use Rattle.measurement.specs.declared.DecodeResult.{DecodeResult}
 use Rattle.measurement.specs.declared.Decoding.{Decoding}
-use Rattle.measurement.specs.declared.Decoding.the-variants.{Accepted}
 use Rattle.measurement.specs.declared.IpVersion.{IpVersion}
 use Rattle.measurement.specs.declared.IpVersion.the-variants.{V4, V6}
 use Rattle.measurement.proofs.Accept.{part-accepted, accepted, Given, given}
@@ -127,19 +126,18 @@ unfolding payload
 payload-long u e h = omega (arith, ap (λ (k : ℕ). length (take (k - 8) (drop 8 u))) e, h .long)
 
 -- the values of a part, as the code reads them
-pub values-are : (v : IpVersion) (src dst u : List ℕ) {n a b s t w : ℕ} → n ≡ field 2 4 u → a ≡ field 2 0 u → b ≡ field 2 2 u
-    → s ≡ field 8 8 (take (n - 8) (drop 8 u)) → t ≡ field 8 16 (take (n - 8) (drop 8 u)) → w ≡ versionNumber v
-    → record { sequence = s; number = 0; «src_port» = a; «send_timestamp_ns» = t; version = w; «dst_port» = b } ≡ tpduNumbers (gives (tpduOf v src dst u))
+pub values-are : (v : IpVersion) (src dst u : List ℕ) {n a b s t : ℕ} → n ≡ field 2 4 u → a ≡ field 2 0 u → b ≡ field 2 2 u
+    → s ≡ field 8 8 (take (n - 8) (drop 8 u)) → t ≡ field 8 16 (take (n - 8) (drop 8 u))
+    → record { sequence = s; number = 0; «src_port» = a; «send_timestamp_ns» = t; version = v; «dst_port» = b } ≡ tpduNumbers (gives (tpduOf v src dst u))
 unfolding tpduNumbers payload
-values-are v src dst u {n} {a} {b} {s} {t} {w} en ea eb es et ew =
+values-are v src dst u {n} {a} {b} {s} {t} en ea eb es et =
     let body : ℕ → List ℕ = λ k. take (k - 8) (drop 8 u) in
     let es' = es ∙ ap (λ (k : ℕ). field 8 8 (body k)) en in
     let et' = et ∙ ap (λ (k : ℕ). field 8 16 (body k)) en in
-    ap₂ (λ (a b : ℕ). made s a t w b) ea eb ∙ ap₂ (λ (s t : ℕ). made s (field 2 0 u) t w (field 2 2 u)) es' et'
-    ∙ ap (λ (w : ℕ). made (field 8 8 (payload u)) (field 2 0 u) (field 8 16 (payload u)) w (field 2 2 u)) ew
+    ap₂ (λ (a b : ℕ). made s a t b) ea eb ∙ ap₂ (λ (s t : ℕ). made s (field 2 0 u) t (field 2 2 u)) es' et'
   where
-    made : ℕ → ℕ → ℕ → ℕ → ℕ → TpduNumbers
-    made s a t w b = record { sequence = s; number = 0; «src_port» = a; «send_timestamp_ns» = t; version = w; «dst_port» = b }
+    made : ℕ → ℕ → ℕ → ℕ → TpduNumbers
+    made s a t b = record { sequence = s; number = 0; «src_port» = a; «send_timestamp_ns» = t; version = v; «dst_port» = b }
 
 -- an IPv4 packet whose number is 0, and an IPv6 packet: where its part lies, and what it reads as
 pub record Ipv4 (p : List ℕ) : Type 0 where
@@ -196,35 +194,29 @@ pub padded-whole : (l : List ℕ) (at : ℕ) → bytesAt 16 at l ≡ padded (byt
 unfolding padded
 padded-whole l at = refl
 
--- a version from its number
-pub version-again : (v : IpVersion) → versionNumbered (versionNumber v) ≡ v
-unfolding versionNumbered
-version-again V4 = refl
-version-again V6 = refl
-
 -- the reader's answer, put together from the numbers and the lent addresses
-module _ (x : TpduNumbers) (d : Decoding) (v : IpVersion) (s t : List ℕ) where
+module _ (x : TpduNumbers) (d : Decoding) (s t : List ℕ) where
   abbrev pub answerOf : DecodeResult
   answerOf = record {
     decoding = d;
     tpdu = record {
-      flow = record { version = v; src = s; dst = t; «src_port» = x .«src_port»; «dst_port» = x .«dst_port» };
+      flow = record { version = x .version; src = s; dst = t; «src_port» = x .«src_port»; «dst_port» = x .«dst_port» };
       measurement = record { sequence = x .sequence; «send_timestamp_ns» = x .«send_timestamp_ns» };
     };
   }
 
-pub answered : (o : Outcome DecodedTpdu) → (o ≡ refused 0 → ⊥) → {x : TpduNumbers} {d : Decoding} {v : IpVersion} {s t : List ℕ} → x ≡ tpduNumbers o
-    → d ≡ decodingNumbered (x .number) → v ≡ versionNumbered (x .version) → s ≡ sourceLeft o (replicate 16 0) → t ≡ destinationLeft o (replicate 16 0)
-    → answerOf x d v s t ≡ decodeResult o
-unfolding tpduNumbers decodingNumbered versionNumbered sourceLeft destinationLeft decodeResult
-answered o h {x} {d} {v} {s} {t} ex ed ev es et =
+pub answered : (o : Outcome DecodedTpdu) → (o ≡ refused 0 → ⊥) → {x : TpduNumbers} {d : Decoding} {s t : List ℕ} → x ≡ tpduNumbers o
+    → d ≡ decodingNumbered (x .number) → s ≡ sourceLeft o (replicate 16 0) → t ≡ destinationLeft o (replicate 16 0)
+    → answerOf x d s t ≡ decodeResult o
+unfolding tpduNumbers decodingNumbered sourceLeft destinationLeft decodeResult
+answered o h {x} {d} {s} {t} ex ed es et =
     let n = tpduNumbers o in
-    ap (λ (x : TpduNumbers). answerOf x d v s t) ex
-    ∙ ap₂ (λ (d : Decoding) (v : IpVersion). answerOf n d v s t) (ed ∙ ap (λ (x : TpduNumbers). decodingNumbered (x .number)) ex) (ev ∙ ap (λ (x : TpduNumbers). versionNumbered (x .version)) ex)
-    ∙ ap₂ (λ (s t : List ℕ). answerOf n (decodingNumbered (n .number)) (versionNumbered (n .version)) s t) es et ∙ go o h
+    ap (λ (x : TpduNumbers). answerOf x d s t) ex
+    ∙ ap (λ (d : Decoding). answerOf n d s t) (ed ∙ ap (λ (x : TpduNumbers). decodingNumbered (x .number)) ex)
+    ∙ ap₂ (λ (s t : List ℕ). answerOf n (decodingNumbered (n .number)) s t) es et ∙ go o h
   where
     go : (o : Outcome DecodedTpdu) → (o ≡ refused 0 → ⊥) → let n = tpduNumbers o in
-        answerOf n (decodingNumbered (n .number)) (versionNumbered (n .version)) (sourceLeft o (replicate 16 0)) (destinationLeft o (replicate 16 0)) ≡ decodeResult o
+        answerOf n (decodingNumbered (n .number)) (sourceLeft o (replicate 16 0)) (destinationLeft o (replicate 16 0)) ≡ decodeResult o
     go (refused zero) h = absurd (h refl)
     go (refused (suc n)) h = refl
-    go (gives t) h = ap (λ (v : IpVersion). answerOf (tpduNumbers (gives t)) Accepted v (t .flow .src) (t .flow .dst)) (version-again (t .flow .version))
+    go (gives t) h = refl

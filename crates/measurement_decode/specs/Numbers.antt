@@ -3,21 +3,21 @@
 use Prim.Native.Nat.{ℕ, zero, suc}
 use mathlib.Core.List.{List}
 use Rattle.error.specs.Outcome.{Outcome, refused, gives}
-use Rattle.measurement.specs.Packet.{versionNumber}
 use Rattle.measurement.specs.declared.DecodedTpdu.{DecodedTpdu}
 use Rattle.measurement.specs.declared.Decoding.{Decoding}
 use Rattle.measurement.specs.declared.Decoding.the-variants as decoding
+use Rattle.measurement.specs.declared.IpVersion.the-variants.{V4}
 use Rattle.measurement_decode.specs.declared.TpduNumbers.{TpduNumbers}
 
 -- 0 and the values, or the refusal's number, and zeros beside version 4.
 unfoldable pub tpduNumbers : Outcome DecodedTpdu → TpduNumbers
-tpduNumbers (refused n) = record { sequence = 0; number = n; «src_port» = 0; «send_timestamp_ns» = 0; version = 4; «dst_port» = 0 }
+tpduNumbers (refused n) = record { sequence = 0; number = n; «src_port» = 0; «send_timestamp_ns» = 0; version = V4; «dst_port» = 0 }
 tpduNumbers (gives t) = record {
   sequence = t .measurement .sequence;
   number = 0;
   «src_port» = t .flow .«src_port»;
   «send_timestamp_ns» = t .measurement .«send_timestamp_ns»;
-  version = versionNumber (t .flow .version);
+  version = t .flow .version;
   «dst_port» = t .flow .«dst_port»;
 }
 

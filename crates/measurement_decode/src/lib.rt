@@ -15,7 +15,7 @@ ghost use lib.ListN.{length};
 ghost use Rattle.error.specs.Outcome.{refused, gives, outcomeNumber};
 ghost use Rattle.field.specs.Field.{bytesAt, field};
 ghost use Rattle.checksum.specs.Sum.{sumOf, foldOf};
-ghost use Rattle.measurement.specs.Packet.{versionNumber, padded};
+ghost use Rattle.measurement.specs.Packet.{padded};
 ghost use Rattle.measurement.specs.Read.{lengthWrong, sumWrong, tpduOf, readProbe, readUdp, readIpv4, readIpv6, readOf};
 ghost use Rattle.measurement.specs.Answer.{decodeResult};
 ghost use Rattle.measurement.specs.declared.IpVersion.{IpVersion};
@@ -23,14 +23,14 @@ ghost use Rattle.measurement.specs.declared.IpVersion.the-variants.{V4, V6};
 ghost use Rattle.measurement_decode.specs.Part.{Part, Addresses, HasProbe};
 ghost use Rattle.measurement_decode.specs.Numbers.{decodingNumbered, tpduNumbers, sourceLeft, destinationLeft};
 
-// What reading answers in numbers: 0 and the values, or a refusal's number and zeros beside version 4. Two fields of one width never stand
-// side by side: such a pair is copied by one wide load, and that waits for the two stores before it.
+// What reading answers: 0 and the values, or a refusal's number and zeros beside version 4. Two fields of one width never stand side by
+// side: such a pair is copied by one wide load, and that waits for the two stores before it.
 pub struct TpduNumbers {
     pub sequence: u64,
     pub number: u8,
     pub src_port: u16,
     pub send_timestamp_ns: u64,
-    pub version: u8,
+    pub version: IpVersion,
     pub dst_port: u16,
 }
 
@@ -246,9 +246,9 @@ fn ipv6_address(tpdu: &[u8], at: usize) -> [u8; 16]
 }
 
 // The values of a part that was accepted.
-fn values(version: u8, udp: &[u8]) -> TpduNumbers
+fn values(version: IpVersion, udp: &[u8]) -> TpduNumbers
     requires { ⌜ HasProbe (now udp) ⌝ }
-    ensures { λ r. ⌜ ((v : IpVersion) (src dst : List ℕ) → version ≡ versionNumber v → r ≡ tpduNumbers (gives (tpduOf v src dst (now (udp .entry))))) ⌝ }
+    ensures { λ r. ⌜ ((src dst : List ℕ) → r ≡ tpduNumbers (gives (tpduOf version src dst (now (udp .entry))))) ⌝ }
 {
     let end = field::word(udp[4], udp[5]) as usize;
     let payload = &udp[8..end];
@@ -271,7 +271,7 @@ fn no_values(number: u8) -> TpduNumbers
         number: number,
         src_port: 0,
         send_timestamp_ns: 0,
-        version: 4,
+        version: IpVersion::V4,
         dst_port: 0,
     }
 }
@@ -291,12 +291,12 @@ pub fn decode_into(tpdu: &[u8], src: &mut [u8; 16], dst: &mut [u8; 16]) -> TpduN
         *dst = ipv4_address(&tpdu[..], 16);
         let start = low_half(tpdu[0]) * 4;
         let end = field::word(tpdu[2], tpdu[3]) as usize;
-        return values(4, &tpdu[start..end]);
+        return values(IpVersion::V4, &tpdu[start..end]);
     }
     *src = ipv6_address(&tpdu[..], 8);
     *dst = ipv6_address(&tpdu[..], 24);
     let end = (field::word(tpdu[4], tpdu[5]) as usize) + 40;
-    values(6, &tpdu[40..end])
+    values(IpVersion::V6, &tpdu[40..end])
 }
 
 // Whether a T-PDU was read, from the number that reading came to.
@@ -316,11 +316,12 @@ pub fn decode_measurement_tpdu(tpdu: &[u8]) -> DecodeResult
     let mut src = [0; 16];
     let mut dst = [0; 16];
     let read = decode_into(tpdu, &mut src, &mut dst);
+    let version = read.version;
     DecodeResult {
         decoding: decoding_of(read.number),
         tpdu: DecodedTpdu {
             flow: InnerIpFlow {
-                version: measurement::version_of(read.version),
+                version: version,
                 src: src,
                 dst: dst,
                 src_port: read.src_port,

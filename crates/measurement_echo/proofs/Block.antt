@@ -9,7 +9,7 @@ use lib.Seq.{take-at, take-all}
 use borrow.Author.Tests.{lt-ltb}
 use Rattle.error.specs.Outcome.{Outcome, refused, gives}
 use Rattle.error.proofs.Causes.{refused-gives}
-use Rattle.measurement.specs.Packet.{versionNumbered, ipHeaderLength, buildOf}
+use Rattle.measurement.specs.Packet.{ipHeaderLength, buildOf}
 use Rattle.measurement.specs.Read.{readOf}
 use Rattle.measurement.specs.Echo.{echoOf}
 use Rattle.measurement.specs.Answer.{Writing, wrote, writing, writingOf}
@@ -22,7 +22,6 @@ use Rattle.measurement.specs.declared.Written.the-variants as written
 use Rattle.measurement_build.proofs.Whole.{build-length, writing-fits}
 use Rattle.measurement_decode.specs.Numbers.{tpduNumbers, sourceLeft, destinationLeft}
 use Rattle.measurement_decode.specs.declared.TpduNumbers.{TpduNumbers}
-use Rattle.measurement_decode.proofs.Laws.{version-again}
 
 module _ (f : InnerIpFlow) (s t : ℕ) where
   pub built-fits : length (buildOf f s t) ≤ 72
@@ -70,13 +69,13 @@ module _ (tpdu out : List ℕ) where
   echo-refused e = rw (e, echoOf)
 
   module _ {t : DecodedTpdu} (e : readOf tpdu ≡ gives t) {x : TpduNumbers} (ex : x ≡ tpduNumbers (gives t)) where
-    pub echo-given : {v : IpVersion} {src dst : List ℕ} → v ≡ versionNumbered (x .version) → src ≡ sourceLeft (readOf tpdu) (replicate 16 0)
+    pub echo-given : {v : IpVersion} {src dst : List ℕ} → x .version ≡ v → src ≡ sourceLeft (readOf tpdu) (replicate 16 0)
         → dst ≡ destinationLeft (readOf tpdu) (replicate 16 0)
         → writing (buildOf (record { version = v; src = dst; dst = src; «src_port» = x .«dst_port»; «dst_port» = x .«src_port» }) (x .sequence) (x .«send_timestamp_ns»)) out
         ≡ writingOf (echoOf tpdu) out
     unfolding echoOf writingOf tpduNumbers sourceLeft destinationLeft
     echo-given {v} {src} {dst} ev es ed =
-        ap (λ (v : IpVersion). built x v src dst) (ev ∙ ap (λ (x : TpduNumbers). versionNumbered (x .version)) ex ∙ version-again (t .flow .version))
+        ap (λ (v : IpVersion). built x v src dst) (sym ev ∙ ap (λ (x : TpduNumbers). x .version) ex)
         ∙ ap (λ (x : TpduNumbers). built x (t .flow .version) src dst) ex
         ∙ ap₂ (λ (src dst : List ℕ). built (tpduNumbers (gives t)) (t .flow .version) src dst) (es ∙ left sourceLeft) (ed ∙ left destinationLeft)
         ∙ rw (e, echoOf)

@@ -1,5 +1,6 @@
 // The echo of a measurement T-PDU (leaf 4; `echo_tpdu` of the Rust's measurement.rs).
 use measurement::InnerIpFlow;
+use measurement::IpVersion;
 use measurement::Written;
 ghost use mathlib.Core.Path.{_≡_};
 ghost use Prim.Native.Nat.{ℕ};
@@ -83,8 +84,9 @@ pub fn echo_tpdu(tpdu: &[u8], out: &mut [u8]) -> Written
     if read.number != 0 {
         return Written::Refused(read.number);
     }
-    if read.version == 4 {
-        return write_ipv4_from_block(
+    let version = read.version;
+    match version {
+        IpVersion::V4 => write_ipv4_from_block(
             dst,
             src,
             read.dst_port,
@@ -92,14 +94,16 @@ pub fn echo_tpdu(tpdu: &[u8], out: &mut [u8]) -> Written
             read.sequence,
             read.send_timestamp_ns,
             out,
-        );
+        ),
+        IpVersion::V6 => {
+            let reversed = InnerIpFlow {
+                version: version,
+                src: dst,
+                dst: src,
+                src_port: read.dst_port,
+                dst_port: read.src_port,
+            };
+            write_from_block(reversed, read.sequence, read.send_timestamp_ns, out)
+        }
     }
-    let reversed = InnerIpFlow {
-        version: measurement::version_of(read.version),
-        src: dst,
-        dst: src,
-        src_port: read.dst_port,
-        dst_port: read.src_port,
-    };
-    write_from_block(reversed, read.sequence, read.send_timestamp_ns, out)
 }

@@ -150,7 +150,7 @@ returns-2 c =
     let second = l .before .before in
     let en : w .word .result ≡ field 2 2 p = omega arith in
     let e = sym (r .is) in (
-      c .values .ensures V4 (bytesAt 4 12 p) (bytesAt 4 16 p) refl
+      c .values .ensures (bytesAt 4 12 p) (bytesAt 4 16 p)
           ∙ ap (λ (u : List ℕ). tpduNumbers (gives (tpduOf V4 (bytesAt 4 12 p) (bytesAt 4 16 p) u))) (ipv4-part p en (l .low-half .ensures .0)) ∙ ap tpduNumbers e,
       (
         second .before .ipv4-address .ensures ∙ ap (λ (o : Outcome DecodedTpdu). sourceLeft o (a .src .now)) e,
@@ -241,7 +241,7 @@ returns-3 c =
     let second = w .before .before .before in
     let en : w .word2 .result ≡ field 2 4 p = omega arith in
     let e = sym (r .is) in (
-      c .values2 .ensures V6 (bytesAt 16 8 p) (bytesAt 16 24 p) refl
+      c .values2 .ensures (bytesAt 16 8 p) (bytesAt 16 24 p)
           ∙ ap (λ (u : List ℕ). tpduNumbers (gives (tpduOf V6 (bytesAt 16 8 p) (bytesAt 16 24 p) u))) (ipv6-part p en) ∙ ap tpduNumbers e,
       (
         second .before .ipv6-address .ensures ∙ padded-whole p 8 ∙ ap (λ (o : Outcome DecodedTpdu). sourceLeft o (a .src .now)) e,

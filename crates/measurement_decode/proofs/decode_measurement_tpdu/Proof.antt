@@ -13,16 +13,12 @@ decode-into-requires c κs = search needs
 decoding-of-requires : tie.Need-decoding-of-requires
 decoding-of-requires c κs = search needs
 
-version-of-requires : tie.Need-version-of-requires
-version-of-requires c κs = search needs
-
 returns : tie.Need-returns
 returns c =
-    let d = c .before in
-    let r = d .before in
+    let r = c .before in
     let p = r .before .before .before .before .args .tpdu .now in
-    answered (readOf p) (read-by-zero p) (r .decode-into .ensures .0) (d .decoding-of .ensures) (c .version-of .ensures) (r .decode-into .ensures .1 .0) (r .decode-into .ensures .1 .1)
+    answered (readOf p) (read-by-zero p) (r .decode-into .ensures .0) (c .decoding-of .ensures) (r .decode-into .ensures .1 .0) (r .decode-into .ensures .1 .1)
 
 pub decode-measurement-tpdu-spec : {M : Type 1} → statement M
 decode-measurement-tpdu-spec =
-    tie.close (tie.spec decode-into-requires decoding-of-requires version-of-requires returns)
+    tie.close (tie.spec decode-into-requires decoding-of-requires returns)

@@ -73,7 +73,7 @@ returns c =
     let en : w .word .result ≡ field 2 4 u = omega arith in
     let ea : source .word2 .result ≡ field 2 0 u = omega arith in
     let eb : c .word3 .result ≡ field 2 2 u = omega arith in
-    λ v src dst ew. values-are v src dst u en ea eb (sequence .read-u64 .ensures) (time .read-u642 .ensures) ew
+    λ src dst. values-are (w .before .before .before .before .args .version) src dst u en ea eb (sequence .read-u64 .ensures) (time .read-u642 .ensures)
 
 pub values-spec : {M : Type 1} → statement M
 values-spec =

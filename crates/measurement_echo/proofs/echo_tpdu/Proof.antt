@@ -1,8 +1,6 @@
 -- `measurement_echo::echo_tpdu` meets its contract.
--- Assumes nothing.
-use mathlib.Core.Path.{sym, ap, _∙_}
+use mathlib.Core.Path.{refl, _∙_}
 use borrow.Author.Needs.{needs}
-use Rattle.measurement.specs.Packet.{versionNumbered}
 use Rattle.measurement_decode.proofs.Callers.{read-refused, read-given, numbers-given}
 use Rattle.measurement_echo.proofs.Block.{echo-refused, echo-given}
 use Rattle.measurement_echo.proofs.echo_tpdu.Statement.{statement}
@@ -17,31 +15,33 @@ returns c =
     let a = read .before .before .before .before .before .args in
     echo-refused (a .tpdu .now) (a .out .now) (read-refused (a .tpdu .now) (read .decode-into .ensures .0) (c .if1 .taken))
 
+enum-told : tie.Need-enum-told
+enum-told c = search needs
+
 write-ipv4-from-block-requires : tie.Need-write-ipv4-from-block-requires
 write-ipv4-from-block-requires c κs = search needs
+
+enum-told-2 : tie.Need-enum-told-2
+enum-told-2 c = search needs
+
+write-from-block-requires : tie.Need-write-from-block-requires
+write-from-block-requires c κs = search needs
 
 same-length : tie.Need-same-length
 same-length c = search needs
 
 returns-2 : tie.Need-returns-2
-unfolding versionNumbered
 returns-2 c =
     let at-write = c .before .before in
-    let four = at-write .before .before in
-    let otherwise = four .before .before in
+    let told = at-write .before .before in
+    let otherwise = told .before .before in
     let read = otherwise .before .before in
     let a = read .before .before .before .before .before .args in
     let p = a .tpdu .now in
     let e = read .decode-into .ensures .0 in
     let z = otherwise .if1 .left in
     at-write .write-ipv4-from-block .ensures
-    ∙ echo-given p (a .out .now) (read-given p e z .is) (numbers-given p e z) (ap versionNumbered (sym (four .if2 .taken))) (read .decode-into .ensures .1 .0) (read .decode-into .ensures .1 .1)
-
-version-of-requires : tie.Need-version-of-requires
-version-of-requires c κs = search needs
-
-write-from-block-requires : tie.Need-write-from-block-requires
-write-from-block-requires c κs = search needs
+    ∙ echo-given p (a .out .now) (read-given p e z .is) (numbers-given p e z) (told .enum-told .given .1) (read .decode-into .ensures .1 .0) (read .decode-into .ensures .1 .1)
 
 same-length-2 : tie.Need-same-length-2
 same-length-2 c = search needs
@@ -49,15 +49,15 @@ same-length-2 c = search needs
 returns-3 : tie.Need-returns-3
 returns-3 c =
     let at-write = c .before .before in
-    let version = at-write .before .before in
-    let otherwise = version .before .before .before in
+    let told = at-write .before .before in
+    let otherwise = told .before .before in
     let read = otherwise .before .before in
     let a = read .before .before .before .before .before .args in
     let p = a .tpdu .now in
     let e = read .decode-into .ensures .0 in
     let z = otherwise .if1 .left in
     at-write .write-from-block .ensures
-    ∙ echo-given p (a .out .now) (read-given p e z .is) (numbers-given p e z) (version .version-of .ensures) (read .decode-into .ensures .1 .0) (read .decode-into .ensures .1 .1)
+    ∙ echo-given p (a .out .now) (read-given p e z .is) (numbers-given p e z) refl (read .decode-into .ensures .1 .0) (read .decode-into .ensures .1 .1)
 
 pub echo-tpdu-spec : {M : Type 1} → statement M
 echo-tpdu-spec =
@@ -65,10 +65,11 @@ echo-tpdu-spec =
     (tie.spec
     decode-into-requires
     returns
+    enum-told
     write-ipv4-from-block-requires
+    enum-told-2
+    write-from-block-requires
     same-length
     returns-2
-    version-of-requires
-    write-from-block-requires
     same-length-2
     returns-3)
