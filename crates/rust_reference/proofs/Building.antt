@@ -18,7 +18,7 @@ use Rattle.measurement.specs.declared.IpVersion.{IpVersion}
 use Rattle.measurement.specs.declared.IpVersion.the-variants.{V4, V6}
 use Rattle.rust_reference.specs.Error.{Result, Ok}
 use Rattle.rust_reference.specs.Answers.{rustFlowOf, rustFlow, inBuffer}
-use Rattle.rust_reference.specs.Claims.{NoneAdded, BuildMeasurementTpdu}
+use Rattle.rust_reference.specs.Claims.{NoneAdded, Encode, BuildMeasurementTpdu}
 use Rattle.rust_reference.specs.Measurement as rust
 use Rattle.rust_reference.proofs.Checksums.{of-one, nonzero-of-two}
 
@@ -98,6 +98,11 @@ module _ (S D : List ℕ) (sport dport s t : ℕ) where
         ≡ Ok (ipHeader V6 src6 dst6 ++ udp pseudo6 sport dport s t)
     unfolding ipHeader udp
     built6 = ipv6-shape ∙ ap (λ (d : ℕ). Ok (ipv6 src6 dst6 ++ udpSegment d sport dport s t)) udp6-checksum
+
+-- the probe
+pub encoded : Encode
+unfolding rust.encode probe measurementMagic
+encoded header = refl
 
 -- what the Rust builds
 pub vec-is : (flow : InnerIpFlow) (sequence time : ℕ) → Bytes (flow .src) → Bytes (flow .dst)

@@ -2,15 +2,17 @@
 -- Assumes nothing.
 use mathlib.Core.Path.{refl}
 use Rattle.rust_reference.specs.Claims.{EqualsTheRust}
-use Rattle.rust_reference.proofs.Building.{build}
+use Rattle.rust_reference.proofs.Building.{encoded, build}
+use Rattle.rust_reference.proofs.Capacity.{new-multi}
+use Rattle.rust_reference.proofs.Checksums.{of-parts}
 use Rattle.rust_reference.proofs.Decoding.{decoded}
-use Rattle.rust_reference.proofs.Echoing.{echoed}
+use Rattle.rust_reference.proofs.Echoing.{turned-round, echoed}
 use Rattle.rust_reference.proofs.Elements.{validate}
 use Rattle.rust_reference.proofs.Generating.{interval-ns, generated}
 use Rattle.rust_reference.proofs.Handling.{handled}
 use Rattle.rust_reference.proofs.Observing.{new-same, every-same, sending-same, received-same, message-same}
 use Rattle.rust_reference.proofs.Reflecting.{reflector-runs-same, reflector-runs-in-room}
-use Rattle.rust_reference.proofs.Registering.{new-multi, registered}
+use Rattle.rust_reference.proofs.Registering.{registered}
 use Rattle.rust_reference.proofs.Removing.{removed}
 use Rattle.rust_reference.proofs.Reporting.{report-same}
 use Rattle.rust_reference.proofs.Running.{runs-same, runs-of-2048}
@@ -18,6 +20,9 @@ use Rattle.rust_reference.proofs.Running.{runs-same, runs-of-2048}
 pub equals-the-rust : EqualsTheRust
 equals-the-rust = record {
   «zero_loss» = refl;
+  reversed = turned-round;
+  encode = encoded;
+  checksum = of-parts;
   «build_measurement_tpdu» = build;
   «decode_measurement_tpdu» = decoded;
   «echo_tpdu» = echoed;

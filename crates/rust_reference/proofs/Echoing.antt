@@ -9,24 +9,36 @@ use lib.Dec.{eqb, ltb}
 use lib.ListN.{length, take, drop, length-take, length-drop}
 use borrow.Author.Tests.{ltb-false}
 use Rattle.error.specs.Outcome.{Outcome, refused, gives}
+use Rattle.error.proofs.Causes.{refused-gives}
 use Rattle.field.specs.Field.{Bytes, bytesAt}
 use Rattle.field.proofs.Fields.{bytes-take, bytes-drop, bytes-at, whole-bytes}
 use Rattle.measurement.specs.Answer.{writingOf}
 use Rattle.measurement.specs.Echo.{reversedOf, echoOfTpdu, echoOf}
-use Rattle.measurement.specs.Packet.{addressLength, address, padded, pseudoHeader, ipHeader, udp, buildOf}
+use Rattle.measurement.specs.Packet.{addressLength, address, padded, pseudoHeader, ipv4Header, ipv4, ipv6, ipHeader, measurementMagic, probe, udpSegment, udp, buildOf}
 use Rattle.measurement.specs.Read.{readOf}
 use Rattle.measurement.specs.declared.DecodedTpdu.{DecodedTpdu}
 use Rattle.measurement.specs.declared.MeasurementHeader.{MeasurementHeader}
+use Rattle.measurement.specs.declared.InnerIpFlow.{InnerIpFlow}
+use Rattle.measurement.specs.declared.IpVersion.{IpVersion}
 use Rattle.measurement.specs.declared.IpVersion.the-variants.{V4, V6}
-use Rattle.rust_reference.specs.Claims.{NoneAdded, EchoTpdu}
+use Rattle.rust_reference.specs.Claims.{NoneAdded, Reversed, EchoTpdu}
 use Rattle.rust_reference.specs.Error.{DataplaneTestkitError, Result, Ok, Err, UnsupportedIpVersion, returnIf, _>>=_, _>>_}
 use Rattle.rust_reference.specs.Number.{outcomeBy, outcomeOf}
 use Rattle.rust_reference.specs.Values.{index, range, «u16_at»}
-use Rattle.rust_reference.specs.Answers.{flowOf, tpduOf, inBuffer}
+use Rattle.rust_reference.specs.Answers.{rustFlowOf, flowOf, tpduOf, inBuffer}
 use Rattle.rust_reference.specs.Measurement as rust
 use Rattle.rust_reference.proofs.Branches.{AllOk, all, none}
 use Rattle.rust_reference.proofs.Building.{built4, built6, laid}
 use Rattle.rust_reference.proofs.Decoding.{decoded}
+
+pub turned-round : Reversed
+turned-round flow = of (flow .version)
+  where
+    of : (v : IpVersion)
+        → rust.reversed (rustFlowOf v (flow .src) (flow .dst) (flow .«src_port») (flow .«dst_port»))
+        ≡ rustFlowOf v (flow .dst) (flow .src) (flow .«dst_port») (flow .«src_port»)
+    of V4 = refl
+    of V6 = refl
 
 -- what holds of a value behind a test, and behind another result
 after-test : {A : Type 0} (P : A → Type 0) (test : Bool) (error : DataplaneTestkitError) (rest : Result A) → (test ≡ false → AllOk P rest)
@@ -147,6 +159,28 @@ echo-outcome p b = of (rust.«decode_measurement_tpdu» p) (whole p b) (readOf p
         ≡ elim o [ refused n ↦ refused n | gives t ↦ gives (echoOfTpdu t) ]
     of (Ok d) (all w) o e = rw (← e) (ap outcomeOf (built d w))
     of (Err x) none o e = rw (← e)
+
+-- an echo has 52 or 72 bytes
+built-short : (flow : InnerIpFlow) (s t : ℕ) → length (buildOf flow s t) ≤ 65535
+unfolding buildOf ipHeader ipv4 ipv4Header ipv6 udp udpSegment probe measurementMagic address addressLength
+built-short flow s t = of (flow .version)
+  where
+    of : (v : IpVersion)
+        → length (ipHeader v (address v (flow .src)) (address v (flow .dst))
+        ++ udp (pseudoHeader v (address v (flow .src)) (address v (flow .dst)) 32) (flow .«src_port») (flow .«dst_port») s t)
+        ≤ 65535
+    of V4 = omega arith
+    of V6 = omega arith
+
+pub echo-short : (p bytes : List ℕ) → echoOf p ≡ gives bytes → length bytes ≤ 65535
+unfolding echoOf
+echo-short p bytes e = of (readOf p) e
+  where
+    of : (o : Outcome DecodedTpdu) → _≡_ {A = Outcome (List ℕ)} (elim o [ refused n ↦ refused n | gives t ↦ gives (echoOfTpdu t) ]) (gives bytes) → length bytes ≤ 65535
+    of (refused n) e = absurd (refused-gives e)
+    of (gives t) e =
+        let same : echoOfTpdu t ≡ bytes = cc in
+        omega (arith, ap length same, built-short (reversedOf (t .flow)) (t .measurement .sequence) (t .measurement .«send_timestamp_ns»))
 
 pub echoed : EchoTpdu
 unfolding writingOf

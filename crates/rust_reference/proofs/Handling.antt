@@ -9,10 +9,9 @@ use mathlib.Core.Bool.{Bool, true, false, not}
 use mathlib.Core.Option.{Option, some, none}
 use lib.Dec.{eqb, ltb}
 use lib.ListN.{length}
-use borrow.Author.Tests.{eqb-true, eqb-false, ltb-true, ltb-false}
+use borrow.Author.Tests.{eqb-true, eqb-false, ltb-true, ltb-false, le-ltb}
 use Rattle.counter.specs.Counter.{oneMore}
 use Rattle.error.specs.Outcome.{Outcome, refused, gives, _⇒_, firstCause}
-use Rattle.field.specs.Field.{Bytes}
 use Rattle.measurement.specs.Echo.{echoOf}
 use Rattle.measurement.specs.Packet.{address, addressLength}
 use Rattle.measurement.specs.declared.IpVersion.{IpVersion}
@@ -46,10 +45,11 @@ use Rattle.rust_reference.specs.Map as map
 use Rattle.rust_reference.specs.Measurement.{«echo_tpdu»}
 use Rattle.rust_reference.specs.Number.{outcomeOf}
 use Rattle.rust_reference.specs.Reflector as rust
-use Rattle.rust_reference.specs.Sessions.{Reflector, tableIn, withState, handling, rustIp, rustAddress, rustSession, rustPolicy, rustReflector, rustSequence, rustMessage, rustRemoved, rustAction, outcomeTo, inOutput, MaximumFits, SequenceFits}
+use Rattle.rust_reference.specs.Sessions.{Reflector, tableIn, withState, handling, rustIp, rustAddress, rustSession, rustPolicy, rustReflector, rustSequence, rustMessage, rustRemoved, rustAction, outcomeTo, inOutput, MaximumFits, PayloadFits, SequenceFits}
 use Rattle.rust_reference.specs.Values.{«saturating_add»}
-use Rattle.rust_reference.proofs.Echoing.{echo-outcome}
-use Rattle.rust_reference.proofs.Registering.{SoundIn, sound-table, find-same}
+use Rattle.rust_reference.proofs.Capacity.{sound-table}
+use Rattle.rust_reference.proofs.Echoing.{echo-outcome, echo-short}
+use Rattle.rust_reference.proofs.Registering.{SoundIn, find-same}
 
 -- ---- counts, the error sequence and the payload of an Error Indication
 
@@ -98,6 +98,14 @@ payload-is teid source = by (source .version)
     by V4 = refl
     by V6 = refl
 
+indication-short : (teid : ℕ) (source : SocketAddr) → length (errorIndicationTo teid source) ≤ 65535
+unfolding address addressLength
+indication-short teid source = by (source .version)
+  where
+    by : (v : IpVersion) → length (errorIndicationTo teid (record { version = v; address = source .address; port = source .port })) ≤ 65535
+    by V4 = omega arith
+    by V6 = omega arith
+
 -- ---- a message
 
 module _ (r : Reflector) (source : SocketAddr) (payload buffer : List ℕ) where
@@ -112,7 +120,7 @@ module _ (r : Reflector) (source : SocketAddr) (payload buffer : List ℕ) where
   received = rust.count counter.GpduReceived (rustReflector r)
 
   -- a G-PDU of a known session, by policy
-  module _ (session : ReflectorSession) (b : Bytes payload) where
+  module _ (session : ReflectorSession) (b : PayloadFits payload) where
     abbrev forwarding : rust.ReflectorPolicy → rust.Called (Result rust.ReflectorAction)
     forwarding policy = elim policy [
       | rust.Echo ↦
@@ -135,19 +143,18 @@ module _ (r : Reflector) (source : SocketAddr) (payload buffer : List ℕ) where
     abbrev after : Outcome Action → Answer
     after o = record { outcome = o; state = gpduCounted o (stateCounted counter.GpduReceived (r .state)) }
 
-    echoing : (x : Result (List ℕ)) (o : Outcome (List ℕ)) → outcomeOf x ≡ o
+    echoing : (x : Result (List ℕ)) (o : Outcome (List ℕ)) → outcomeOf x ≡ o → ((bytes : List ℕ) → o ≡ gives bytes → length bytes ≤ 65535)
         → Comes (rust.attempted x received λ echoed.
-        record {
-          result = Ok (rust.Send (rustSession session .«peer_addr») (record { «message_type» = 255; teid = session .«peer_teid»; «sequence_number» = map.None; payload = echoed }) ReflectedGpdu);
-          reflector = rust.count counter.GpduForwarded received;
-        }) (after (reflected session o))
-    echoing (Ok bytes) o e = rw (← e) (refl, refl, count-twice counter.GpduReceived counter.GpduForwarded r)
-    echoing (Err x) o e = rw (← e) (refl, refl, count-is counter.GpduReceived r)
+        rust.attempted (gtpu.«encode_gpdu» (session .«peer_teid») echoed) received λ packet.
+        record { result = Ok (rust.Send (rustSession session .«peer_addr») packet ReflectedGpdu); reflector = rust.count counter.GpduForwarded received })
+        (after (reflected session o))
+    echoing (Ok bytes) o e short = rw (← e) (rw (le-ltb 65535 (length bytes) (short bytes (sym e))) (refl, refl, count-twice counter.GpduReceived counter.GpduForwarded r))
+    echoing (Err x) o e short = rw (← e) (refl, refl, count-is counter.GpduReceived r)
 
     by-policy : (policy : ReflectorPolicy) → Comes (forwarding (rustPolicy policy (r .config .target))) (after (policyOutcome policy))
-    by-policy Echo = echoing («echo_tpdu» payload) (echoOf payload) (echo-outcome payload b)
+    by-policy Echo = echoing («echo_tpdu» payload) (echoOf payload) (echo-outcome payload (b .0)) (echo-short payload)
     by-policy SinkAndCount = (refl, refl, count-twice counter.GpduReceived counter.GpduSunk r)
-    by-policy Route = (refl, refl, count-twice counter.GpduReceived counter.GpduForwarded r)
+    by-policy Route = rw (le-ltb 65535 (length payload) (b .1)) (refl, refl, count-twice counter.GpduReceived counter.GpduForwarded r)
 
     known : Comes (rust.«handle_gpdu» received (rustSession session) payload) (gpduKnown (r .config) (r .state) session payload)
     unfolding rust.«handle_gpdu» gpduKnown gpduOutcome
@@ -156,7 +163,8 @@ module _ (r : Reflector) (source : SocketAddr) (payload buffer : List ℕ) where
   -- a G-PDU of an unknown TEID
   unknown : (message : GtpuMessage) → SequenceFits r → Comes (rust.«unknown_teid» (rustReflector r) (rustAddress source) (rustMessage message payload)) (gpduUnknown (r .state) source (message .teid))
   unfolding rust.«unknown_teid» rust.«take_error_sequence» gpduUnknown
-  unknown message fits = rw (payload-is (message .teid) source) (refl, refl, taken-is r fits)
+  unknown message fits =
+      rw (payload-is (message .teid) source) (rw (le-ltb 65535 (length (errorIndicationTo (message .teid) source)) (indication-short (message .teid) source)) (refl, refl, taken-is r fits))
 
   -- an Echo Request
   request : (message : GtpuMessage) → Comes (rust.«echo_request» (rustReflector r) (rustAddress source) (rustMessage message payload)) (echoRequest (r .config) (r .state) source message)
@@ -206,7 +214,7 @@ module _ (r : Reflector) (source : SocketAddr) (payload buffer : List ℕ) where
       (either (eqb messageType 31) _ _ _ _ (refl, refl, refl) (refl, refl, count-is counter.MalformedRejected r))))
 
   -- a message, by its type
-  module _ (message : GtpuMessage) (fits : SequenceFits r) (b : Bytes payload) where
+  module _ (message : GtpuMessage) (fits : SequenceFits r) (b : PayloadFits payload) where
     abbrev pub called : rust.Called (Result rust.ReflectorAction)
     called = rust.«handle_datagram» (rustReflector r) (rustAddress source) (rustMessage message payload)
 
@@ -252,7 +260,7 @@ module _ (r : Reflector) (source : SocketAddr) (message : GtpuMessage) (payload 
           absurd (added 15 (inl refl) (ap (λ (a : Answer). a .outcome) (sym (handling-short rows (r .used) (r .config) (r .state) session source message payload buffer (table-sound rows (r .used) (r .config .«max_sessions») sound) (ltb-true (length buffer) 72 e)))))
       long false e = ltb-false (length buffer) 72 e
 
-  pub handled-in : SoundIn r → 72 ≤ length buffer → (fits : SequenceFits r) (b : Bytes payload)
+  pub handled-in : SoundIn r → 72 ≤ length buffer → (fits : SequenceFits r) (b : PayloadFits payload)
       → Comes r source payload buffer (called r source payload buffer message fits b) (handling r source message payload buffer)
   handled-in s long fits b =
       subst (Comes r source payload buffer (called r source payload buffer message fits b)) (by-type s long)

@@ -10,6 +10,7 @@ pub mod Maps
 pub mod Observing
 pub mod Reporting
 pub mod Running
+pub mod Capacity
 pub mod Registering
 pub mod Removing
 pub mod Handling

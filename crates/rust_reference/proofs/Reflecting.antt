@@ -20,8 +20,9 @@ use Rattle.rust_reference.specs.Number.{outcomeOf}
 use Rattle.rust_reference.specs.Reflecting.{Call, register, remove, handle, Typed, OutputFits, Given, registered, removed, acted, Answer, answerTo, afterCall, answersTo, after, rustAnswerTo, rustAfterCall, rustAnswersTo, rustAfter}
 use Rattle.rust_reference.specs.Reflector as rust
 use Rattle.rust_reference.specs.Sessions.{Reflector, tableIn, handling, freshReflector, rustConfig, rustReflector, rustRemoved, rustAction, outcomeTo, MaximumFits, SequenceFits}
+use Rattle.rust_reference.proofs.Capacity.{made-is}
 use Rattle.rust_reference.proofs.Handling.{handle-ready, handled-in, handled-fits}
-use Rattle.rust_reference.proofs.Registering.{new-multi, SoundIn, register-sound, registered-in}
+use Rattle.rust_reference.proofs.Registering.{SoundIn, register-sound, registered-in}
 use Rattle.rust_reference.proofs.Removing.{remove-sound, removed-in}
 
 -- a refusal is one in any terms
@@ -103,32 +104,22 @@ module _ (sessions : List ReflectorSession) (config : MultiSessionReflectorConfi
   abbrev fresh-one : Reflector
   fresh-one = freshReflector sessions config
 
-  made-is : MaximumFits fresh-one × (made ≡ rustReflector fresh-one)
-  unfolding firstCause
-  made-is = by (eqb (config .«max_sessions») 0 || ltb 4096 (config .«max_sessions»)) refl (ap outcomeOf (sym e) ∙ new-multi sessions config)
-    where
-      by : (t : Bool) → eqb (config .«max_sessions») 0 || ltb 4096 (config .«max_sessions») ≡ t → gives made ≡ firstCause ((t ⇒ 30) ∷ []) (gives (rustReflector fresh-one))
-          → MaximumFits fresh-one × (made ≡ rustReflector fresh-one)
-      by true f g = absurd (refused-gives (sym g))
-      by false f g =
-          let n = or-neither (eqb (config .«max_sessions») 0) (ltb 4096 (config .«max_sessions»)) f in (
-            (omega (arith, eqb-false (config .«max_sessions») 0 (n .0)), ltb-false 4096 (config .«max_sessions») (n .1)),
-            cc,
-          )
+  fresh-is : MaximumFits fresh-one × (made ≡ rustReflector fresh-one)
+  fresh-is = made-is sessions config made e
 
   -- what holds of the fresh one holds of what was made
   made-alike : (calls : List Call) → RunsAlike fresh-one calls → (rustAnswersTo made calls ≡ answersTo fresh-one calls) × (rustAfter made calls ≡ rustReflector (after fresh-one calls))
-  made-alike calls c = (ap (λ (g : rust.GtpuReflector). rustAnswersTo g calls) (made-is .1) ∙ c .0, ap (λ (g : rust.GtpuReflector). rustAfter g calls) (made-is .1) ∙ c .1)
+  made-alike calls c = (ap (λ (g : rust.GtpuReflector). rustAnswersTo g calls) (fresh-is .1) ∙ c .0, ap (λ (g : rust.GtpuReflector). rustAfter g calls) (fresh-is .1) ∙ c .1)
 
   first-fits : SequenceFits fresh-one
   first-fits = omega arith
 
 pub reflector-runs-same : ReflectorRuns
 reflector-runs-same sessions config made e calls typed added =
-    made-alike sessions config made e calls (related (freshReflector sessions config) (made-is sessions config made e .0) (first-fits sessions config made e) calls typed added)
+    made-alike sessions config made e calls (related (freshReflector sessions config) (fresh-is sessions config made e .0) (first-fits sessions config made e) calls typed added)
 
 pub reflector-runs-in-room : ReflectorRunsWithRoom
 reflector-runs-in-room sessions config made e room calls typed long =
-    let fits = made-is sessions config made e .0 in
+    let fits = fresh-is sessions config made e .0 in
     let s : SoundIn (freshReflector sessions config) = record { above = fits .0; most = fits .1; enough = omega arith; room = room } in
     made-alike sessions config made e calls (related-in-room (freshReflector sessions config) s (first-fits sessions config made e) calls typed long)

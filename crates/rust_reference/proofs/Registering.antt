@@ -1,63 +1,36 @@
 -- The reflector's sessions: a search of the `Vec` and one of the used rows find the same, and registering answers alike and leaves the same.
 -- Assumes nothing.
-use Prim.Native.Nat.{ℕ, suc, _+_, _<_, _≤_}
+use Prim.Native.Nat.{ℕ, suc, _+_, _<_}
 use native.Mathlib.Omega.{arith}
 use mathlib.Core.Path.{_≡_, refl, sym, ap, _∙_, subst}
-use mathlib.Core.Logic.{inl, inr}
+use mathlib.Core.Logic.{inr}
 use mathlib.Core.List.{List, [], _∷_, _++_, map}
 use mathlib.Core.Bool.{Bool, true, false, not, _||_, _&&_}
 use mathlib.Core.Option.{Option, some, none}
-use lib.Dec.{eqb, leb, ltb}
+use lib.Dec.{eqb, leb}
 use lib.ListN.{length, take, set, length-map, length-set}
 use lib.Seq.{length-take-le, take-suc-set}
-use borrow.Author.Tests.{eqb-true, eqb-false, ltb-true, ltb-false, le-leb, lt-leb}
+use borrow.Author.Tests.{eqb-true, eqb-false, le-leb, lt-leb}
 use Rattle.error.specs.Number.{invalidReflectorSession, reflectorSessionConflict, reflectorSessionCapacityExceeded}
-use Rattle.error.specs.Outcome.{Outcome, refused, gives, _⇒_, firstCause}
-use Rattle.error.proofs.Causes.{refuses, passes}
+use Rattle.error.specs.Outcome.{Outcome, gives, _⇒_, firstCause}
+use Rattle.error.proofs.Causes.{passes}
 use Rattle.measurement.specs.Packet.{address}
 use Rattle.measurement.specs.declared.IpVersion.{IpVersion}
 use Rattle.measurement.specs.declared.IpVersion.the-variants.{V4, V6}
-use Rattle.reflector_sessions.specs.Judge.{tableCauses}
 use Rattle.reflector_sessions.specs.Register.{invalidSession, sessionOutcome, registerOutcome, registerSession, registeredTable}
 use Rattle.reflector_sessions.specs.Session.{valueOf, sameVersion, sameBytes, sameAddress, sameSession}
 use Rattle.reflector_sessions.specs.Table.{find, usedRows}
 use Rattle.reflector_sessions.specs.declared.ReflectorSession.{ReflectorSession}
-use Rattle.reflector_sessions.proofs.Judging.{Sound, is-31, is-sound}
+use Rattle.reflector_sessions.proofs.Judging.{Sound, is-sound}
 use Rattle.reflector_sessions.proofs.Search.{used-within}
-use Rattle.rust_reference.specs.Claims.{NoneAdded, NewMulti, RegisterSession}
-use Rattle.rust_reference.specs.Error.{Result, Ok, Err, InvalidReflectorCapacity, InvalidReflectorSession, ReflectorSessionConflict, ReflectorSessionCapacityExceeded, returnIf, _>>_}
+use Rattle.rust_reference.specs.Claims.{NoneAdded, RegisterSession}
+use Rattle.rust_reference.specs.Error.{Result, Ok, Err, InvalidReflectorSession, ReflectorSessionConflict, ReflectorSessionCapacityExceeded, returnIf, _>>_}
 use Rattle.rust_reference.specs.Map as map
 use Rattle.rust_reference.specs.Number.{outcomeOf}
 use Rattle.rust_reference.specs.Reflector as rust
-use Rattle.rust_reference.specs.Sessions.{Reflector, tableIn, withTable, freshReflector, rustIp, rustSession, rustReflector, rustRemoved, MaximumFits}
+use Rattle.rust_reference.specs.Sessions.{Reflector, tableIn, withTable, rustIp, rustSession, rustReflector, rustRemoved, MaximumFits}
 use Rattle.rust_reference.specs.Values.{same}
-
--- ---- a fresh reflector
-
-pub new-multi : NewMulti
-unfolding rust.«new_multi» firstCause
-new-multi sessions config = by (eqb (config .«max_sessions») 0 || ltb 4096 (config .«max_sessions»))
-  where
-    made : rust.GtpuReflector
-    made = rustReflector (freshReflector sessions config)
-
-    by : (t : Bool) → outcomeOf (_>>_ (returnIf t InvalidReflectorCapacity) (Ok made)) ≡ firstCause ((t ⇒ 30) ∷ []) (gives made)
-    by true = refl
-    by false = refl
-
--- ---- a table that 30 and 31 pass
-
-pub sound-table : {A : Type 0} (rows used maximum : ℕ) (onward : Outcome A) → 0 < maximum → maximum ≤ 4096
-    → (firstCause (tableCauses rows used maximum) onward ≡ refused 31 → ⊥) → Sound rows used maximum
-sound-table rows used maximum onward above most added = useds (ltb maximum used) refl
-  where
-    rooms : (t : Bool) → ltb rows maximum ≡ t → used ≤ maximum → Sound rows used maximum
-    rooms true e enough = absurd (added (sym (refuses onward (is-31 rows used maximum above most (inr (ltb-true rows maximum e))))))
-    rooms false e enough = record { above = above; most = most; enough = enough; room = ltb-false rows maximum e }
-
-    useds : (t : Bool) → ltb maximum used ≡ t → Sound rows used maximum
-    useds true e = absurd (added (sym (refuses onward (is-31 rows used maximum above most (inl (ltb-true maximum used e))))))
-    useds false e = rooms (ltb rows maximum) refl (ltb-false maximum used e)
+use Rattle.rust_reference.proofs.Capacity.{sound-table}
 
 abbrev pub SoundIn : Reflector → Type 0
 SoundIn r = Sound (length (r .sessions)) (r .used) (r .config .«max_sessions»)

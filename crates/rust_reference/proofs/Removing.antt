@@ -22,7 +22,8 @@ use Rattle.rust_reference.specs.Claims.{NoneAdded, RemoveSession}
 use Rattle.rust_reference.specs.Map as map
 use Rattle.rust_reference.specs.Reflector as rust
 use Rattle.rust_reference.specs.Sessions.{Reflector, tableIn, withTable, rustSession, rustReflector, rustRemoved, outcomeTo, MaximumFits}
-use Rattle.rust_reference.proofs.Registering.{SoundIn, sound-table, vec-length}
+use Rattle.rust_reference.proofs.Capacity.{sound-table}
+use Rattle.rust_reference.proofs.Registering.{SoundIn, vec-length}
 
 -- ---- lists
 

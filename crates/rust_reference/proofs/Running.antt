@@ -24,7 +24,7 @@ use Rattle.rust_reference.specs.Error.{Result, Ok, Err, InvalidPacket, T
 use Rattle.rust_reference.specs.Map.{Option, None, Some, Entry, get, «contains_key», insert}
 use Rattle.rust_reference.specs.Gtpu.{«validate_error_indication_ies»}
 use Rattle.rust_reference.specs.Measurement as measurement
-use Rattle.rust_reference.specs.Runs.{Call, sending, receiving, returning, reporting-on, Typed, Answer, done, message, reported, answering, answerTo, afterCall, answersTo, rustAnswerTo, rustAfterCall, rustAnswersTo, rustAfter}
+use Rattle.rust_reference.specs.Runs.{Call, sending, receiving, returning, reporting-on, Typed, Answer, done, message, reported, answering, answerTo, afterCall, answersTo, after, rustAnswerTo, rustAfterCall, rustAnswersTo, rustAfter}
 use Rattle.rust_reference.specs.Traffic.{ContinuityObserver, new, Recorded, tried, «ok_or», «checked_sub», «record_sent», duplicate, «first_return», «record_received_tpdu», «error_indication», «record_return_gtpu_datagram»}
 use Rattle.rust_reference.proofs.Observing.{new-same, sending-kept, sending-same, arriving, received-step, received-same, message-step, message-same}
 use Rattle.rust_reference.proofs.Maps.{Located, found, absent, locate, insert-absent}
@@ -40,13 +40,19 @@ call-same rust o same (returning t ty payload) typed added =
     let s = message-same rust o same t (typed .0) ty payload (typed .1) in (ap (answering message) (s .0), s .1)
 call-same rust o same (reporting-on start end budget) typed added = (ap (answering reported) (report-same rust o same start end budget), same)
 
-related : (rust : ContinuityObserver) (o : Observer) → Same rust o → (calls : List Call) → AllTyped calls → NoneAddedIn o calls
-    → rustAnswersTo rust calls ≡ answersTo o calls
-related rust o same [] typed added = refl
+abbrev RunsAlike : ContinuityObserver → Observer → List Call → Type 0
+RunsAlike rust o calls = (rustAnswersTo rust calls ≡ answersTo o calls) × Same (rustAfter rust calls) (after o calls)
+
+-- one call, then the rest
+one-more : (rust : ContinuityObserver) (o : Observer) (call : Call) (calls : List Call) → rustAnswerTo rust call ≡ answerTo o call
+    → RunsAlike (rustAfterCall rust call) (afterCall o call) calls → RunsAlike rust o (call ∷ calls)
+one-more rust o call calls answer rest = (ap₂ (λ (x : Outcome Answer) (l : List (Outcome Answer)). x ∷ l) answer (rest .0), rest .1)
+
+related : (rust : ContinuityObserver) (o : Observer) → Same rust o → (calls : List Call) → AllTyped calls → NoneAddedIn o calls → RunsAlike rust o calls
+related rust o same [] typed added = (refl, same)
 related rust o same (call ∷ calls) typed added =
     let s = call-same rust o same call (typed .0) (added .0) in
-    ap₂ (λ (x : Outcome Answer) (l : List (Outcome Answer)). x ∷ l) (s .0)
-    (related (rustAfterCall rust call) (afterCall o call) (s .1) calls (typed .1) (added .1))
+    one-more rust o call calls (s .0) (related (rustAfterCall rust call) (afterCall o call) (s .1) calls (typed .1) (added .1))
 
 pub runs-same : Runs
 runs-same qs ts ls ms calls typed added = related new (observerOf qs ts ls ms fresh) (new-same qs ts ls ms) calls typed added
@@ -182,12 +188,11 @@ call-free rust o same room (returning t ty payload) typed h =
 call-free rust o same room (reporting-on start end budget) typed h = (ap (answering reported) (report-same rust o same start end budget), same, refl)
 
 related-free : (rust : ContinuityObserver) (o : Observer) → Same rust o → capacity o ≡ 2048 → (calls : List Call) → AllTyped calls
-    → length (rustAfter rust calls .sent) ≤ 2048 → rustAnswersTo rust calls ≡ answersTo o calls
-related-free rust o same room [] typed h = refl
+    → length (rustAfter rust calls .sent) ≤ 2048 → RunsAlike rust o calls
+related-free rust o same room [] typed h = (refl, same)
 related-free rust o same room (call ∷ calls) typed h =
     let s = call-free rust o same room call (typed .0) (omega (arith, grows (rustAfterCall rust call) calls, h)) in
-    ap₂ (λ (x : Outcome Answer) (l : List (Outcome Answer)). x ∷ l) (s .0)
-    (related-free (rustAfterCall rust call) (afterCall o call) (s .1) (s .2 ∙ room) calls (typed .1) h)
+    one-more rust o call calls (s .0) (related-free (rustAfterCall rust call) (afterCall o call) (s .1) (s .2 ∙ room) calls (typed .1) h)
 
 pub runs-of-2048 : RunsUpTo2048
 unfolding capacity

@@ -1,23 +1,24 @@
 -- Demand 2: "where no refusal marked added is due, the results equal the Rust's". For each ported function of the Rust, by its name, what it
 -- comes to, its errors as numbers, beside document 01's definition, which is the one on the contract of the call. proofs/ proves each claim.
 -- Assumes nothing.
-use Prim.Native.Nat.{ℕ, _≤_}
+use Prim.Native.Nat.{ℕ, _%_, _≤_}
 use mathlib.Core.Path.{_≡_}
-use mathlib.Core.List.{List, [], _∷_}
+use mathlib.Core.List.{List, [], _∷_, flatten}
 use mathlib.Core.Logic.{_⊎_}
-use mathlib.Core.Bool.{Bool, true, _||_}
-use lib.Dec.{eqb, ltb}
+use mathlib.Core.Bool.{Bool, true}
 use lib.ListN.{length}
 use Rattle.error.specs.Number.{outputTooShort, tooManyPackets, malformedObserver, observerFull, invalidReflectorCapacity, malformedReflectorTable}
-use Rattle.error.specs.Outcome.{Outcome, refused, gives, _⇒_, firstCause}
+use Rattle.error.specs.Outcome.{Outcome, refused, gives}
 use Rattle.gtpu.specs.Element.{elementsOf}
 use Rattle.field.specs.Field.{Bytes}
-use Rattle.measurement.specs.Packet.{buildOf}
+use Rattle.checksum.specs.Sum.{checksumOf}
+use Rattle.measurement.specs.Packet.{probe, buildOf}
 use Rattle.measurement.specs.Read.{readOf}
-use Rattle.measurement.specs.Echo.{echoOf}
+use Rattle.measurement.specs.Echo.{reversedOf, echoOf}
 use Rattle.measurement.specs.Answer.{writing, writingOf}
 use Rattle.measurement.specs.Claims.{InRange}
 use Rattle.measurement.specs.declared.InnerIpFlow.{InnerIpFlow}
+use Rattle.measurement.specs.declared.MeasurementHeader.{MeasurementHeader}
 use Rattle.plan.specs.Plan.{intervalOf, judgePlan}
 use Rattle.traffic.specs.Generate.{generateOf}
 use Rattle.plan.specs.declared.TrafficPlan.{TrafficPlan}
@@ -38,14 +39,14 @@ use Rattle.reflector_sessions.specs.Register.{registerSession}
 use Rattle.reflector_sessions.specs.Remove.{removeSession}
 use Rattle.reflector_sessions.specs.declared.ReflectorSession.{ReflectorSession}
 use Rattle.reflector_sessions.specs.declared.SocketAddr.{SocketAddr}
-use Rattle.rust_reference.specs.Error.{Result, Ok}
+use Rattle.rust_reference.specs.Error.{DataplaneTestkitError, Result, Ok, Err, InvalidReflectorCapacity}
 use Rattle.rust_reference.specs.Values.{«u64_max»}
 use Rattle.rust_reference.specs.Sheet.{receivedOf, ValuesFit, Same, rustObserver}
-use Rattle.rust_reference.specs.Runs.{Call, Typed, answerTo, afterCall, answersTo, rustAnswersTo, rustAfter}
+use Rattle.rust_reference.specs.Runs.{Call, Typed, answerTo, afterCall, answersTo, after, rustAnswersTo, rustAfter}
 use Rattle.rust_reference.specs.Map.{Option}
 use Rattle.rust_reference.specs.Number.{outcomeBy, outcomeOf}
 use Rattle.rust_reference.specs.Answers.{rustFlow, tpduOf, inBuffer, headersOf, packetsInBuffer, reportOf}
-use Rattle.rust_reference.specs.Sessions.{Reflector, tableIn, withTable, withState, freshReflector, handling, rustAddress, rustSession, rustConfig, rustReflector, rustMessage, rustRemoved, rustAction, outcomeTo, inOutput, MaximumFits, SequenceFits}
+use Rattle.rust_reference.specs.Sessions.{Reflector, tableIn, withTable, withState, freshReflector, handling, rustAddress, rustSession, rustConfig, rustReflector, rustMessage, rustRemoved, rustAction, outcomeTo, inOutput, MaximumFits, PayloadFits, SequenceFits}
 use Rattle.rust_reference.specs.Evidence as evidence
 use Rattle.rust_reference.specs.Gtpu as gtpu
 use Rattle.rust_reference.specs.Measurement as measurement
@@ -67,6 +68,25 @@ abbrev pub ZeroLoss : Type 0
 ZeroLoss = evidence.«zero_loss» ≡ zeroLoss
 
 -- ---- measurement.rs
+
+-- Every flow.
+abbrev pub Reversed : Type 0
+Reversed = (flow : InnerIpFlow) → measurement.reversed (rustFlow flow) ≡ rustFlow (reversedOf flow)
+
+-- Every header.
+abbrev pub Encode : Type 0
+Encode = (header : MeasurementHeader) → measurement.encode header ≡ probe (header .sequence) (header .«send_timestamp_ns»)
+
+-- Every part but the last has an even length: the Rust pads each part to whole words.
+abbrev pub WholeWords : List (List ℕ) → Type 0
+WholeWords [] = Unit {0}
+WholeWords (last ∷ []) = Unit {0}
+WholeWords (part ∷ next ∷ parts) = (length part % 2 ≡ 0) × WholeWords (next ∷ parts)
+
+-- Parts end to end, of at most 131,074 bytes: from 131,075 on the Rust's u32 may wrap.
+abbrev pub Checksum : Type 0
+Checksum = (parts : List (List ℕ)) → WholeWords parts → Bytes (flatten parts) → length (flatten parts) ≤ 131074
+    → measurement.checksum parts ≡ checksumOf (flatten parts)
 
 -- Every flow, sequence and time.
 abbrev pub BuildMeasurementTpdu : Type 0
@@ -145,24 +165,37 @@ abbrev pub NoneAddedIn : Observer → List Call → Type 0
 NoneAddedIn o [] = Unit {0}
 NoneAddedIn o (call ∷ calls) = NoneAdded (answerTo o call) × NoneAddedIn (afterCall o call) calls
 
--- Every list of calls on a fresh sheet of any columns: every answer, each report on the way among them, is the Rust's.
+-- Every list of calls on a fresh sheet of any columns: every answer, each report on the way among them, is the Rust's, and what is left is
+-- related.
 abbrev pub Runs : Type 0
 Runs = (qs ts ls ms : List ℕ) (calls : List Call) → AllTyped calls → NoneAddedIn (observerOf qs ts ls ms fresh) calls
-    → rustAnswersTo traffic.new calls ≡ answersTo (observerOf qs ts ls ms fresh) calls
+    → (rustAnswersTo traffic.new calls ≡ answersTo (observerOf qs ts ls ms fresh) calls)
+    × Same (rustAfter traffic.new calls) (after (observerOf qs ts ls ms fresh) calls)
 
 -- "runs up to 2,048 sequences": with columns of 2,048 entries, all that is asked is that the Rust's map of what was sent ends with no more.
 abbrev pub RunsUpTo2048 : Type 0
 RunsUpTo2048 = (qs ts ls ms : List ℕ) → 2048 ≤ length qs → 2048 ≤ length ts → 2048 ≤ length ls → 2048 ≤ length ms
     → (calls : List Call) → AllTyped calls → length (rustAfter traffic.new calls .sent) ≤ 2048
-    → rustAnswersTo traffic.new calls ≡ answersTo (observerOf qs ts ls ms fresh) calls
+    → (rustAnswersTo traffic.new calls ≡ answersTo (observerOf qs ts ls ms fresh) calls)
+    × Same (rustAfter traffic.new calls) (after (observerOf qs ts ls ms fresh) calls)
 
 -- ---- reflector.rs
 
--- Every configuration, and every lent slice: 30, or the Rust's reflector that holds what the fresh one holds.
-abbrev pub NewMulti : Type 0
-NewMulti = (sessions : List ReflectorSession) (config : MultiSessionReflectorConfig)
-    → outcomeOf (reflector.«new_multi» (rustConfig config))
-    ≡ firstCause ((eqb (config .«max_sessions») 0 || ltb 4096 (config .«max_sessions») ⇒ invalidReflectorCapacity) ∷ []) (gives (rustReflector (freshReflector sessions config)))
+-- A call refuses by 30 where `new_multi` makes no reflector of the configuration, and nowhere else.
+abbrev pub RefusesAsNewMulti : {A : Type 0} → MultiSessionReflectorConfig → Outcome A → Type 0
+RefusesAsNewMulti config o =
+    ((error : DataplaneTestkitError) → reflector.«new_multi» (rustConfig config) ≡ Err error → o ≡ refused invalidReflectorCapacity)
+    × (o ≡ refused invalidReflectorCapacity → reflector.«new_multi» (rustConfig config) ≡ Err InvalidReflectorCapacity)
+
+-- The Rust judges 30 once, when the reflector is made; here each call judges it, whatever table, message and output it is lent.
+pub record NewMulti : Type 0 where
+  -- What is made holds what the fresh reflector holds, with any slice.
+  pub makes : (sessions : List ReflectorSession) (config : MultiSessionReflectorConfig) (made : reflector.GtpuReflector)
+      → reflector.«new_multi» (rustConfig config) ≡ Ok made → made ≡ rustReflector (freshReflector sessions config)
+  pub «register_session» : (r : Reflector) (session : ReflectorSession) → RefusesAsNewMulti (r .config) (registerSession (tableIn r) session .outcome)
+  pub «remove_session» : (r : Reflector) (teid : ℕ) → RefusesAsNewMulti (r .config) (removeSession (tableIn r) teid .outcome)
+  pub «handle_datagram» : (r : Reflector) (source : SocketAddr) (message : GtpuMessage) (payload buffer : List ℕ)
+      → RefusesAsNewMulti (r .config) (handling r source message payload buffer .outcome)
 
 -- Every reflector and session: the answer, and what the Rust's reflector then holds.
 abbrev pub RegisterSession : Type 0
@@ -181,7 +214,7 @@ RemoveSession = (r : Reflector) → MaximumFits r → (teid : ℕ) → NoneAdded
 -- Every message, from every sender: the action, with the payload of what is sent; every byte of the output; and the Rust's reflector, with
 -- its counts and its error sequence.
 abbrev pub HandleDatagram : Type 0
-HandleDatagram = (r : Reflector) → MaximumFits r → SequenceFits r → (source : SocketAddr) (message : GtpuMessage) (payload : List ℕ) → Bytes payload
+HandleDatagram = (r : Reflector) → MaximumFits r → SequenceFits r → (source : SocketAddr) (message : GtpuMessage) (payload : List ℕ) → PayloadFits payload
     → (buffer : List ℕ) → NoneAdded (handling r source message payload buffer .outcome)
     → let after : reflector.Called (Result reflector.ReflectorAction) = reflector.«handle_datagram» (rustReflector r) (rustAddress source) (rustMessage message payload) in
     (outcomeOf (after .result) ≡ outcomeTo (rustAction payload) (handling r source message payload buffer .outcome))
@@ -218,6 +251,9 @@ ReflectorRunsWithRoom = (sessions : List ReflectorSession) (config : MultiSessio
 -- All of it, by the Rust's names.
 pub record EqualsTheRust : Type 0 where
   pub «zero_loss» : ZeroLoss
+  pub reversed : Reversed
+  pub encode : Encode
+  pub checksum : Checksum
   pub «build_measurement_tpdu» : BuildMeasurementTpdu
   pub «decode_measurement_tpdu» : DecodeMeasurementTpdu
   pub «echo_tpdu» : EchoTpdu

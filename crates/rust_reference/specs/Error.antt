@@ -31,6 +31,8 @@ pub data DataplaneTestkitError : Type 0 where
   InvalidPacket : Reason → DataplaneTestkitError
   Overflow : Field → DataplaneTestkitError
   TimestampReversed : DataplaneTestkitError
+  -- `GtpuEncode(String)`: the text is the codec's, which is not among the sources
+  GtpuEncode : DataplaneTestkitError
   InvalidReflectorCapacity InvalidReflectorSession ReflectorSessionConflict ReflectorSessionCapacityExceeded : DataplaneTestkitError
 
 -- `Result<A, DataplaneTestkitError>`

@@ -10,7 +10,7 @@ use lib.Dec.{eqb, ltb, leb}
 use lib.ListN.{length}
 use Rattle.rust_reference.specs.Map.{Option, None, Some}
 use Rattle.rust_reference.specs.Values.{index, «u16_at»}
-use Rattle.rust_reference.specs.Error.{Result, Ok, Truncated, InvalidPacket, Err, returnIf, _>>_, TEID-Data-I-IE, GTP-U-Peer-Address-IE, GTP-U-TLV-IE, GTP-U-Peer-Address-IE-length-must-be-IPv4-or-IPv6, unsupported-fixed-length-GTP-U-IE, Error-Indication-missing-TEID-Data-I-IE, Error-Indication-missing-GTP-U-Peer-Address-IE}
+use Rattle.rust_reference.specs.Error.{Result, Ok, Truncated, InvalidPacket, GtpuEncode, Err, returnIf, _>>_, TEID-Data-I-IE, GTP-U-Peer-Address-IE, GTP-U-TLV-IE, GTP-U-Peer-Address-IE-length-must-be-IPv4-or-IPv6, unsupported-fixed-length-GTP-U-IE, Error-Indication-missing-TEID-Data-I-IE, Error-Indication-missing-GTP-U-Peer-Address-IE}
 
 abbrev pub «GTPU_MSG_ECHO_REQUEST» : ℕ
 «GTPU_MSG_ECHO_REQUEST» = 1
@@ -31,17 +31,18 @@ abbrev pub «GTPU_MSG_GPDU» : ℕ
 «GTPU_MSG_GPDU» = 255
 
 -- A message, of its header the three fields that the reflector reads and writes. The codec is not among the sources, so a datagram is the
--- message that `decode_gtpu` makes of it, and `encode_message` (lines 191 to 227) answers the message that it encodes. So does the stand-in
--- of document 01, for payloads of at most 65,535 bytes.
+-- message that `decode_gtpu` makes of it, and `encode_message` answers the message that it encodes.
 pub record GtpuMessage : Type 0 where
   pub «message_type» : ℕ
   pub teid : ℕ
   pub «sequence_number» : Option ℕ
   pub payload : List ℕ
 
+-- lines 191 to 227. The codec is document 01's stand-in for it, which carries a payload of at most 65,535 bytes and refuses a longer one.
 abbrev pub «encode_message» : ℕ → ℕ → Option ℕ → List ℕ → Result GtpuMessage
-«encode_message» message-type teid sequence-number payload =
-    Ok (record { «message_type» = message-type; teid = teid; «sequence_number» = sequence-number; payload = payload })
+«encode_message» message-type teid sequence-number payload = do
+  returnIf (ltb 65535 (length payload)) GtpuEncode
+  Ok (record { «message_type» = message-type; teid = teid; «sequence_number» = sequence-number; payload = payload })
 
 -- lines 47 to 49
 abbrev pub «encode_gpdu» : ℕ → List ℕ → Result GtpuMessage

@@ -4,7 +4,7 @@ use Prim.Native.Nat.{ℕ}
 use Rattle.error.specs.Number.{truncatedIpHeader, unsupportedIpVersion, truncatedIpv4Header, invalidIpv4Ihl, invalidIpv4TotalLength, payloadIsNotUdp, invalidIpv4HeaderChecksum, truncatedIpv6UdpPacket, invalidIpv6PayloadLength, invalidUdpLength, ipv6UdpChecksumIsZero, invalidUdpChecksum, truncatedMeasurementHeader, measurementMagicMismatch, targetRateIsZero, targetRateExceedsResolution, sequenceOverflow, sendTimestampOverflow, sequenceWasNotSent, timestampReversed, truncatedElement, invalidPeerAddressLength, unsupportedFixedLengthElement, missingTeidDataI, missingPeerAddress, invalidReflectorCapacity, invalidReflectorSession, reflectorSessionConflict, reflectorSessionCapacityExceeded, echoRequestTeidNotZero, echoRequestMissingSequence, unsupportedMessageType}
 use Rattle.error.specs.Outcome.{Outcome, refused, gives}
 use Rattle.rust_reference.specs.Error as rust
-use Rattle.rust_reference.specs.Error.{Context, Reason, Field, DataplaneTestkitError, Result, Truncated, UnsupportedIpVersion, InvalidPacket, Overflow, TimestampReversed, InvalidReflectorCapacity, InvalidReflectorSession, ReflectorSessionConflict, ReflectorSessionCapacityExceeded, Ok, Err}
+use Rattle.rust_reference.specs.Error.{Context, Reason, Field, DataplaneTestkitError, Result, Truncated, UnsupportedIpVersion, InvalidPacket, Overflow, TimestampReversed, GtpuEncode, InvalidReflectorCapacity, InvalidReflectorSession, ReflectorSessionConflict, ReflectorSessionCapacityExceeded, Ok, Err}
 
 -- An error that the Rust can write down and never answers by. The card has no such number, so each claim also says that it does not occur.
 abbrev pub notOnTheCard : ℕ
@@ -56,6 +56,7 @@ errorNumber (UnsupportedIpVersion version) = unsupportedIpVersion
 errorNumber (InvalidPacket reason) = invalidNumber reason
 errorNumber (Overflow field) = overflowNumber field
 errorNumber TimestampReversed = timestampReversed
+errorNumber GtpuEncode = notOnTheCard
 errorNumber InvalidReflectorCapacity = invalidReflectorCapacity
 errorNumber InvalidReflectorSession = invalidReflectorSession
 errorNumber ReflectorSessionConflict = reflectorSessionConflict

@@ -5,7 +5,6 @@ use mathlib.Core.List.{List, [], _∷_}
 use mathlib.Core.Bool.{Bool}
 use lib.ListN.{length}
 use Rattle.error.specs.Outcome.{Outcome, gives}
-use Rattle.field.specs.Field.{Bytes}
 use Rattle.reflector_answer.specs.Handle.{placed}
 use Rattle.reflector_answer.specs.declared.GtpuMessage.{GtpuMessage}
 use Rattle.reflector_sessions.specs.Register.{registerSession}
@@ -15,7 +14,7 @@ use Rattle.reflector_sessions.specs.declared.SocketAddr.{SocketAddr}
 use Rattle.rust_reference.specs.Map.{Option}
 use Rattle.rust_reference.specs.Number.{outcomeOf}
 use Rattle.rust_reference.specs.Reflector as rust
-use Rattle.rust_reference.specs.Sessions.{Reflector, tableIn, withTable, withState, handling, rustAddress, rustSession, rustMessage, rustRemoved, rustAction, outcomeTo, inOutput}
+use Rattle.rust_reference.specs.Sessions.{Reflector, tableIn, withTable, withState, handling, rustAddress, rustSession, rustMessage, rustRemoved, rustAction, outcomeTo, inOutput, PayloadFits}
 
 -- A call, with what it is handed: a session; a TEID; a sender, a message, its payload and an output.
 pub data Call : Type 0 where
@@ -23,11 +22,11 @@ pub data Call : Type 0 where
   remove : ℕ → Call
   handle : SocketAddr → GtpuMessage → List ℕ → List ℕ → Call
 
--- What it is handed has the code's types, as far as that matters: payloads are bytes.
+-- What it is handed is in the compared domain, as far as that matters: payloads are bytes, at most 65,535.
 abbrev pub Typed : Call → Type 0
 Typed (register session) = Unit {0}
 Typed (remove teid) = Unit {0}
-Typed (handle source message payload buffer) = Bytes payload
+Typed (handle source message payload buffer) = PayloadFits payload
 
 -- Its output, where it is lent one, has the 72 bytes that document 01 asks for: 15 is not due.
 abbrev pub OutputFits : Call → Type 0

@@ -57,6 +57,10 @@ abbrev pub answersTo : Observer → List Call → List (Outcome Answer)
 answersTo o [] = []
 answersTo o (call ∷ calls) = answerTo o call ∷ answersTo (afterCall o call) calls
 
+abbrev pub after : Observer → List Call → Observer
+after o [] = o
+after o (call ∷ calls) = after (afterCall o call) calls
+
 -- By the Rust's.
 abbrev pub rustAnswerTo : traffic.ContinuityObserver → Call → Outcome Answer
 rustAnswerTo o (sending sequence time) = gives done

@@ -5,6 +5,7 @@ use mathlib.Core.List.{List, map, _++_}
 use mathlib.Core.Option.{Option, some, none}
 use lib.ListN.{length, drop}
 use Rattle.error.specs.Outcome.{Outcome, refused, gives}
+use Rattle.field.specs.Field.{Bytes}
 use Rattle.measurement.specs.Packet.{address}
 use Rattle.measurement.specs.declared.IpVersion.{IpVersion}
 use Rattle.measurement.specs.declared.IpVersion.the-variants.{V4, V6}
@@ -148,11 +149,15 @@ inOutput (Ok (rust.Send destination packet ReflectedGpdu)) buffer = packet .payl
 inOutput (Ok (rust.Send destination packet EchoResponse)) buffer = packet .payload ++ drop (length (packet .payload)) buffer
 inOutput (Ok (rust.Send destination packet ErrorIndication)) buffer = packet .payload ++ drop (length (packet .payload)) buffer
 
--- ---- what the Rust's types and `new_multi` see to
+-- ---- what the Rust's types, its codec and `new_multi` see to
 
 -- 30 is not due: the Rust judges it in `new_multi` alone.
 abbrev pub MaximumFits : Reflector → Type 0
 MaximumFits r = (0 < r .config .«max_sessions») × (r .config .«max_sessions» ≤ 4096)
+
+-- "a payload of at most 65,535 bytes", which is what the stand-in for the codec carries
+abbrev pub PayloadFits : List ℕ → Type 0
+PayloadFits payload = Bytes payload × (length payload ≤ 65535)
 
 -- The error sequence is a u16.
 abbrev pub SequenceFits : Reflector → Type 0

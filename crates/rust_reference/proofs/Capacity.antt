@@ -1,0 +1,255 @@
+-- 30: what `new_multi` makes of a configuration, and that each call judges its maximum alike.
+-- Assumes nothing.
+use Prim.Native.Nat.{ℕ, _/_, _<_, _≤_}
+use native.Mathlib.Omega.{arith}
+use mathlib.Core.Path.{_≡_, refl, sym, ap, _∙_}
+use mathlib.Core.Logic.{_⊎_, inl, inr}
+use mathlib.Core.List.{List, [], _∷_}
+use mathlib.Core.Bool.{Bool, true, false, not, _||_}
+use mathlib.Core.Option.{Option, some, none}
+use lib.Dec.{eqb, ltb}
+use lib.ListN.{length, getD}
+use borrow.Author.Tests.{eqb-true, eqb-false, ltb-true, ltb-false}
+use Rattle.error.specs.Outcome.{Outcome, refused, gives, Cause, _⇒_, firstCause}
+use Rattle.error.proofs.Causes.{Refuses, refuses, passes, refused-gives}
+use Rattle.error.proofs.Tests.{or-neither}
+use Rattle.measurement.specs.Echo.{echoOfTpdu, echoOf}
+use Rattle.measurement.specs.Read.{probeCauses, udpCauses, readProbe, readUdp, tpduCauses, ipv4Causes, readIpv4, ipv6Causes, readIpv6, readOf}
+use Rattle.measurement.specs.declared.DecodedTpdu.{DecodedTpdu}
+use Rattle.measurement.specs.declared.IpVersion.{IpVersion}
+use Rattle.measurement.specs.declared.IpVersion.the-variants.{V4, V6}
+use Rattle.reflector.specs.Handle.{handleDatagram}
+use Rattle.reflector_answer.specs.Answer.{handedOn, Action, noop, gpdu, reflected, gpduOutcome, gpduKnown, gpduUnknown, echoRequestOutcome, echoRequest, otherMessage, gpduAnswer, Answer, answer}
+use Rattle.reflector_answer.specs.declared.GtpuMessage.{GtpuMessage}
+use Rattle.reflector_answer.specs.declared.MultiSessionReflectorConfig.{MultiSessionReflectorConfig}
+use Rattle.reflector_answer.specs.declared.ReflectorNoopReason.the-variants.{GpduSunk}
+use Rattle.reflector_answer.specs.declared.ReflectorPolicy.{ReflectorPolicy}
+use Rattle.reflector_answer.specs.declared.ReflectorPolicy.the-variants.{Echo, SinkAndCount, Route}
+use Rattle.reflector_answer.specs.declared.ReflectorSendReason.the-variants.{RoutedGpdu}
+use Rattle.reflector_answer.proofs.Answers.{handling-refused, handling-short, handling-passed}
+use Rattle.reflector_sessions.specs.Judge.{tableCauses, tableOutcome}
+use Rattle.reflector_sessions.specs.Register.{sessionOutcome, registerOutcome, registerSession}
+use Rattle.reflector_sessions.specs.Remove.{removeOutcome, removeSession}
+use Rattle.reflector_sessions.specs.Session.{sameSession}
+use Rattle.reflector_sessions.specs.Table.{find, usedRows}
+use Rattle.reflector_sessions.specs.declared.ReflectorSession.{ReflectorSession}
+use Rattle.reflector_sessions.specs.declared.SocketAddr.{SocketAddr}
+use Rattle.reflector_sessions.proofs.Judging.{Sound, is-30, is-31, is-sound, capacity-refused, table-sound}
+use Rattle.rust_reference.specs.Claims.{RefusesAsNewMulti, NewMulti}
+use Rattle.rust_reference.specs.Error.{DataplaneTestkitError, Result, Ok, Err, InvalidReflectorCapacity, returnIf, _>>_}
+use Rattle.rust_reference.specs.Number.{outcomeOf}
+use Rattle.rust_reference.specs.Reflector as rust
+use Rattle.rust_reference.specs.Sessions.{Reflector, tableIn, handling, freshReflector, rustConfig, rustReflector}
+
+-- ---- what `new_multi` makes
+
+abbrev Fits : ℕ → Type 0
+Fits maximum = (0 < maximum) × (maximum ≤ 4096)
+
+abbrev Unfit : ℕ → Type 0
+Unfit maximum = (maximum ≡ 0) ⊎ (4096 < maximum)
+
+pub data Capacity (sessions : List ReflectorSession) (config : MultiSessionReflectorConfig) : Type 0 where
+  unfit : Unfit (config .«max_sessions») → rust.«new_multi» (rustConfig config) ≡ Err InvalidReflectorCapacity → Capacity sessions config
+  fit : Fits (config .«max_sessions») → rust.«new_multi» (rustConfig config) ≡ Ok (rustReflector (freshReflector sessions config)) → Capacity sessions config
+
+pub capacity : (sessions : List ReflectorSession) (config : MultiSessionReflectorConfig) → Capacity sessions config
+unfolding rust.«new_multi»
+capacity sessions config = by (eqb maximum 0) (ltb 4096 maximum) refl refl
+  where
+    maximum : ℕ
+    maximum = config .«max_sessions»
+
+    judged : Bool → Result rust.GtpuReflector
+    judged t = _>>_ (returnIf t InvalidReflectorCapacity) (Ok (rustReflector (freshReflector sessions config)))
+
+    by : (a b : Bool) → eqb maximum 0 ≡ a → ltb 4096 maximum ≡ b → Capacity sessions config
+    by true b e f = unfit (inl (eqb-true maximum 0 e)) (ap (λ (t : Bool). judged (t || ltb 4096 maximum)) e)
+    by false true e f = unfit (inr (ltb-true 4096 maximum f)) (ap (λ (t : Bool). judged (t || ltb 4096 maximum)) e ∙ ap judged f)
+    by false false e f =
+        fit (let above = eqb-false maximum 0 e in omega arith, ltb-false 4096 maximum f) (ap (λ (t : Bool). judged (t || ltb 4096 maximum)) e ∙ ap judged f)
+
+err-ok : {A : Type 0} {error : DataplaneTestkitError} {x : A} → Err error ≡ Ok x → ⊥
+err-ok e = refused-gives (ap outcomeOf e)
+
+-- what was made
+pub made-is : (sessions : List ReflectorSession) (config : MultiSessionReflectorConfig) (made : rust.GtpuReflector) → rust.«new_multi» (rustConfig config) ≡ Ok made
+    → Fits (config .«max_sessions») × (made ≡ rustReflector (freshReflector sessions config))
+made-is sessions config made e = by (capacity sessions config)
+  where
+    by : Capacity sessions config → Fits (config .«max_sessions») × (made ≡ rustReflector (freshReflector sessions config))
+    by (unfit h f) = absurd (err-ok (sym f ∙ e))
+    by (fit h f) = let g : Ok made ≡ Ok (rustReflector (freshReflector sessions config)) = sym e ∙ f in (h, cc)
+
+-- a call that judges the maximum first
+as-new-multi : {A : Type 0} (config : MultiSessionReflectorConfig) (o : Outcome A) → (Unfit (config .«max_sessions») → refused 30 ≡ o)
+    → (Fits (config .«max_sessions») → o ≡ refused 30 → ⊥) → RefusesAsNewMulti config o
+as-new-multi config o first never = by (capacity [] config)
+  where
+    by : Capacity [] config → RefusesAsNewMulti config o
+    by (unfit h f) = (λ error e. sym (first h), λ e. f)
+    by (fit h f) = (λ error e. absurd (err-ok (sym e ∙ f)), λ e. absurd (never h e))
+
+-- ---- a table whose maximum fits is refused by 31, or sound
+
+fitting : (rows used maximum : ℕ) → Fits maximum → Sound rows used maximum ⊎ Refuses (tableCauses rows used maximum) 31
+fitting rows used maximum fits = by (ltb maximum used) (ltb rows maximum) refl refl
+  where
+    by : (a b : Bool) → ltb maximum used ≡ a → ltb rows maximum ≡ b → Sound rows used maximum ⊎ Refuses (tableCauses rows used maximum) 31
+    by true b e f = inr (is-31 rows used maximum (fits .0) (fits .1) (inl (ltb-true maximum used e)))
+    by false true e f = inr (is-31 rows used maximum (fits .0) (fits .1) (inr (ltb-true rows maximum f)))
+    by false false e f = inl (record { above = fits .0; most = fits .1; enough = ltb-false maximum used e; room = ltb-false rows maximum f })
+
+pub sound-table : {A : Type 0} (rows used maximum : ℕ) (onward : Outcome A) → 0 < maximum → maximum ≤ 4096
+    → (firstCause (tableCauses rows used maximum) onward ≡ refused 31 → ⊥) → Sound rows used maximum
+sound-table rows used maximum onward above most added = by (fitting rows used maximum (above, most))
+  where
+    by : Sound rows used maximum ⊎ Refuses (tableCauses rows used maximum) 31 → Sound rows used maximum
+    by (inl s) = s
+    by (inr r) = absurd (added (sym (refuses onward r)))
+
+-- ---- no other refusal is by 30
+
+other-number : {A : Type 0} {n m : ℕ} {o : Outcome A} → (n ≡ m → ⊥) → refused n ≡ o → o ≡ refused m → ⊥
+other-number {n = n} {m = m} differ e f = let same : refused n ≡ refused m = e ∙ f in differ cc
+
+-- rows of other numbers
+data Without (m : ℕ) : List Cause → Type 0 where
+  end : Without m []
+  row : {t : Bool} {n : ℕ} {rows : List Cause} → (n ≡ m → ⊥) → Without m rows → Without m ((t ⇒ n) ∷ rows)
+
+not-by : {A : Type 0} {m : ℕ} {rows : List Cause} (o : Outcome A) → Without m rows → (o ≡ refused m → ⊥) → firstCause rows o ≡ refused m → ⊥
+unfolding firstCause
+not-by o end h e = h e
+not-by o (row {t = true} k q) h e = other-number k refl e
+not-by o (row {t = false} k q) h e = not-by o q h e
+
+table-not-30 : {A : Type 0} (rows used maximum : ℕ) (onward : Outcome A) → Fits maximum → (onward ≡ refused 30 → ⊥)
+    → firstCause (tableCauses rows used maximum) onward ≡ refused 30 → ⊥
+table-not-30 rows used maximum onward fits h e = by (fitting rows used maximum fits)
+  where
+    by : Sound rows used maximum ⊎ Refuses (tableCauses rows used maximum) 31 → ⊥
+    by (inl s) = h (passes onward (is-sound rows used maximum s) ∙ e)
+    by (inr r) = other-number (λ z. omega arith) (refuses onward r) e
+
+-- a T-PDU is refused by 1 to 14
+part-not-30 : (v : IpVersion) (src dst u : List ℕ) → readUdp v src dst u ≡ refused 30 → ⊥
+unfolding readUdp udpCauses readProbe probeCauses
+part-not-30 V4 src dst u =
+    not-by _ (row (λ z. omega arith) (row (λ z. omega arith) end)) (not-by _ (row (λ z. omega arith) (row (λ z. omega arith) end)) (λ e. refused-gives (sym e)))
+part-not-30 V6 src dst u =
+    not-by _ (row (λ z. omega arith) (row (λ z. omega arith) (row (λ z. omega arith) end)))
+    (not-by _ (row (λ z. omega arith) (row (λ z. omega arith) end)) (λ e. refused-gives (sym e)))
+
+read-not-30 : (p : List ℕ) → readOf p ≡ refused 30 → ⊥
+unfolding readOf tpduCauses readIpv4 ipv4Causes readIpv6 ipv6Causes
+read-not-30 p = not-by _ (row (λ z. omega arith) (row (λ z. omega arith) end)) (either (eqb (getD p 0 0 / 16) 4))
+  where
+    either : (b : Bool) → _≡_ {A = Outcome DecodedTpdu} (elim b [ true ↦ readIpv4 p | false ↦ readIpv6 p ]) (refused 30) → ⊥
+    either true =
+        not-by _ (row (λ z. omega arith) (row (λ z. omega arith) (row (λ z. omega arith) (row (λ z. omega arith) (row (λ z. omega arith) end)))))
+        (part-not-30 V4 _ _ _)
+    either false = not-by _ (row (λ z. omega arith) (row (λ z. omega arith) (row (λ z. omega arith) end))) (part-not-30 V6 _ _ _)
+
+echo-not-30 : (session : ReflectorSession) (p : List ℕ) → reflected session (echoOf p) ≡ refused 30 → ⊥
+unfolding echoOf
+echo-not-30 session p = by (readOf p) refl
+  where
+    by : (o : Outcome DecodedTpdu) → readOf p ≡ o
+        → reflected session (elim o [ refused n ↦ refused n | gives t ↦ gives (echoOfTpdu t) ]) ≡ refused 30 → ⊥
+    by (refused n) e f = let same : n ≡ 30 = cc in read-not-30 p (e ∙ ap refused same)
+    by (gives t) e f = refused-gives (sym f)
+
+-- a message
+abbrev Not30 : Answer → Type 0
+Not30 a = a .outcome ≡ refused 30 → ⊥
+
+either-not-30 : (t : Bool) (a b : Answer) → Not30 a → Not30 b → Not30 (elim t as (λ u. Answer) [ true ↦ a | false ↦ b ])
+either-not-30 true a b f g = f
+either-not-30 false a b f g = g
+
+answer-not-30 : (r : Reflector) (session : Option ReflectorSession) (source : SocketAddr) (message : GtpuMessage) (payload : List ℕ)
+    → Not30 (answer (r .config) (r .state) session source message payload)
+unfolding answer gpduKnown gpduOutcome gpduUnknown echoRequest echoRequestOutcome otherMessage
+answer-not-30 r session source message payload =
+    either-not-30 (eqb (message .«message_type») 255) _ _ (gpdu-not session)
+    (either-not-30 (eqb (message .«message_type») 1) _ _ (not-by _ (row (λ z. omega arith) (row (λ z. omega arith) end)) (λ e. refused-gives (sym e)))
+    (either-not-30 (eqb (message .«message_type») 2) _ _ (λ e. refused-gives (sym e))
+    (either-not-30 (eqb (message .«message_type») 26) _ _ (λ e. refused-gives (sym e))
+    (either-not-30 (eqb (message .«message_type») 254) _ _ (λ e. refused-gives (sym e))
+    (either-not-30 (eqb (message .«message_type») 31) _ _ (λ e. refused-gives (sym e)) (other-number (λ z. omega arith) refl))))))
+  where
+    by-policy : (session : ReflectorSession) (policy : ReflectorPolicy)
+        → _≡_ {A = Outcome Action} (elim policy [
+          | Echo ↦ reflected session (echoOf payload)
+          | SinkAndCount ↦ gives (noop GpduSunk)
+          | Route ↦ gives (gpdu RoutedGpdu (r .config .target .destination) (r .config .target .teid) handedOn)
+        ]) (refused 30) → ⊥
+    by-policy session Echo = echo-not-30 session payload
+    by-policy session SinkAndCount = λ e. refused-gives (sym e)
+    by-policy session Route = λ e. refused-gives (sym e)
+
+    gpdu-not : (session : Option ReflectorSession) → Not30 (gpduAnswer (r .config) (r .state) session source (message .teid) payload)
+    gpdu-not (some session) = by-policy session (r .config .policy)
+    gpdu-not none = λ e. refused-gives (sym e)
+
+-- ---- the calls
+
+module _ (r : Reflector) where
+  abbrev rows : ℕ
+  rows = length (r .sessions)
+
+  abbrev maximum : ℕ
+  maximum = r .config .«max_sessions»
+
+  registering : (session : ReflectorSession) → RefusesAsNewMulti (r .config) (registerSession (tableIn r) session .outcome)
+  unfolding registerSession registerOutcome sessionOutcome
+  registering session =
+      as-new-multi (r .config) _ (λ h. refuses _ (is-30 rows (r .used) maximum h))
+      (λ h. table-not-30 rows (r .used) maximum _ h (not-by _ (row (λ z. omega arith) end) (onward (find (session .«local_teid») (usedRows (tableIn r))))))
+    where
+      onward : (existing : Option ReflectorSession)
+          → _≡_ {A = Outcome Bool} (elim existing [
+            | some other ↦ firstCause ((not (sameSession other session) ⇒ 33) ∷ []) (gives false)
+            | none ↦ firstCause ((eqb (r .used) maximum ⇒ 34) ∷ []) (gives true)
+          ]) (refused 30) → ⊥
+      onward (some other) = not-by _ (row (λ z. omega arith) end) (λ e. refused-gives (sym e))
+      onward none = not-by _ (row (λ z. omega arith) end) (λ e. refused-gives (sym e))
+
+  removing : (teid : ℕ) → RefusesAsNewMulti (r .config) (removeSession (tableIn r) teid .outcome)
+  unfolding removeSession removeOutcome
+  removing teid =
+      as-new-multi (r .config) _ (λ h. refuses _ (is-30 rows (r .used) maximum h))
+      (λ h. table-not-30 rows (r .used) maximum _ h (λ e. refused-gives (sym e)))
+
+  handled : (source : SocketAddr) (message : GtpuMessage) (payload buffer : List ℕ) → RefusesAsNewMulti (r .config) (handling r source message payload buffer .outcome)
+  unfolding handleDatagram tableOutcome
+  handled source message payload buffer =
+      as-new-multi (r .config) _ (λ h. ap outcome (handling-refused rows (r .used) (r .config) (r .state) session source message payload buffer (capacity-refused rows (r .used) maximum h)))
+      (λ h. by (fitting rows (r .used) maximum h) (ltb (length buffer) 72) refl)
+    where
+      outcome : Answer → Outcome Action
+      outcome a = a .outcome
+
+      session : Option ReflectorSession
+      session = find (message .teid) (usedRows (tableIn r))
+
+      by : Sound rows (r .used) maximum ⊎ Refuses (tableCauses rows (r .used) maximum) 31 → (t : Bool) → ltb (length buffer) 72 ≡ t
+          → handling r source message payload buffer .outcome ≡ refused 30 → ⊥
+      by (inr u) t e =
+          other-number (λ z. omega arith)
+          (ap outcome (handling-refused rows (r .used) (r .config) (r .state) session source message payload buffer (refuses (gives (r .used)) u)))
+      by (inl s) true e =
+          other-number (λ z. omega arith)
+          (ap outcome (handling-short rows (r .used) (r .config) (r .state) session source message payload buffer (table-sound rows (r .used) maximum s) (ltb-true (length buffer) 72 e)))
+      by (inl s) false e = λ f.
+          answer-not-30 r session source message payload
+          (ap outcome (handling-passed rows (r .used) (r .config) (r .state) session source message payload buffer (table-sound rows (r .used) maximum s) (ltb-false (length buffer) 72 e)) ∙ f)
+
+pub new-multi : NewMulti
+new-multi = record {
+  makes = λ sessions config made e. made-is sessions config made e .1;
+  «register_session» = registering;
+  «remove_session» = removing;
+  «handle_datagram» = handled;
+}
