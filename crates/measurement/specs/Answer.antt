@@ -22,7 +22,12 @@ noTpdu = record {
   measurement = record { sequence = 0; «send_timestamp_ns» = 0 };
 }
 
--- The reader's answer to each outcome.
+-- What each case of the reader's answer means: the T-PDU beside it, or a refusal.
+abbrev pub decodingMeans : Decoding → DecodedTpdu → Outcome DecodedTpdu
+decodingMeans decoding.Accepted tpdu = gives tpdu
+decodingMeans (decoding.Refused n) tpdu = refused n
+
+-- The reader's answer to each outcome, whole: beside a refusal stands no T-PDU.
 unfoldable pub decodeResult : Outcome DecodedTpdu → DecodeResult
 decodeResult (refused n) = record { decoding = decoding.Refused n; tpdu = noTpdu }
 decodeResult (gives t) = record { decoding = decoding.Accepted; tpdu = t }

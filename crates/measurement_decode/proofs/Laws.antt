@@ -18,7 +18,7 @@ use Rattle.checksum.proofs.Carries.{fold-low}
 use Rattle.checksum.proofs.Sums.{sum-append}
 use Rattle.measurement.specs.Packet.{addressLength, padded, pseudoHeader}
 use Rattle.measurement.specs.Read.{covered, payload, lengthWrong, sumWrong, tpduOf, readUdp, ihl, readOf}
-use Rattle.measurement.specs.Answer.{decodeResult}
+use Rattle.measurement.specs.Answer.{decodingMeans, decodeResult}
 use Rattle.measurement.specs.declared.DecodedTpdu.{DecodedTpdu}
 use Rattle.measurement.specs.declared.DecodeResult.{DecodeResult}
 use Rattle.measurement.specs.declared.Decoding.{Decoding}
@@ -220,3 +220,12 @@ answered o h {x} {d} {s} {t} ex ed es et =
     go (refused zero) h = absurd (h refl)
     go (refused (suc n)) h = refl
     go (gives t) h = refl
+
+-- what the reader's answer means is the outcome that it answers
+pub meant : (o : Outcome DecodedTpdu) → {r : DecodeResult} → r ≡ decodeResult o → decodingMeans (r .decoding) (r .tpdu) ≡ o
+unfolding decodeResult
+meant o e = ap (λ (r : DecodeResult). decodingMeans (r .decoding) (r .tpdu)) e ∙ go o
+  where
+    go : (o : Outcome DecodedTpdu) → decodingMeans (decodeResult o .decoding) (decodeResult o .tpdu) ≡ o
+    go (refused n) = refl
+    go (gives t) = refl

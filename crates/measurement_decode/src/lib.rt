@@ -17,7 +17,7 @@ ghost use Rattle.field.specs.Field.{bytesAt, field};
 ghost use Rattle.checksum.specs.Sum.{sumOf, foldOf};
 ghost use Rattle.measurement.specs.Packet.{padded};
 ghost use Rattle.measurement.specs.Read.{lengthWrong, sumWrong, tpduOf, readProbe, readUdp, readIpv4, readIpv6, readOf};
-ghost use Rattle.measurement.specs.Answer.{decodeResult};
+ghost use Rattle.measurement.specs.Answer.{decodingMeans, decodeResult};
 ghost use Rattle.measurement.specs.declared.IpVersion.{IpVersion};
 ghost use Rattle.measurement.specs.declared.IpVersion.the-variants.{V4, V6};
 ghost use Rattle.measurement_decode.specs.Part.{Part, Addresses, HasProbe};
@@ -311,7 +311,8 @@ fn decoding_of(number: u8) -> Decoding
 
 // Reads a T-PDU: its flow, sequence and send time, or the first cause of refusal.
 pub fn decode_measurement_tpdu(tpdu: &[u8]) -> DecodeResult
-    ensures { λ r. ⌜ r ≡ decodeResult (readOf (now (tpdu .entry))) ⌝ }
+    ensures means { λ r. ⌜ decodingMeans (r .decoding) (r .tpdu) ≡ readOf (now (tpdu .entry)) ⌝ }
+    ensures beside { λ r. ⌜ r ≡ decodeResult (readOf (now (tpdu .entry))) ⌝ }
 {
     let mut src = [0; 16];
     let mut dst = [0; 16];

@@ -3,7 +3,7 @@
 use borrow.Author.Needs.{needs}
 use Rattle.measurement.specs.Read.{readOf}
 use Rattle.measurement.proofs.Accept.{read-by-zero}
-use Rattle.measurement_decode.proofs.Laws.{answered}
+use Rattle.measurement_decode.proofs.Laws.{answered, meant}
 use Rattle.measurement_decode.proofs.decode_measurement_tpdu.Statement.{statement}
 use Rattle.measurement_decode.proofs.decode_measurement_tpdu.Tie as tie
 
@@ -17,7 +17,10 @@ returns : tie.Need-returns
 returns c =
     let r = c .before in
     let p = r .before .before .before .before .args .tpdu .now in
-    answered (readOf p) (read-by-zero p) (r .decode-into .ensures .0) (c .decoding-of .ensures) (r .decode-into .ensures .1 .0) (r .decode-into .ensures .1 .1)
+    let whole =
+    answered (readOf p) (read-by-zero p) (r .decode-into .ensures .0) (c .decoding-of .ensures) (r .decode-into .ensures .1 .0)
+    (r .decode-into .ensures .1 .1) in
+    (meant (readOf p) whole, whole)
 
 pub decode-measurement-tpdu-spec : {M : Type 1} → statement M
 decode-measurement-tpdu-spec =
