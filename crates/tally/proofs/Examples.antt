@@ -34,9 +34,9 @@ use Rattle.observer.specs.Returning.{arrivalCauses, arrival, recordReturn}
 use Rattle.continuity.specs.Returns.{sequenceRead, recordReceivedTpdu, recordReturnMessage, asMessage}
 use Rattle.continuity.specs.declared.GtpuReturnDatagramOutcome.the-variants.{MeasurementTpdu}
 use Rattle.tally.specs.Tally.{isRefused}
-use Rattle.tally.specs.Demand.{Accepted, packet, sendAll, Takes, Call, tpduCall, messageCall, Return, sameBytes, someLegTurned, bytesGiven, receive}
+use Rattle.tally.specs.Demand.{Accepted, sendAll, Takes, Call, tpduCall, messageCall, sameBytes, someLegTurned, bytesGiven, receive}
 use Rattle.tally.specs.Cases.{ipv4Flow, ipv6Flow}
-use Rattle.tally.specs.Attained.{PlansAccepted, examplePlan, exampleObserver, legEnds, Fate, Comes, hopLimit, sendTime, udpChecksum}
+use Rattle.tally.specs.Attained.{PlansAccepted, examplePlan, exampleObserver, legEnds, Comes, hopLimit, sendTime, udpChecksum}
 use Rattle.tally.proofs.Entry.{takes-all}
 use Rattle.tally.proofs.Returns.{echo-step}
 

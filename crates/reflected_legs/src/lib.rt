@@ -1,0 +1,7 @@
+// Demand 3's legs, "routes included": a T-PDU's way through reflectors, over the definitions that the contract of `handle_datagram` names.
+ghost use Rattle.reflected_legs.specs.Claims.{RoutesIncluded};
+
+// A route is no end of a leg, and an echo is one: ways through reflectors are those of demand 3.
+pub fn routes_keep_the_leg()
+    ensures { λ _. ⌜ RoutesIncluded ⌝ }
+{}
