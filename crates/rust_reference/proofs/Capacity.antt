@@ -12,7 +12,6 @@ use lib.ListN.{length, getD}
 use borrow.Author.Tests.{eqb-true, eqb-false, ltb-true, ltb-false}
 use Rattle.error.specs.Outcome.{Outcome, refused, gives, Cause, _⇒_, firstCause}
 use Rattle.error.proofs.Causes.{Refuses, refuses, passes, refused-gives}
-use Rattle.error.proofs.Tests.{or-neither}
 use Rattle.measurement.specs.Echo.{echoOfTpdu, echoOf}
 use Rattle.measurement.specs.Read.{probeCauses, udpCauses, readProbe, readUdp, tpduCauses, ipv4Causes, readIpv4, ipv6Causes, readIpv6, readOf}
 use Rattle.measurement.specs.declared.DecodedTpdu.{DecodedTpdu}
@@ -39,11 +38,11 @@ use Rattle.rust_reference.specs.Claims.{RefusesAsNewMulti, NewMulti}
 use Rattle.rust_reference.specs.Error.{DataplaneTestkitError, Result, Ok, Err, InvalidReflectorCapacity, returnIf, _>>_}
 use Rattle.rust_reference.specs.Number.{outcomeOf}
 use Rattle.rust_reference.specs.Reflector as rust
-use Rattle.rust_reference.specs.Sessions.{Reflector, tableIn, handling, freshReflector, rustConfig, rustReflector}
+use Rattle.rust_reference.specs.Sessions.{Reflector, tableIn, handling, freshReflector, rustConfig, rustReflector, IsMade}
 
 -- ---- what `new_multi` makes
 
-abbrev Fits : ℕ → Type 0
+abbrev pub Fits : ℕ → Type 0
 Fits maximum = (0 < maximum) × (maximum ≤ 4096)
 
 abbrev Unfit : ℕ → Type 0
@@ -80,6 +79,9 @@ made-is sessions config made e = by (capacity sessions config)
     by : Capacity sessions config → Fits (config .«max_sessions») × (made ≡ rustReflector (freshReflector sessions config))
     by (unfit h f) = absurd (err-ok (sym f ∙ e))
     by (fit h f) = let g : Ok made ≡ Ok (rustReflector (freshReflector sessions config)) = sym e ∙ f in (h, cc)
+
+pub made-fits : (r : Reflector) → IsMade r → Fits (r .config .«max_sessions»)
+made-fits r m = made-is (r .sessions) (r .config) (m .0) (m .1) .0
 
 -- a call that judges the maximum first
 as-new-multi : {A : Type 0} (config : MultiSessionReflectorConfig) (o : Outcome A) → (Unfit (config .«max_sessions») → refused 30 ≡ o)

@@ -45,9 +45,9 @@ use Rattle.rust_reference.specs.Map as map
 use Rattle.rust_reference.specs.Measurement.{«echo_tpdu»}
 use Rattle.rust_reference.specs.Number.{outcomeOf}
 use Rattle.rust_reference.specs.Reflector as rust
-use Rattle.rust_reference.specs.Sessions.{Reflector, tableIn, withState, handling, rustIp, rustAddress, rustSession, rustPolicy, rustReflector, rustSequence, rustMessage, rustRemoved, rustAction, outcomeTo, inOutput, MaximumFits, PayloadFits, SequenceFits}
+use Rattle.rust_reference.specs.Sessions.{Reflector, tableIn, withState, handling, rustIp, rustAddress, rustSession, rustPolicy, rustReflector, rustSequence, rustMessage, rustRemoved, rustAction, outcomeTo, inOutput, PayloadFits, SequenceFits}
 use Rattle.rust_reference.specs.Values.{«saturating_add»}
-use Rattle.rust_reference.proofs.Capacity.{sound-table}
+use Rattle.rust_reference.proofs.Capacity.{Fits, made-fits, sound-table}
 use Rattle.rust_reference.proofs.Echoing.{echo-outcome, echo-short}
 use Rattle.rust_reference.proofs.Registering.{SoundIn, find-same}
 
@@ -246,7 +246,7 @@ module _ (r : Reflector) (source : SocketAddr) (message : GtpuMessage) (payload 
   by-type s long = handling-passed rows (r .used) (r .config) (r .state) session source message payload buffer (table-sound rows (r .used) (r .config .«max_sessions») s) long
 
   -- where 31 and 15 are not due
-  pub handle-ready : MaximumFits r → NoneAdded (handling r source message payload buffer .outcome) → SoundIn r × (72 ≤ length buffer)
+  pub handle-ready : Fits (r .config .«max_sessions») → NoneAdded (handling r source message payload buffer .outcome) → SoundIn r × (72 ≤ length buffer)
   unfolding handleDatagram tableOutcome
   handle-ready fits added = (sound, long (ltb (length buffer) 72) refl)
     where
@@ -267,8 +267,8 @@ module _ (r : Reflector) (source : SocketAddr) (message : GtpuMessage) (payload 
       (answered r source payload buffer message fits b session (find-same (message .teid) (usedRows (tableIn r))))
 
 pub handled : HandleDatagram
-handled r fits sequence source message payload b buffer added =
-    let ready = handle-ready r source message payload buffer fits added in
+handled r made sequence source message payload b buffer added =
+    let ready = handle-ready r source message payload buffer (made-fits r made) added in
     handled-in r source message payload buffer (ready .0) (ready .1) sequence b
 
 -- ---- the error sequence stays a u16
@@ -281,15 +281,15 @@ next-fits n h = by (eqb n 65535) refl
     by true e = omega arith
     by false e = omega (arith, eqb-false n 65535 e)
 
-abbrev Fits : ReflectorState → Type 0
-Fits state = state .«next_error_sequence» < 65536
+abbrev StateFits : ReflectorState → Type 0
+StateFits state = state .«next_error_sequence» < 65536
 
-either-fits : (t : Bool) (a b : Answer) → Fits (a .state) → Fits (b .state) → Fits ((elim t as (λ u. Answer) [ true ↦ a | false ↦ b ]) .state)
+either-fits : (t : Bool) (a b : Answer) → StateFits (a .state) → StateFits (b .state) → StateFits ((elim t as (λ u. Answer) [ true ↦ a | false ↦ b ]) .state)
 either-fits true a b f g = f
 either-fits false a b f g = g
 
 answer-fits : (r : Reflector) → SequenceFits r → (session : Option ReflectorSession) (source : SocketAddr) (message : GtpuMessage) (payload : List ℕ)
-    → Fits (answer (r .config) (r .state) session source message payload .state)
+    → StateFits (answer (r .config) (r .state) session source message payload .state)
 unfolding answer gpduKnown gpduUnknown echoRequest otherMessage
 answer-fits r fits session source message payload =
     either-fits (eqb (message .«message_type») 255) _ _ (gpdu-fits session)
@@ -299,21 +299,21 @@ answer-fits r fits session source message payload =
     (either-fits (eqb (message .«message_type») 254) _ _ fits
     (either-fits (eqb (message .«message_type») 31) _ _ fits fits)))))
   where
-    known-fits : (o : Outcome Action) → Fits (gpduCounted o (stateCounted counter.GpduReceived (r .state)))
+    known-fits : (o : Outcome Action) → StateFits (gpduCounted o (stateCounted counter.GpduReceived (r .state)))
     known-fits (refused n) = fits
     known-fits (gives (noop reason)) = fits
     known-fits (gives (send message)) = fits
 
-    gpdu-fits : (session : Option ReflectorSession) → Fits (gpduAnswer (r .config) (r .state) session source (message .teid) payload .state)
+    gpdu-fits : (session : Option ReflectorSession) → StateFits (gpduAnswer (r .config) (r .state) session source (message .teid) payload .state)
     gpdu-fits (some session) = known-fits (gpduOutcome (r .config) session payload)
     gpdu-fits none = next-fits (r .state .«next_error_sequence») fits
 
-    request-fits : (o : Outcome Action) → Fits (echoRequestCounted o (r .state))
+    request-fits : (o : Outcome Action) → StateFits (echoRequestCounted o (r .state))
     request-fits (refused n) = fits
     request-fits (gives action) = fits
 
 pub handled-fits : (r : Reflector) (source : SocketAddr) (message : GtpuMessage) (payload buffer : List ℕ) → SoundIn r → 72 ≤ length buffer → SequenceFits r
     → SequenceFits (withState (handling r source message payload buffer .state) r)
 handled-fits r source message payload buffer s long fits =
-    subst (λ (a : Answer). Fits (a .state)) (by-type r source message payload buffer s long)
+    subst (λ (a : Answer). StateFits (a .state)) (by-type r source message payload buffer s long)
     (answer-fits r fits (find (message .teid) (usedRows (tableIn r))) source message payload)

@@ -2,25 +2,19 @@
 -- Assumes nothing.
 use Prim.Native.Nat.{ℕ}
 use native.Mathlib.Omega.{arith}
-use mathlib.Core.Path.{_≡_, refl, sym, ap, ap₂, _∙_}
+use mathlib.Core.Path.{_≡_, refl, ap, ap₂, _∙_}
 use mathlib.Core.List.{List, [], _∷_}
-use mathlib.Core.Bool.{Bool, true, false, _||_}
-use lib.Dec.{eqb, ltb}
-use borrow.Author.Tests.{eqb-false, ltb-false}
-use Rattle.error.specs.Outcome.{Outcome, gives, _⇒_, firstCause}
-use Rattle.error.proofs.Causes.{refused-gives}
-use Rattle.error.proofs.Tests.{or-neither}
+use Rattle.error.specs.Outcome.{Outcome}
 use Rattle.reflector_answer.specs.declared.MultiSessionReflectorConfig.{MultiSessionReflectorConfig}
 use Rattle.reflector_sessions.specs.Register.{registerSession}
 use Rattle.reflector_sessions.specs.Remove.{removeSession}
 use Rattle.reflector_sessions.specs.declared.ReflectorSession.{ReflectorSession}
 use Rattle.rust_reference.specs.Claims.{NoneAdded, AllCallsTyped, NoneAddedInCalls, AllOutputsFit, ReflectorRuns, ReflectorRunsWithRoom}
 use Rattle.rust_reference.specs.Error.{Ok}
-use Rattle.rust_reference.specs.Number.{outcomeOf}
 use Rattle.rust_reference.specs.Reflecting.{Call, register, remove, handle, Typed, OutputFits, Given, registered, removed, acted, Answer, answerTo, afterCall, answersTo, after, rustAnswerTo, rustAfterCall, rustAnswersTo, rustAfter}
 use Rattle.rust_reference.specs.Reflector as rust
-use Rattle.rust_reference.specs.Sessions.{Reflector, tableIn, handling, freshReflector, rustConfig, rustReflector, rustRemoved, rustAction, outcomeTo, MaximumFits, SequenceFits}
-use Rattle.rust_reference.proofs.Capacity.{made-is}
+use Rattle.rust_reference.specs.Sessions.{Reflector, tableIn, handling, freshReflector, rustConfig, rustReflector, rustRemoved, rustAction, outcomeTo, SequenceFits}
+use Rattle.rust_reference.proofs.Capacity.{Fits, made-is}
 use Rattle.rust_reference.proofs.Handling.{handle-ready, handled-in, handled-fits}
 use Rattle.rust_reference.proofs.Registering.{SoundIn, register-sound, registered-in}
 use Rattle.rust_reference.proofs.Removing.{remove-sound, removed-in}
@@ -67,7 +61,7 @@ call-same r s sequence (handle source message payload buffer) typed long =
     }
 
 -- 30, 31 and 15 pass where none of them is due
-call-ready : (r : Reflector) → MaximumFits r → (call : Call) → NoneAdded (answerTo r call .outcome) → SoundIn r × OutputFits call
+call-ready : (r : Reflector) → Fits (r .config .«max_sessions») → (call : Call) → NoneAdded (answerTo r call .outcome) → SoundIn r × OutputFits call
 call-ready r fits (register session) added = (register-sound r fits session (none-before registered (registerSession (tableIn r) session .outcome) added), tt)
 call-ready r fits (remove teid) added =
     let o = removeSession (tableIn r) teid .outcome in
@@ -86,7 +80,7 @@ one-more r call calls c rest = (
   ap (λ (g : rust.GtpuReflector). rustAfter g calls) (c .left) ∙ rest .1,
 )
 
-related : (r : Reflector) → MaximumFits r → SequenceFits r → (calls : List Call) → AllCallsTyped calls → NoneAddedInCalls r calls → RunsAlike r calls
+related : (r : Reflector) → Fits (r .config .«max_sessions») → SequenceFits r → (calls : List Call) → AllCallsTyped calls → NoneAddedInCalls r calls → RunsAlike r calls
 related r fits sequence [] typed added = (refl, refl)
 related r fits sequence (call ∷ calls) typed added =
     let ready = call-ready r fits call (added .0) in
@@ -104,7 +98,7 @@ module _ (sessions : List ReflectorSession) (config : MultiSessionReflectorConfi
   abbrev fresh-one : Reflector
   fresh-one = freshReflector sessions config
 
-  fresh-is : MaximumFits fresh-one × (made ≡ rustReflector fresh-one)
+  fresh-is : Fits (config .«max_sessions») × (made ≡ rustReflector fresh-one)
   fresh-is = made-is sessions config made e
 
   -- what holds of the fresh one holds of what was made

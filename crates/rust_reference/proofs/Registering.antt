@@ -28,9 +28,9 @@ use Rattle.rust_reference.specs.Error.{Result, Ok, Err, InvalidReflector
 use Rattle.rust_reference.specs.Map as map
 use Rattle.rust_reference.specs.Number.{outcomeOf}
 use Rattle.rust_reference.specs.Reflector as rust
-use Rattle.rust_reference.specs.Sessions.{Reflector, tableIn, withTable, rustIp, rustSession, rustReflector, rustRemoved, MaximumFits}
+use Rattle.rust_reference.specs.Sessions.{Reflector, tableIn, withTable, rustIp, rustSession, rustReflector, rustRemoved}
 use Rattle.rust_reference.specs.Values.{same}
-use Rattle.rust_reference.proofs.Capacity.{sound-table}
+use Rattle.rust_reference.proofs.Capacity.{Fits, made-fits, sound-table}
 
 abbrev pub SoundIn : Reflector → Type 0
 SoundIn r = Sound (length (r .sessions)) (r .used) (r .config .«max_sessions»)
@@ -185,10 +185,10 @@ module _ (r : Reflector) (session : ReflectorSession) (s : SoundIn r) where
       subst (Comes (rust.«register_session» (rustReflector r) (rustSession session))) (passes o (is-sound (length (r .sessions)) (r .used) (r .config .«max_sessions») s))
       (judged existing (find-same (session .«local_teid») (usedRows (tableIn r))))
 
-pub register-sound : (r : Reflector) → MaximumFits r → (session : ReflectorSession) → NoneAdded (registerSession (tableIn r) session .outcome) → SoundIn r
+pub register-sound : (r : Reflector) → Fits (r .config .«max_sessions») → (session : ReflectorSession) → NoneAdded (registerSession (tableIn r) session .outcome) → SoundIn r
 unfolding registerSession registerOutcome
 register-sound r fits session added = sound-table (length (r .sessions)) (r .used) (r .config .«max_sessions») _ (fits .0) (fits .1) (added 31 (inr (inr (inr (inr refl)))))
 
 pub registered : RegisterSession
 unfolding registerSession
-registered r fits session added = let c = registered-in r session (register-sound r fits session added) in (c .0, c .1)
+registered r made session added = let c = registered-in r session (register-sound r (made-fits r made) session added) in (c .0, c .1)

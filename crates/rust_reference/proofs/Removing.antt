@@ -21,8 +21,8 @@ use Rattle.reflector_sessions.proofs.Search.{used-within}
 use Rattle.rust_reference.specs.Claims.{NoneAdded, RemoveSession}
 use Rattle.rust_reference.specs.Map as map
 use Rattle.rust_reference.specs.Reflector as rust
-use Rattle.rust_reference.specs.Sessions.{Reflector, tableIn, withTable, rustSession, rustReflector, rustRemoved, outcomeTo, MaximumFits}
-use Rattle.rust_reference.proofs.Capacity.{sound-table}
+use Rattle.rust_reference.specs.Sessions.{Reflector, tableIn, withTable, rustSession, rustReflector, rustRemoved, outcomeTo}
+use Rattle.rust_reference.proofs.Capacity.{Fits, made-fits, sound-table}
 use Rattle.rust_reference.proofs.Registering.{SoundIn, vec-length}
 
 -- ---- lists
@@ -116,10 +116,10 @@ module _ (r : Reflector) (teid : ℕ) (s : SoundIn r) where
       subst (Comes (rust.«remove_session» (rustReflector r) teid)) (passes (gives (find teid used-rows)) (is-sound (length (r .sessions)) (r .used) (r .config .«max_sessions») s))
       (taken (place teid used-rows))
 
-pub remove-sound : (r : Reflector) → MaximumFits r → (teid : ℕ) → NoneAdded (removeSession (tableIn r) teid .outcome) → SoundIn r
+pub remove-sound : (r : Reflector) → Fits (r .config .«max_sessions») → (teid : ℕ) → NoneAdded (removeSession (tableIn r) teid .outcome) → SoundIn r
 unfolding removeSession removeOutcome
 remove-sound r fits teid added = sound-table (length (r .sessions)) (r .used) (r .config .«max_sessions») _ (fits .0) (fits .1) (added 31 (inr (inr (inr (inr refl)))))
 
 pub removed : RemoveSession
 unfolding removeSession
-removed r fits teid added = let c = removed-in r teid (remove-sound r fits teid added) in (c .0, c .1)
+removed r made teid added = let c = removed-in r teid (remove-sound r (made-fits r made) teid added) in (c .0, c .1)

@@ -1,5 +1,5 @@
--- Demand 2: "where no refusal marked added is due, the results equal the Rust's". For each ported function of the Rust, by its name, what it
--- comes to, its errors as numbers, beside document 01's definition, which is the one on the contract of the call. proofs/ proves each claim.
+-- Demand 2: "where no refusal marked added is due, the results equal the Rust's". For each ported function of the Rust, by its name: its
+-- result, with errors as numbers, equals document 01's definition, the one that the contract of the call names. proofs/ proves each claim.
 -- Assumes nothing.
 use Prim.Native.Nat.{ℕ, _%_, _≤_}
 use mathlib.Core.Path.{_≡_}
@@ -46,7 +46,7 @@ use Rattle.rust_reference.specs.Runs.{Call, Typed, answerTo, afterCall, 
 use Rattle.rust_reference.specs.Map.{Option}
 use Rattle.rust_reference.specs.Number.{outcomeBy, outcomeOf}
 use Rattle.rust_reference.specs.Answers.{rustFlow, tpduOf, inBuffer, headersOf, packetsInBuffer, reportOf}
-use Rattle.rust_reference.specs.Sessions.{Reflector, tableIn, withTable, withState, freshReflector, handling, rustAddress, rustSession, rustConfig, rustReflector, rustMessage, rustRemoved, rustAction, outcomeTo, inOutput, MaximumFits, PayloadFits, SequenceFits}
+use Rattle.rust_reference.specs.Sessions.{Reflector, tableIn, withTable, withState, freshReflector, handling, rustAddress, rustSession, rustConfig, rustReflector, rustMessage, rustRemoved, rustAction, outcomeTo, inOutput, IsMade, PayloadFits, SequenceFits}
 use Rattle.rust_reference.specs.Evidence as evidence
 use Rattle.rust_reference.specs.Gtpu as gtpu
 use Rattle.rust_reference.specs.Measurement as measurement
@@ -187,9 +187,9 @@ RefusesAsNewMulti config o =
     ((error : DataplaneTestkitError) → reflector.«new_multi» (rustConfig config) ≡ Err error → o ≡ refused invalidReflectorCapacity)
     × (o ≡ refused invalidReflectorCapacity → reflector.«new_multi» (rustConfig config) ≡ Err InvalidReflectorCapacity)
 
--- The Rust judges 30 once, when the reflector is made; here each call judges it, whatever table, message and output it is lent.
+-- The Rust judges 30 once, when it makes a reflector; here each call does, on every table and for every session, TEID, message and output.
 pub record NewMulti : Type 0 where
-  -- What is made holds what the fresh reflector holds, with any slice.
+  -- What it makes holds what the fresh reflector holds, whatever slice is lent.
   pub makes : (sessions : List ReflectorSession) (config : MultiSessionReflectorConfig) (made : reflector.GtpuReflector)
       → reflector.«new_multi» (rustConfig config) ≡ Ok made → made ≡ rustReflector (freshReflector sessions config)
   pub «register_session» : (r : Reflector) (session : ReflectorSession) → RefusesAsNewMulti (r .config) (registerSession (tableIn r) session .outcome)
@@ -199,14 +199,14 @@ pub record NewMulti : Type 0 where
 
 -- Every reflector and session: the answer, and what the Rust's reflector then holds.
 abbrev pub RegisterSession : Type 0
-RegisterSession = (r : Reflector) → MaximumFits r → (session : ReflectorSession) → NoneAdded (registerSession (tableIn r) session .outcome)
+RegisterSession = (r : Reflector) → IsMade r → (session : ReflectorSession) → NoneAdded (registerSession (tableIn r) session .outcome)
     → let after : reflector.Called (Result Bool) = reflector.«register_session» (rustReflector r) (rustSession session) in
     (outcomeOf (after .result) ≡ registerSession (tableIn r) session .outcome)
     × (after .reflector ≡ rustReflector (withTable (registerSession (tableIn r) session .table) r))
 
 -- Every TEID: the session that was removed, or none.
 abbrev pub RemoveSession : Type 0
-RemoveSession = (r : Reflector) → MaximumFits r → (teid : ℕ) → NoneAdded (removeSession (tableIn r) teid .outcome)
+RemoveSession = (r : Reflector) → IsMade r → (teid : ℕ) → NoneAdded (removeSession (tableIn r) teid .outcome)
     → let after : reflector.Called (Option reflector.ReflectorSession) = reflector.«remove_session» (rustReflector r) teid in
     (gives (after .result) ≡ outcomeTo rustRemoved (removeSession (tableIn r) teid .outcome))
     × (after .reflector ≡ rustReflector (withTable (removeSession (tableIn r) teid .table) r))
@@ -214,7 +214,7 @@ RemoveSession = (r : Reflector) → MaximumFits r → (teid : ℕ) → NoneAdded
 -- Every message, from every sender: the action, with the payload of what is sent; every byte of the output; and the Rust's reflector, with
 -- its counts and its error sequence.
 abbrev pub HandleDatagram : Type 0
-HandleDatagram = (r : Reflector) → MaximumFits r → SequenceFits r → (source : SocketAddr) (message : GtpuMessage) (payload : List ℕ) → PayloadFits payload
+HandleDatagram = (r : Reflector) → IsMade r → SequenceFits r → (source : SocketAddr) (message : GtpuMessage) (payload : List ℕ) → PayloadFits payload
     → (buffer : List ℕ) → NoneAdded (handling r source message payload buffer .outcome)
     → let after : reflector.Called (Result reflector.ReflectorAction) = reflector.«handle_datagram» (rustReflector r) (rustAddress source) (rustMessage message payload) in
     (outcomeOf (after .result) ≡ outcomeTo (rustAction payload) (handling r source message payload buffer .outcome))

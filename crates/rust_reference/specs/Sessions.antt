@@ -1,6 +1,7 @@
 -- The port's reflector, and the Rust's that holds the same: the `Vec` of sessions is the used rows of the lent slice.
 -- Assumes nothing.
 use Prim.Native.Nat.{ℕ, _<_, _≤_}
+use mathlib.Core.Path.{_≡_}
 use mathlib.Core.List.{List, map, _++_}
 use mathlib.Core.Option.{Option, some, none}
 use lib.ListN.{length, drop}
@@ -151,9 +152,9 @@ inOutput (Ok (rust.Send destination packet ErrorIndication)) buffer = packet .pa
 
 -- ---- what the Rust's types, its codec and `new_multi` see to
 
--- 30 is not due: the Rust judges it in `new_multi` alone.
-abbrev pub MaximumFits : Reflector → Type 0
-MaximumFits r = (0 < r .config .«max_sessions») × (r .config .«max_sessions» ≤ 4096)
+-- There is such a reflector in the Rust: `new_multi` makes one of this configuration.
+abbrev pub IsMade : Reflector → Type 0
+IsMade r = (made : rust.GtpuReflector) × (rust.«new_multi» (rustConfig (r .config)) ≡ Ok made)
 
 -- "a payload of at most 65,535 bytes", which is what the stand-in for the codec carries
 abbrev pub PayloadFits : List ℕ → Type 0
