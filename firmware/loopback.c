@@ -67,12 +67,11 @@ static size_t send_plan(uint8_t version, uint64_t *next_sequence, uint64_t first
     static const uint8_t near[16] = {10, 0, 0, 1}, far[16] = {10, 0, 0, 2};
     size_t length = version == 4 ? TESTKIT_IPV4_TPDU_BYTES : TESTKIT_IPV6_TPDU_BYTES;
     uint64_t first = *next_sequence;
-    struct testkit_generated g = testkit_generate(
-        version, near, far, 1000, 2000, PACKETS, RATE, first_time, first, packets, sizeof packets);
-    expect("the generator's number", g.number, TESTKIT_ACCEPTED);
-    expect("the bytes of a plan", g.bytes, PACKETS * length);
-    expect("the next sequence", g.next_sequence, first + PACKETS);
-    *next_sequence = g.next_sequence;
+    struct testkit_written w = testkit_generate(
+        version, near, far, 1000, 2000, PACKETS, RATE, first_time, next_sequence, packets, sizeof packets);
+    expect("the generator's number", w.number, TESTKIT_ACCEPTED);
+    expect("the bytes of a plan", w.bytes, PACKETS * length);
+    expect("the next sequence", *next_sequence, first + PACKETS);
     for (uint64_t k = 0; k < PACKETS; k++) {
         uint8_t src[16], dst[16];
         struct testkit_tpdu t = testkit_decode(packets + k * length, length, src, dst);
@@ -145,14 +144,20 @@ static struct testkit_report report(uint64_t window_end_ns, uint64_t lost, uint6
 }
 
 /* What a firmware's own mistakes come to: each is refused by its number, and the sheet stays. */
-static void mistakes(uint64_t next_sequence)
+static void mistakes(uint64_t *next_sequence)
 {
+    uint64_t first = *next_sequence;
     uint8_t small[TESTKIT_IPV4_TPDU_BYTES - 1], src[16] = {0}, dst[16] = {0};
     memset(small, 0x5a, sizeof small);
     expect("too short an output", testkit_build(4, src, dst, 1, 2, 3, 4, small, sizeof small).number, TESTKIT_OUTPUT_TOO_SHORT);
     expect("a byte of it", small[0], 0x5a);
-    expect("a rate of 0", testkit_generate(4, src, dst, 1, 2, 1, 0, 0, 0, packets, sizeof packets).number, TESTKIT_TARGET_RATE_IS_ZERO);
-    expect("a full sheet", enter_sent(next_sequence, 0), TESTKIT_OBSERVER_FULL);
+    struct testkit_written w = testkit_generate(4, src, dst, 1, 2, 1, 0, 0, next_sequence, packets, sizeof packets);
+    expect("a rate of 0", w.number, TESTKIT_TARGET_RATE_IS_ZERO);
+    expect("the next sequence after it", *next_sequence, first);
+    w = testkit_generate(4, src, dst, 1, 2, 2, 1, UINT64_MAX, next_sequence, packets, sizeof packets);
+    expect("a time past its top, at the second packet", w.number, TESTKIT_SEND_TIMESTAMP_OVERFLOW);
+    expect("the next sequence after it", *next_sequence, first + 2);
+    expect("a full sheet", enter_sent(*next_sequence, 0), TESTKIT_OBSERVER_FULL);
     expect("no packet", enter_tpdu(0, small, 0), TESTKIT_TRUNCATED_IP_HEADER);
     expect("an Echo Request", enter_message(0, 1, small, 0).number, TESTKIT_UNSUPPORTED_MESSAGE_TYPE);
     sheet.counts.used++;
@@ -200,7 +205,7 @@ int main(void)
     travel(length, 0);
     length = send_plan(6, &next_sequence, PACKETS * INTERVAL_NS);
     travel(length, PACKETS * INTERVAL_NS);
-    mistakes(next_sequence);
+    mistakes(&next_sequence);
 
     uint64_t end = 2 * PACKETS * INTERVAL_NS;
     struct testkit_report kept = report(end, 8, 3, 3 * INTERVAL_NS);

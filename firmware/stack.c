@@ -66,7 +66,8 @@ static void call_decode(void) { uint8_t s[16], d[16]; kept = ENTER(testkit_decod
 static void call_echo(void) { kept = ENTER(testkit_echo)(in, in_length, out, out_length).number; }
 static void call_generate(void)
 {
-    kept = ENTER(testkit_generate)(version, src, dst, 1, 2, plan_count, plan_rate, plan_time, plan_sequence, out, out_length).number;
+    uint64_t next_sequence = plan_sequence;
+    kept = ENTER(testkit_generate)(version, src, dst, 1, 2, plan_count, plan_rate, plan_time, &next_sequence, out, out_length).number;
 }
 static void call_elements(void) { kept = ENTER(testkit_validate_elements)(in, in_length); }
 static void call_sent(void) { kept = ENTER(testkit_record_sent)(SHEET, sequence, 7).number; }

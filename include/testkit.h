@@ -184,25 +184,19 @@ struct testkit_tpdu testkit_decode(const uint8_t *tpdu, size_t tpdu_length, uint
 
 /* ---- Generator ---- */
 
-/* 0 and how many bytes were written; or a refusal's number and 0. Both with the next sequence. */
-struct testkit_generated {
-    uint8_t number;
-    size_t bytes;
-    uint64_t next_sequence;
-};
-
 /*
- * Writes the packets of a plan end to end. Packet k, from 0, has the sequence next_sequence + k and the send time
+ * Writes the packets of a plan end to end. Packet k, from 0, has the sequence *next_sequence + k and the send time
  * first_send_timestamp_ns + k * (1000000000 / target_rate_pps).
  *   version .. dst_port as for testkit_build
  *   packet_count       at most TESTKIT_MAXIMUM_PACKETS; 0 writes nothing
  *   target_rate_pps    packets per second, 1 to 1000000000
- *   next_sequence      the sequence of the first packet; the caller keeps the answer's for the next plan. Sequence UINT64_MAX is never sent
+ *   next_sequence      the caller's own record of the sequence that comes next, changed in place. Lend the same place for the next plan,
+ *                      also after 19 and 20, and never restore an older copy. Sequence UINT64_MAX is never sent
  *   out                packet_count * 52 bytes (IPv4) or packet_count * 72 (IPv6): for every plan, 147456
- * Refuses by 16, 17, 18, then 19 before 20 at the first packet that either stops, then 15. After 19 at packet k the answer's next
- * sequence is next_sequence + k, after 20 it is next_sequence + k + 1; after every other refusal it is as it was. `out` stays.
+ * On success *next_sequence rises by packet_count. Refuses by 16, 17, 18, then 19 before 20 at the first packet that either stops, then
+ * 15. By 19 at packet k *next_sequence rises by k, by 20 it rises by k + 1; after every other refusal it is as it was. `out` stays.
  */
-struct testkit_generated testkit_generate(
+struct testkit_written testkit_generate(
     uint8_t version,
     const uint8_t src[16],
     const uint8_t dst[16],
@@ -211,7 +205,7 @@ struct testkit_generated testkit_generate(
     uint64_t packet_count,
     uint64_t target_rate_pps,
     uint64_t first_send_timestamp_ns,
-    uint64_t next_sequence,
+    uint64_t *next_sequence,
     uint8_t *out, size_t out_length);
 
 /* ---- Elements of a GTP-U Error Indication ---- */

@@ -3,7 +3,7 @@
 
 use testkit_open::evidence::PacketContinuityBudget;
 
-use crate::ours::{lent, Values};
+use crate::ours::{lent, Values, Written};
 
 unsafe extern "C" {
     fn testkit_generate(
@@ -15,10 +15,10 @@ unsafe extern "C" {
         packet_count: u64,
         target_rate_pps: u64,
         first_send_timestamp_ns: u64,
-        next_sequence: u64,
+        next_sequence: *mut u64,
         out: *mut u8,
         out_length: usize,
-    ) -> Generated;
+    ) -> Written;
     fn testkit_validate_elements(payload: *const u8, length: usize) -> u8;
     fn testkit_record_sent(
         sequences: *mut u64,
@@ -116,13 +116,9 @@ unsafe extern "C" {
     ) -> Report;
 }
 
-/// C's `TestkitGenerated`: 0 and how many bytes were written, or the number of a refusal and 0;
-/// and the next sequence afterwards, on refusals too.
-#[repr(C)]
+/// A generator's own record, which a call changes in place.
 #[derive(Debug, Clone, Copy, PartialEq, Eq)]
-pub struct Generated {
-    pub number: u8,
-    pub bytes: usize,
+pub struct Engine {
     pub next_sequence: u64,
 }
 
@@ -214,29 +210,39 @@ pub struct RunSheet {
     pub counts: Counts,
 }
 
-/// Writes the packets of a plan, end to end. `first` is what the first of them says.
-pub fn generate(
-    first: &Values,
-    packet_count: u64,
-    target_rate_pps: u64,
-    out: &mut [u8],
-) -> Generated {
-    // SAFETY: the call reads two addresses and writes at most `out_length` bytes to `out`; all
-    // are lent for as long as it runs, and `out` to it alone.
-    unsafe {
-        testkit_generate(
-            first.version,
-            &first.src,
-            &first.dst,
-            first.src_port,
-            first.dst_port,
-            packet_count,
-            target_rate_pps,
-            first.send_time,
-            first.sequence,
-            out.as_mut_ptr(),
-            out.len(),
-        )
+impl Engine {
+    pub fn with_first_sequence(first_sequence: u64) -> Self {
+        Self {
+            next_sequence: first_sequence,
+        }
+    }
+
+    /// Writes the packets of a plan, end to end, and moves the next sequence on. `first` is what
+    /// the first of them says; its sequence is the engine's.
+    pub fn generate(
+        &mut self,
+        first: &Values,
+        packet_count: u64,
+        target_rate_pps: u64,
+        out: &mut [u8],
+    ) -> Written {
+        // SAFETY: the call reads two addresses, writes the next sequence and at most `out_length`
+        // bytes to `out`; all are lent for as long as it runs, the last two to it alone.
+        unsafe {
+            testkit_generate(
+                first.version,
+                &first.src,
+                &first.dst,
+                first.src_port,
+                first.dst_port,
+                packet_count,
+                target_rate_pps,
+                first.send_time,
+                &mut self.next_sequence,
+                out.as_mut_ptr(),
+                out.len(),
+            )
+        }
     }
 }
 

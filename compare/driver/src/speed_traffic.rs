@@ -17,7 +17,7 @@ use opc_dataplane_testkit::traffic::{
 
 use crate::cases::ipv4_probe;
 use crate::ours::Values;
-use crate::ours_traffic::{generate, validate_elements, Counts, RunSheet};
+use crate::ours_traffic::{validate_elements, Counts, Engine, RunSheet};
 use crate::sheets::MOST_ROWS;
 
 const ROUNDS: usize = 201;
@@ -158,7 +158,10 @@ fn generator() -> Timing {
     let first = Values::from(ipv4_probe(0));
     let mut out = vec![0; 52 * MOST_ROWS];
     let (ours, rust) = take_turns(
-        || generate(black_box(&first), MOST_ROWS as u64, 1_000, &mut out),
+        || {
+            let mut engine = Engine::with_first_sequence(1);
+            engine.generate(black_box(&first), MOST_ROWS as u64, 1_000, &mut out)
+        },
         || packets(black_box(MOST_ROWS)),
     );
     ("generate, 2,048 IPv4 packets".to_string(), ours, rust)

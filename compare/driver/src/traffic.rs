@@ -1,13 +1,14 @@
-//! Our generator against the Rust's: plans at every boundary, and random ones.
+//! Our generator against the Rust's: plans at every boundary, random ones, and runs of plans on one
+//! engine.
 
 use testkit_open::traffic::TrafficPlan;
 
-use crate::ours::Values;
-use crate::ours_traffic::{self, Generated};
+use crate::ours::{Values, Written};
+use crate::ours_traffic;
 use crate::part::Part;
 use crate::random::Random;
 use crate::rust_side::measurement::{build, Probe};
-use crate::rust_side::traffic::{generate, interval};
+use crate::rust_side::traffic::{interval, Engine};
 use crate::rust_side::Outcome;
 use crate::seen::Seen;
 use crate::wild::{any_probe, any_probe_of};
@@ -23,8 +24,11 @@ const COUNT_TOO_HIGH: u8 = 18;
 const DIRT: u8 = 0xa5;
 const BEYOND: usize = 8;
 
-/// Plans at the boundaries of count, rate, sequence and time, and random plans. Every number of
-/// the generator must have been due.
+/// How many plans follow each other on one engine.
+const PLANS_OF_A_RUN: u64 = 12;
+
+/// Plans at the boundaries of count, rate, sequence and time, random plans, and runs of plans on
+/// one engine. Every number of the generator must have been due, in the runs too.
 pub fn generating(seed: u64, rounds: u64) -> Part {
     let mut part = Part::new("generator", "calls");
     let mut seen = Seen::default();
@@ -50,7 +54,13 @@ pub fn generating(seed: u64, rounds: u64) -> Part {
         let (first, count, rate) = any_plan(&mut random);
         generates(&mut part, &mut seen, &mut random, first, count, rate);
     }
-    seen.require(&mut part, [0, 15, 16, 17, 18, 19, 20]);
+    let mut seen_in_runs = Seen::default();
+    for _ in 0..rounds / (4 * PLANS_OF_A_RUN) {
+        run(&mut part, &mut seen_in_runs, &mut random);
+    }
+    for seen in [seen, seen_in_runs] {
+        seen.require(&mut part, [0, 15, 16, 17, 18, 19, 20]);
+    }
     part
 }
 
@@ -88,8 +98,7 @@ fn near_top(random: &mut Random, count: u64, step: u64) -> Vec<u64> {
 }
 
 /// Holds the packets of a plan against what is due, in an output that is longer than need be, just
-/// long enough, one byte short and empty; where a refusal is due, in a long and an empty one. All
-/// but the answer must stay as it was.
+/// long enough, one byte short and empty; where a refusal is due, in a long and an empty one.
 fn generates(
     part: &mut Part,
     seen: &mut Seen,
@@ -98,54 +107,104 @@ fn generates(
     count: u64,
     rate: u64,
 ) {
-    let tpdu = build(first);
-    let (due, next_sequence) = packets(first, count, rate);
+    let mut rust = Engine::with_first_sequence(first.sequence);
+    let due = packets(&mut rust, first, count, rate);
     let rooms = match &due {
         Ok(bytes) if bytes.is_empty() => vec![80, 0],
         Ok(bytes) => vec![bytes.len() + 80, bytes.len(), bytes.len() - 1, 0],
-        Err(_) => vec![count.min(MOST_PACKETS) as usize * tpdu.len() + 80, 0],
+        Err(_) => vec![count.min(MOST_PACKETS) as usize * build(first).len() + 80, 0],
     };
-    let mut values = Values::from(first);
-    if values.version == 4 {
-        values.src[4..].copy_from_slice(&random.bytes(12)); // only the first 4 bytes count
-        values.dst[4..].copy_from_slice(&random.bytes(12));
-    }
     for room in rooms {
-        let mut out = vec![DIRT; room + BEYOND];
-        let generated = ours_traffic::generate(&values, count, rate, &mut out[..room]);
-
-        let mut expected = vec![DIRT; room + BEYOND];
-        let due = match &due {
-            Err(number) => Generated {
-                number: *number,
-                bytes: 0,
-                next_sequence,
-            },
-            Ok(bytes) if room < bytes.len() => Generated {
-                number: OUTPUT_SHORT,
-                bytes: 0,
-                next_sequence: first.sequence,
-            },
-            Ok(bytes) => {
-                expected[..bytes.len()].copy_from_slice(bytes);
-                Generated {
-                    number: 0,
-                    bytes: bytes.len(),
-                    next_sequence,
-                }
-            }
-        };
-        seen.add(due.number);
-        let both = out.chunks(tpdu.len()).zip(expected.chunks(tpdu.len()));
-        let wrong_packet = both.into_iter().position(|(ours, due)| ours != due);
-        part.case(&tpdu, (generated, wrong_packet), (due, None));
+        let mut ours = ours_traffic::Engine::with_first_sequence(first.sequence);
+        let plan = spoiled(random, first, count, rate);
+        generates_on(part, seen, &mut ours, plan, &due, rust.next_sequence(), room);
     }
 }
 
-/// The packets that are due, end to end, and the next sequence afterwards.
-fn packets(first: Probe, count: u64, rate: u64) -> (Outcome<Vec<u8>>, u64) {
+/// Plans one after the other on one engine, ours and the Rust's, refusals between them: each call
+/// goes on from the next sequence that the last one left in place.
+fn run(part: &mut Part, seen: &mut Seen, random: &mut Random) {
+    let (start, ..) = any_plan(random);
+    let mut ours = ours_traffic::Engine::with_first_sequence(start.sequence);
+    let mut rust = Engine::with_first_sequence(start.sequence);
+    for _ in 0..PLANS_OF_A_RUN {
+        let (first, count, rate) = match (random.below(8), any_plan(random)) {
+            (0, (first, count, _)) => (first, count, 0),
+            (1, (first, count, _)) => (first, count, u64::MAX),
+            (2, (first, _, rate)) => (first, MOST_PACKETS + 1, rate),
+            (_, plan) => plan,
+        };
+        let before = rust.next_sequence();
+        let due = packets(&mut rust, first, count, rate);
+        let room = match &due {
+            Ok(bytes) => bytes.len().saturating_sub(random.below(4) / 3),
+            Err(_) => 80,
+        };
+        if due.as_ref().is_ok_and(|bytes| room < bytes.len()) {
+            rust = Engine::with_first_sequence(before); // the Rust has no 15
+        }
+        let first = Probe {
+            sequence: before,
+            ..first
+        };
+        let plan = spoiled(random, first, count, rate);
+        generates_on(part, seen, &mut ours, plan, &due, rust.next_sequence(), room);
+    }
+}
+
+/// A plan as our engine is handed it: what its first packet says, its count and its rate.
+type Plan = (Values, u64, u64);
+
+/// The plan, with bytes in its IPv4 addresses past the 4 that count.
+fn spoiled(random: &mut Random, first: Probe, count: u64, rate: u64) -> Plan {
+    let mut values = Values::from(first);
+    if values.version == 4 {
+        values.src[4..].copy_from_slice(&random.bytes(12));
+        values.dst[4..].copy_from_slice(&random.bytes(12));
+    }
+    (values, count, rate)
+}
+
+/// Holds one call on our engine, lent `room` bytes, against what is due: the answer, every byte of
+/// the output and of what lies past it, and the next sequence in the engine, on refusals too.
+fn generates_on(
+    part: &mut Part,
+    seen: &mut Seen,
+    ours: &mut ours_traffic::Engine,
+    (first, count, rate): Plan,
+    due: &Outcome<Vec<u8>>,
+    next_sequence: u64,
+    room: usize,
+) {
+    let before = ours.next_sequence;
+    let mut out = vec![DIRT; room + BEYOND];
+    let written = ours.generate(&first, count, rate, &mut out[..room]);
+
+    let mut expected = vec![DIRT; room + BEYOND];
+    let (number, bytes, next_sequence) = match due {
+        Err(number) => (*number, 0, next_sequence),
+        Ok(bytes) if room < bytes.len() => (OUTPUT_SHORT, 0, before),
+        Ok(bytes) => {
+            expected[..bytes.len()].copy_from_slice(bytes);
+            (0, bytes.len(), next_sequence)
+        }
+    };
+    seen.add(number);
+    let size = if first.version == 4 { 52 } else { 72 };
+    let both = out.chunks(size).zip(expected.chunks(size));
+    let wrong_packet = both.into_iter().position(|(ours, due)| ours != due);
+    part.case(
+        &before.to_be_bytes(),
+        (written, ours.next_sequence, wrong_packet),
+        (Written { number, bytes }, next_sequence, None),
+    );
+}
+
+/// The packets that are due, end to end, by the Rust's engine, which moves on. A count above 2,048
+/// (18, added) it does not see.
+fn packets(engine: &mut Engine, first: Probe, count: u64, rate: u64) -> Outcome<Vec<u8>> {
     if interval(rate).is_ok() && count > MOST_PACKETS {
-        return (Err(COUNT_TOO_HIGH), first.sequence);
+        return Err(COUNT_TOO_HIGH);
     }
     let plan = TrafficPlan {
         // A rate is judged before a count, which the Rust does not limit.
@@ -153,7 +212,6 @@ fn packets(first: Probe, count: u64, rate: u64) -> (Outcome<Vec<u8>>, u64) {
         target_rate_pps: rate,
         first_send_timestamp_ns: first.send_time,
     };
-    let (packets, next_sequence) = generate(first.flow, plan, first.sequence);
-    let tpdus = packets.map(|packets| packets.into_iter().flat_map(|packet| packet.tpdu).collect());
-    (tpdus, next_sequence)
+    let packets = engine.generate(first.flow, plan)?;
+    Ok(packets.into_iter().flat_map(|packet| packet.tpdu).collect())
 }

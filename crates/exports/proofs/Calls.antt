@@ -11,7 +11,7 @@ use Rattle.observer.specs.Judge.{Step}
 use Rattle.observer.specs.declared.ObserverCounts.{ObserverCounts}
 use Rattle.observer.specs.declared.Recorded.{Recorded}
 use Rattle.traffic.specs.Generate.{Generating, generated}
-use Rattle.exports.specs.Interface.{writtenNumbers, generatedNumbers, recordedNumbers, RecordedStep, messageNumbers, MessageStepNumbers}
+use Rattle.exports.specs.Interface.{writtenNumbers, GeneratedStep, recordedNumbers, RecordedStep, messageNumbers, MessageStepNumbers}
 use Rattle.continuity.specs.Answer.{messageMeans, messageRecorded}
 use Rattle.continuity.specs.Returns.{MessageStep}
 use Rattle.continuity.specs.declared.MessageRecorded.{MessageRecorded}
@@ -19,7 +19,6 @@ use Rattle.evidence.specs.declared.PacketContinuityReport.{PacketContinuityRepo
 use Rattle.exports.specs.declared.LatencyNumbers.{LatencyNumbers}
 use Rattle.exports.specs.declared.TestkitMessage.{TestkitMessage}
 use Rattle.exports.specs.declared.TestkitReport.{TestkitReport}
-use Rattle.exports.specs.declared.TestkitGenerated.{TestkitGenerated}
 use Rattle.exports.specs.declared.TestkitRecorded.{TestkitRecorded}
 use Rattle.exports.specs.declared.TestkitTpdu.{TestkitTpdu}
 use Rattle.exports.specs.declared.TestkitWritten.{TestkitWritten}
@@ -56,14 +55,13 @@ stepped r x qs ts ls ms s e p = record {
 }
 
 -- the generator: its answer, the next sequence and the buffer
-module _ (written : Written) (next : ℕ) (buffer : List ℕ) (g : Generating) (e : generated written next buffer ≡ g) where
-  pub generated-numbers : (w : TestkitWritten) → w ≡ writtenNumbers (writtenMeans written)
-      → record { number = w .number; bytes = w .bytes; «next_sequence» = next } ≡ generatedNumbers g
-  generated-numbers w p =
-      ap (λ (w : TestkitWritten). record { number = w .number; bytes = w .bytes; «next_sequence» = next }) p ∙ ap generatedNumbers e
-
-  pub generated-buffer : buffer ≡ g .buffer
-  generated-buffer = ap (λ (x : Generating). x .buffer) e
+pub generates : (r : TestkitWritten) (written : Written) (next : ℕ) (buffer : List ℕ) (g : Generating) → generated written next buffer ≡ g
+    → r ≡ writtenNumbers (writtenMeans written) → GeneratedStep r next buffer g
+generates r written next buffer g e p = record {
+  answer = p ∙ ap (λ (g : Generating). writtenNumbers (g .outcome)) e;
+  next-sequence = ap (λ (g : Generating). g .next) e;
+  output = ap (λ (g : Generating). g .buffer) e;
+}
 
 -- a message: its number, kind and type
 abbrev messageWith : ObserverCounts → ℕ → ℕ → ℕ → TestkitMessage
@@ -81,9 +79,11 @@ pub with-kind : {n m k l t u : ℕ} (c : ObserverCounts) → n ≡ m → k ≡ l
 with-kind {n} {m} {k} {l} {t} {u} c p q r = ap₂ (λ (n k : ℕ). messageWith c n k t) p q ∙ ap (messageWith c m l) r
 
 pub message-stepped : (r : TestkitMessage) (x : MessageRecorded) (qs ts ls ms : List ℕ) (s : MessageStep) → messageRecorded x qs ts ls ms ≡ s
-    → r ≡ messageNumbers (messageMeans (x .answer)) (x .counts) → MessageStepNumbers r ls ms s
+    → r ≡ messageNumbers (messageMeans (x .answer)) (x .counts) → MessageStepNumbers r qs ts ls ms s
 message-stepped r x qs ts ls ms s e p = record {
   answer = p ∙ ap (λ (s : MessageStep). messageNumbers (s .outcome) (s .observer .counts)) e;
+  sequences = ap (λ (s : MessageStep). s .observer .sequences) e;
+  send-times = ap (λ (s : MessageStep). s .observer .sendTimes) e;
   latencies = ap (λ (s : MessageStep). s .observer .latencies) e;
   marks = ap (λ (s : MessageStep). s .observer .marks) e;
 }

@@ -29,7 +29,6 @@ use Rattle.exports.specs.declared.LatencyNumbers.{LatencyNumbers}
 use Rattle.exports.specs.declared.TestkitMessage.{TestkitMessage}
 use Rattle.exports.specs.declared.TestkitReport.{TestkitReport}
 use Rattle.exports.specs.declared.TestkitCounts.{TestkitCounts}
-use Rattle.exports.specs.declared.TestkitGenerated.{TestkitGenerated}
 use Rattle.exports.specs.declared.TestkitRecorded.{TestkitRecorded}
 use Rattle.exports.specs.declared.TestkitPlanRecorded.{TestkitPlanRecorded}
 use Rattle.exports.specs.declared.TestkitReturnsRecorded.{TestkitReturnsRecorded}
@@ -59,8 +58,11 @@ testkitTpdu n = record {
 abbrev pub planOf : ℕ → ℕ → ℕ → TrafficPlan
 planOf count rate first = record { «packet_count» = count; «target_rate_pps» = rate; «first_send_timestamp_ns» = first }
 
-abbrev pub generatedNumbers : Generating → TestkitGenerated
-generatedNumbers g = record { number = writtenNumbers (g .outcome) .number; bytes = writtenNumbers (g .outcome) .bytes; «next_sequence» = g .next }
+-- The answer, the next sequence in the caller's place and the buffer, as the generator leaves them.
+pub record GeneratedStep (r : TestkitWritten) (next : ℕ) (buffer : List ℕ) (g : Generating) : Type 0 where
+  pub answer : r ≡ writtenNumbers (g .outcome)
+  pub next-sequence : next ≡ g .next
+  pub output : buffer ≡ g .buffer
 
 abbrev pub countsOf : TestkitCounts → ObserverCounts
 countsOf c = record {
@@ -144,9 +146,11 @@ messageNumbers outcome c = record {
   «gtpu_error_indications» = c .«gtpu_error_indications»;
 }
 
--- The answer to a message and the two columns that it may change.
-pub record MessageStepNumbers (r : TestkitMessage) (ls ms : List ℕ) (s : MessageStep) : Type 0 where
+-- The answer to a message and the four columns, as its step has them.
+pub record MessageStepNumbers (r : TestkitMessage) (qs ts ls ms : List ℕ) (s : MessageStep) : Type 0 where
   pub answer : r ≡ messageNumbers (s .outcome) (s .observer .counts)
+  pub sequences : qs ≡ s .observer .sequences
+  pub send-times : ts ≡ s .observer .sendTimes
   pub latencies : ls ≡ s .observer .latencies
   pub marks : ms ≡ s .observer .marks
 

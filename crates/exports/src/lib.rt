@@ -42,7 +42,7 @@ ghost use Rattle.continuity.specs.Batch.{recordReceivedTpdus, receivedAll};
 ghost use Rattle.evidence.specs.Latency.{latencyMeans};
 ghost use Rattle.report.specs.Report.{reporting};
 ghost use Rattle.report.specs.Answer.{reportedMeans};
-ghost use Rattle.exports.specs.Interface.{flowOf, writtenNumbers, testkitTpdu, planOf, generatedNumbers, countsOf, recordedNumbers, RecordedStep, planAnswer, returnsAnswer, kindNumber, ignoredType, messageNumbers, MessageStepNumbers, latencyNumbers, budgetOf, reportNumbers};
+ghost use Rattle.exports.specs.Interface.{flowOf, writtenNumbers, testkitTpdu, planOf, GeneratedStep, countsOf, recordedNumbers, RecordedStep, planAnswer, returnsAnswer, kindNumber, ignoredType, messageNumbers, MessageStepNumbers, latencyNumbers, budgetOf, reportNumbers};
 
 // What a call that writes into a lent buffer answers: 0 and how many bytes it wrote, or a refusal's number and 0 bytes.
 #[repr(C)]
@@ -134,12 +134,8 @@ pub extern "C" fn testkit_build(
         src_port: src_port,
         dst_port: dst_port,
     };
-    written_numbers(measurement_build::build_measurement_tpdu(
-        flow,
-        sequence,
-        send_timestamp_ns,
-        out,
-    ))
+    let written = measurement_build::build_measurement_tpdu(flow, sequence, send_timestamp_ns, out);
+    written_numbers(written)
 }
 
 // `measurement_echo::echo_tpdu`
@@ -170,15 +166,7 @@ pub extern "C" fn testkit_decode(tpdu: &[u8], src: &mut [u8; 16], dst: &mut [u8;
     }
 }
 
-// What generating answers, and the next sequence afterwards, on refusals too.
-#[repr(C)]
-pub struct TestkitGenerated {
-    pub number: u8,
-    pub bytes: usize,
-    pub next_sequence: u64,
-}
-
-// `traffic::generate_packets`
+// `traffic::generate_from`
 #[no_mangle]
 pub extern "C" fn testkit_generate(
     version: u8,
@@ -189,11 +177,11 @@ pub extern "C" fn testkit_generate(
     packet_count: u64,
     target_rate_pps: u64,
     first_send_timestamp_ns: u64,
-    next_sequence: u64,
+    next_sequence: &mut u64,
     out: &mut [u8],
-) -> TestkitGenerated
-    ensures answer { λ r. ⌜ r ≡ generatedNumbers (generateOf (flowOf version (now (src .entry)) (now (dst .entry)) «src_port» «dst_port») (planOf «packet_count» «target_rate_pps» «first_send_timestamp_ns») «next_sequence» (now (out .entry))) ⌝ }
-    ensures buffer { λ _. ⌜ now (out .exit) ≡ generateOf (flowOf version (now (src .entry)) (now (dst .entry)) «src_port» «dst_port») (planOf «packet_count» «target_rate_pps» «first_send_timestamp_ns») «next_sequence» (now (out .entry)) .buffer ⌝ }
+) -> TestkitWritten
+    ensures { λ r. ⌜ GeneratedStep r (now («next_sequence» .exit)) (now (out .exit))
+        (generateOf (flowOf version (now (src .entry)) (now (dst .entry)) «src_port» «dst_port») (planOf «packet_count» «target_rate_pps» «first_send_timestamp_ns») (now («next_sequence» .entry)) (now (out .entry))) ⌝ }
 {
     let flow = InnerIpFlow {
         version: measurement::version_of(version),
@@ -207,14 +195,7 @@ pub extern "C" fn testkit_generate(
         target_rate_pps: target_rate_pps,
         first_send_timestamp_ns: first_send_timestamp_ns,
     };
-    let generated = traffic::generate_packets(flow, plan, next_sequence, out);
-    let written = generated.written;
-    let answer = written_numbers(written);
-    TestkitGenerated {
-        number: answer.number,
-        bytes: answer.bytes,
-        next_sequence: generated.next_sequence,
-    }
+    written_numbers(traffic::generate_from(next_sequence, flow, plan, out))
 }
 
 // `gtpu::validate_error_indication_ies`
@@ -509,7 +490,7 @@ pub extern "C" fn testkit_record_return_gtpu_datagram(
     message_type: u8,
     payload: &[u8],
 ) -> TestkitMessage
-    ensures { λ r. ⌜ MessageStepNumbers r (now (latencies .exit)) (now (marks .exit))
+    ensures { λ r. ⌜ MessageStepNumbers r (now (sequences .entry)) (now («send_timestamps» .entry)) (now (latencies .exit)) (now (marks .exit))
         (recordReturnMessage (observerOf (now (sequences .entry)) (now («send_timestamps» .entry)) (now (latencies .entry)) (now (marks .entry)) (countsOf counts)) «return_timestamp_ns» «message_type» (now (payload .entry))) ⌝ }
 {
     message_numbers(continuity::record_return_gtpu_datagram(

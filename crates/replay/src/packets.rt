@@ -104,7 +104,8 @@ fn generate_into(number: u8, s: &[u8], out: &mut [u8]) -> bool {
     }
     let src = data::address(s, 1);
     let dst = data::address(s, 17);
-    let generated = exports::testkit_generate(
+    let mut next_sequence = data::number(s, 61);
+    let written = exports::testkit_generate(
         data::byte(s, 0),
         &src,
         &dst,
@@ -113,16 +114,16 @@ fn generate_into(number: u8, s: &[u8], out: &mut [u8]) -> bool {
         data::number(s, 37),
         data::number(s, 45),
         data::number(s, 53),
-        data::number(s, 61),
+        &mut next_sequence,
         &mut out[0..n],
     );
-    if generated.number != number {
+    if written.number != number {
         return false;
     }
-    if generated.next_sequence != data::number(s, 69) {
+    if next_sequence != data::number(s, 69) {
         return false;
     }
-    if generated.bytes != data::word(s, 77) as usize {
+    if written.bytes != data::word(s, 77) as usize {
         return false;
     }
     check::same(data::first(out, n), due)

@@ -20,16 +20,35 @@ pub fn interval(target_rate_pps: u64) -> Outcome<u64> {
     outcome(plan.interval_ns())
 }
 
-/// The packets of a plan, and the next sequence afterwards. The Rust sets room aside for all
-/// packets before it builds one: a count above 2,048, which we refuse, is not compared.
+/// The Rust's engine.
+pub struct Engine(TrafficEngine);
+
+impl Engine {
+    pub fn with_first_sequence(first_sequence: u64) -> Self {
+        Self(TrafficEngine::with_first_sequence(first_sequence))
+    }
+
+    pub fn next_sequence(&self) -> u64 {
+        self.0.open_next_sequence()
+    }
+
+    /// The packets of a plan. The Rust sets room aside for all packets before it builds one: a
+    /// count above 2,048, which we refuse, is not compared.
+    pub fn generate(&mut self, flow: Flow, plan: TrafficPlan) -> Outcome<Vec<GeneratedPacket>> {
+        outcome(self.0.generate(flow.into(), plan))
+    }
+}
+
+/// The packets of a plan by an engine that starts at this sequence, and its next sequence
+/// afterwards.
 pub fn generate(
     flow: Flow,
     plan: TrafficPlan,
-    next_sequence: u64,
+    first_sequence: u64,
 ) -> (Outcome<Vec<GeneratedPacket>>, u64) {
-    let mut engine = TrafficEngine::with_first_sequence(next_sequence);
-    let packets = outcome(engine.generate(flow.into(), plan));
-    (packets, engine.open_next_sequence())
+    let mut engine = Engine::with_first_sequence(first_sequence);
+    let packets = engine.generate(flow, plan);
+    (packets, engine.next_sequence())
 }
 
 /// A row of the run sheet. Latency is 0 where nothing has returned.
