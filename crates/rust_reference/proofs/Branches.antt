@@ -1,11 +1,11 @@
--- A branch of the Rust comes to an outcome if each of its ways does.
--- Assumes nothing.
+-- A branch of the Rust has an outcome if each of its ways has it.
 use mathlib.Core.Path.{_≡_, refl}
 use mathlib.Core.Bool.{Bool, true, false}
 use mathlib.Core.List.{List, _∷_}
-use Rattle.error.specs.Outcome.{Outcome, refused, Cause, _⇒_, firstCause}
+use Rattle.error.specs.Outcome.{Outcome, refused, gives, Cause, _⇒_, firstCause}
 use Rattle.rust_reference.specs.Error.{DataplaneTestkitError, Result, Ok, Err, returnIf, _>>_}
 use Rattle.rust_reference.specs.Number.{errorNumber, outcomeBy}
+use Rattle.rust_reference.specs.Compared.{told}
 
 -- `if test { return Err(error); } rest`
 pub unless : {A B : Type 0} (value : A → B) (test : Bool) (error : DataplaneTestkitError) (rest : Result A) (o : Outcome B)
@@ -21,6 +21,11 @@ pub row : {A B : Type 0} (value : A → B) (test : Bool) {c : Bool} (error : Dat
 unfolding firstCause
 row value test {c = true} error rest rows onward e g = rw e
 row value test {c = false} error rest rows onward e g = rw e (g refl)
+
+-- each number stands for itself
+pub told-is : {A : Type 0} (o : Outcome A) → o ≡ told o
+told-is (refused n) = refl
+told-is (gives x) = refl
 
 -- what holds of a value, if there is one
 pub data AllOk {A : Type 0} (P : A → Type 0) : Result A → Type 0 where

@@ -1,5 +1,4 @@
 -- Building: the Rust's packet, written into a vector of zeros, is the RFCs' fields in the order of their diagrams.
--- Assumes nothing.
 use Prim.Native.Nat.{ℕ}
 use native.Mathlib.Omega.{arith}
 use mathlib.Core.Path.{_≡_, refl, ap, ap₂, _∙_}

@@ -1,5 +1,4 @@
 -- 30: what `new_multi` makes of a configuration, and that each call judges its maximum alike.
--- Assumes nothing.
 use Prim.Native.Nat.{ℕ, _/_, _<_, _≤_}
 use native.Mathlib.Omega.{arith}
 use mathlib.Core.Path.{_≡_, refl, sym, ap, _∙_}

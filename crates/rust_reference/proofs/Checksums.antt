@@ -1,6 +1,5 @@
 -- The Rust's checksum over parts is RFC 1071's over the parts end to end, where its u32 cannot wrap and every part but the last has an even
 -- length.
--- Assumes nothing.
 use Prim.Native.Nat.{ℕ, zero, suc, _+_, _-_, _*_, _/_, _%_, _<_, _≤_}
 use native.Mathlib.Omega.{arith}
 use mathlib.Core.Path.{_≡_, refl, sym, ap, _∙_, subst}

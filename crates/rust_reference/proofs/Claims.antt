@@ -1,11 +1,10 @@
 -- The claims of specs/Claims.antt, together.
--- Assumes nothing.
 use mathlib.Core.Path.{refl}
 use Rattle.rust_reference.specs.Claims.{EqualsTheRust}
 use Rattle.rust_reference.proofs.Building.{encoded, build}
 use Rattle.rust_reference.proofs.Capacity.{new-multi}
 use Rattle.rust_reference.proofs.Checksums.{of-parts}
-use Rattle.rust_reference.proofs.Decoding.{decoded}
+use Rattle.rust_reference.proofs.Decoding.{decoded-told}
 use Rattle.rust_reference.proofs.Echoing.{turned-round, echoed}
 use Rattle.rust_reference.proofs.Elements.{validate}
 use Rattle.rust_reference.proofs.Generating.{interval-ns, generated}
@@ -24,7 +23,7 @@ equals-the-rust = record {
   encode = encoded;
   checksum = of-parts;
   «build_measurement_tpdu» = build;
-  «decode_measurement_tpdu» = decoded;
+  «decode_measurement_tpdu» = decoded-told;
   «echo_tpdu» = echoed;
   «validate_error_indication_ies» = validate;
   «interval_ns» = interval-ns;

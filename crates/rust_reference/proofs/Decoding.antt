@@ -1,5 +1,4 @@
 -- Decoding: the Rust's tests are document 01's rows, one by one.
--- Assumes nothing.
 use Prim.Native.Nat.{ℕ, suc, _+_, _-_, _*_, _/_, _%_, _<_, _≤_}
 use native.Mathlib.Nat.{add-zero}
 use native.Mathlib.Omega.{arith}
@@ -29,7 +28,7 @@ use Rattle.rust_reference.specs.Number.{outcomeBy}
 use Rattle.rust_reference.specs.Values.{index, range, same, «u16_at»}
 use Rattle.rust_reference.specs.Answers.{tpduOf}
 use Rattle.rust_reference.specs.Measurement as rust
-use Rattle.rust_reference.proofs.Branches.{unless, row}
+use Rattle.rust_reference.proofs.Branches.{unless, row, told-is}
 use Rattle.rust_reference.proofs.Checksums.{of-one, of-two}
 
 -- a u16 is the field of two bytes
@@ -275,7 +274,7 @@ module _ (p : List ℕ) (b : Bytes p) where
           rw (u16-is p 4, e) (or-turned (ltb (length p) (field 2 4 p + 40)) (ltb (field 2 4 p) 8))
 
 -- the whole
-pub decoded : DecodeMeasurementTpdu
+pub decoded : (p : List ℕ) → Bytes p → outcomeBy tpduOf (rust.«decode_measurement_tpdu» p) ≡ readOf p
 unfolding rust.«decode_measurement_tpdu»
 decoded p b =
     unless tpduOf (eqb (length p) 0) _ _ _ (λ e. row-1 p (eqb-true (length p) 0 e))
@@ -289,3 +288,6 @@ decoded p b =
     by h true e u f = ipv4-read p b ∙ version-4 p h refl (eqb-true (index p 0 / 16) 4 e)
     by h false e true f = ipv6-read p b ∙ version-6 p h refl (eqb-true (index p 0 / 16) 6 f)
     by h false e false f = row-2 p h refl (eqb-false (index p 0 / 16) 4 e) (eqb-false (index p 0 / 16) 6 f)
+
+pub decoded-told : DecodeMeasurementTpdu
+decoded-told p b = decoded p b ∙ told-is (readOf p)

@@ -1,5 +1,4 @@
 -- The echo: what the Rust decoded has whole addresses, so it builds what document 01 builds.
--- Assumes nothing.
 use Prim.Native.Nat.{ℕ, _+_, _*_, _%_, _/_, _≤_}
 use native.Mathlib.Omega.{arith}
 use mathlib.Core.Path.{_≡_, refl, sym, ap, _∙_}
@@ -27,7 +26,7 @@ use Rattle.rust_reference.specs.Number.{outcomeBy, outcomeOf}
 use Rattle.rust_reference.specs.Values.{index, range, «u16_at»}
 use Rattle.rust_reference.specs.Answers.{rustFlowOf, flowOf, tpduOf, inBuffer}
 use Rattle.rust_reference.specs.Measurement as rust
-use Rattle.rust_reference.proofs.Branches.{AllOk, all, none}
+use Rattle.rust_reference.proofs.Branches.{told-is, AllOk, all, none}
 use Rattle.rust_reference.proofs.Building.{built4, built6, laid}
 use Rattle.rust_reference.proofs.Decoding.{decoded}
 
@@ -149,7 +148,7 @@ built d w = of (d .flow) w
     of (rust.Ipv6 src dst sport dport) w =
         rw (again6 src (unfold Whole in w .2), again6 dst (unfold Whole in w .3)) (made6 dst src dport sport (d .measurement) (turned 16 src dst w))
 
--- what the Rust's echo comes to
+-- the outcome of the Rust's echo
 pub echo-outcome : (p : List ℕ) → Bytes p → outcomeOf (rust.«echo_tpdu» p) ≡ echoOf p
 unfolding rust.«echo_tpdu» echoOf
 echo-outcome p b = of (rust.«decode_measurement_tpdu» p) (whole p b) (readOf p) (decoded p b)
@@ -184,7 +183,8 @@ echo-short p bytes e = of (readOf p) e
 
 pub echoed : EchoTpdu
 unfolding writingOf
-echoed p b buffer added = of (rust.«echo_tpdu» p) (echoOf p) (echo-outcome p b) added
+echoed p b buffer added =
+    of (rust.«echo_tpdu» p) (echoOf p) (echo-outcome p b) added ∙ ap (λ (o : Outcome (List ℕ)). writingOf o buffer) (told-is (echoOf p))
   where
     of : (r : Result (List ℕ)) (o : Outcome (List ℕ)) → outcomeOf r ≡ o → NoneAdded (writingOf o buffer .outcome) → inBuffer r buffer ≡ writingOf o buffer
     of (Ok bytes) o e added = rw (← e) (laid (Ok bytes) bytes buffer refl (rw (← e) at added))

@@ -1,5 +1,4 @@
 -- The element walk: the Rust's loop over offsets is document 01's walk on the rest.
--- Assumes nothing.
 use Prim.Native.Nat.{ℕ, zero, suc, _+_, _-_, _<_, _≤_}
 use native.Mathlib.Omega.{arith}
 use native.Mathlib.Decide.{decLe, decLt, ℕ-discrete}
@@ -88,7 +87,7 @@ module _ (payload : List ℕ) (offset : ℕ) (inside : offset < length payload) 
   no-length-asked : (n : ℕ) → (elementType rest ≡ 133 → ⊥) → otherLength (elementType rest) n ≡ false
   no-length-asked n h = rw (ne-eqb (elementType rest) 133 h)
 
-  -- one turn of the loop, where those that follow come to what is left
+  -- one turn of the loop, where those that follow give what is left
   module _ (turns : ℕ) (t p : Bool)
       (next : (end : ℕ) (t p : Bool) → offset < end → outcomeOf («while_ies» turns payload end t p) ≡ elementsFrom t p (drop end payload)) where
     abbrev n : ℕ

@@ -1,5 +1,4 @@
--- The generator: the Rust's loop comes to the first cause of document 01's rows, or to all packets.
--- Assumes nothing.
+-- The generator: the Rust's loop gives the first cause of document 01's rows, or all packets.
 use Prim.Native.Nat.{ℕ, zero, suc, _+_, _*_, _<_, _≤_}
 use native.Mathlib.Omega.{arith}
 use mathlib.Core.Path.{_≡_, refl, sym, ap, ap₂, _∙_, subst}
@@ -97,7 +96,7 @@ module _ (flow : InnerIpFlow) (plan : TrafficPlan) (p : Bytes (flow .src)) (q : 
     turn-on a b c =
         rw (checked-fits (s + 1) (Overflow error.sequence) a, checked-fits (k * i) (Overflow error.«send_timestamp_ns») b, checked-fits (first + k * i) (Overflow error.«send_timestamp_ns») c, vec-is flow s (first + k * i) p q)
 
-  -- what the loop comes to: a judgement, and bytes that are built from it
+  -- what the loop gives: a judgement, and bytes that are built from it
   record Comes (g : Generated) (j : Judged) : Type 0 where
     judged : judgedOf g ≡ j
     built : AllOk (λ packets. vecs packets ≡ endToEnd flow (headersOf packets)) (g .result)

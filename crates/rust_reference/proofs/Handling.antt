@@ -1,5 +1,4 @@
 -- A message: each arm of the Rust's match has document 01's answer, counts and error sequence.
--- Assumes nothing.
 use Prim.Native.Nat.{ℕ, _+_, _<_, _≤_}
 use native.Mathlib.Omega.{arith}
 use mathlib.Core.Path.{_≡_, refl, sym, ap, ap₂, _∙_, subst}
@@ -47,6 +46,7 @@ use Rattle.rust_reference.specs.Number.{outcomeOf}
 use Rattle.rust_reference.specs.Reflector as rust
 use Rattle.rust_reference.specs.Sessions.{Reflector, tableIn, withState, handling, rustIp, rustAddress, rustSession, rustPolicy, rustReflector, rustSequence, rustMessage, rustRemoved, rustAction, outcomeTo, inOutput, PayloadFits, SequenceFits}
 use Rattle.rust_reference.specs.Values.{«saturating_add»}
+use Rattle.rust_reference.proofs.Branches.{told-is}
 use Rattle.rust_reference.proofs.Capacity.{Fits, made-fits, sound-table}
 use Rattle.rust_reference.proofs.Echoing.{echo-outcome, echo-short}
 use Rattle.rust_reference.proofs.Registering.{SoundIn, find-same}
@@ -269,7 +269,8 @@ module _ (r : Reflector) (source : SocketAddr) (message : GtpuMessage) (payload 
 pub handled : HandleDatagram
 handled r made sequence source message payload b buffer added =
     let ready = handle-ready r source message payload buffer (made-fits r made) added in
-    handled-in r source message payload buffer (ready .0) (ready .1) sequence b
+    let c = handled-in r source message payload buffer (ready .0) (ready .1) sequence b in
+    (c .0 ∙ ap (outcomeTo (rustAction payload)) (told-is (handling r source message payload buffer .outcome)), c .1, c .2)
 
 -- ---- the error sequence stays a u16
 

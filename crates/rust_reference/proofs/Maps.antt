@@ -1,5 +1,4 @@
--- Maps and rows: where a sequence stands among rows that rise, and what the operations of the Rust's maps come to there.
--- Assumes nothing.
+-- Maps and rows: where a sequence stands among rows that rise, and what the operations of the Rust's maps do there.
 use Prim.Native.Nat.{ℕ, suc, _-_, _<_, _≤_, max}
 use native.Mathlib.Decide.{decLt, ℕ-discrete}
 use native.Mathlib.Omega.{arith}

@@ -1,5 +1,4 @@
 -- The observer: each call on a sheet that holds what the Rust's maps hold has the Rust's answer, and leaves it so.
--- Assumes nothing.
 use Prim.Native.Nat.{ℕ, _+_, _-_, _<_, _≤_, min, max}
 use native.Mathlib.Omega.{arith}
 use mathlib.Core.Path.{_≡_, refl, sym, ap, _∙_, subst}
@@ -42,6 +41,7 @@ use Rattle.rust_reference.specs.Answers.{tpduOf}
 use Rattle.rust_reference.specs.Gtpu.{«validate_error_indication_ies»}
 use Rattle.rust_reference.specs.Measurement as measurement
 use Rattle.rust_reference.specs.Traffic.{ContinuityObserver, Recorded, tried, «ok_or», «checked_sub», «record_sent», duplicate, «first_return», «record_received_tpdu», «error_indication», «record_return_gtpu_datagram»}
+use Rattle.rust_reference.proofs.Branches.{told-is}
 use Rattle.rust_reference.proofs.Decoding.{decoded}
 use Rattle.rust_reference.proofs.Elements.{validate}
 use Rattle.rust_reference.proofs.Maps.{Located, found, absent, locate, get-found, insert-found, received-resent, contains-found, insert-received, sent-returned, get-absent, insert-absent, received-entered, row-found, set-found, put-absent, late-is, insert-fits, highest-insert}
@@ -301,7 +301,7 @@ module _ (rust : ContinuityObserver) (o : Observer) (same : Same rust o) (t : �
   received-step tpdu b = received-as (measurement.«decode_measurement_tpdu» tpdu) (sequenceRead tpdu) (sequence-read tpdu (measurement.«decode_measurement_tpdu» tpdu) (decoded tpdu b))
 
 pub received-same : RecordReceivedTpdu
-received-same rust o same t fits tpdu b = let a = received-step rust o same t fits tpdu b in (a .answer, a .same)
+received-same rust o same t fits tpdu b = let a = received-step rust o same t fits tpdu b in (a .answer ∙ told-is _, a .same)
 
 -- ---- a message
 
@@ -362,4 +362,4 @@ module _ (rust : ContinuityObserver) (o : Observer) (same : Same rust o) where
       (branch o (eqb ty 254 || eqb ty 31) _ _ _ _ (noted (Ok (Ignored ty))) (noted (Err (InvalidPacket error.unsupported-GTP-U-return-message-type))))))
 
 pub message-same : RecordReturnGtpuDatagram
-message-same rust o same t fits ty payload b = let a = message-step rust o same t fits ty payload b in (a .answer, a .same)
+message-same rust o same t fits ty payload b = let a = message-step rust o same t fits ty payload b in (a .answer ∙ told-is _, a .same)

@@ -1,5 +1,4 @@
 -- Lists of the reflector's calls: call by call, both sides answer alike and hold the same.
--- Assumes nothing.
 use Prim.Native.Nat.{ℕ}
 use native.Mathlib.Omega.{arith}
 use mathlib.Core.Path.{_≡_, refl, ap, ap₂, _∙_}
@@ -10,10 +9,12 @@ use Rattle.reflector_sessions.specs.Register.{registerSession}
 use Rattle.reflector_sessions.specs.Remove.{removeSession}
 use Rattle.reflector_sessions.specs.declared.ReflectorSession.{ReflectorSession}
 use Rattle.rust_reference.specs.Claims.{NoneAdded, AllCallsTyped, NoneAddedInCalls, AllOutputsFit, ReflectorRuns, ReflectorRunsWithRoom}
+use Rattle.rust_reference.specs.Compared.{told}
 use Rattle.rust_reference.specs.Error.{Ok}
 use Rattle.rust_reference.specs.Reflecting.{Call, register, remove, handle, Typed, OutputFits, Given, registered, removed, acted, Answer, answerTo, afterCall, answersTo, after, rustAnswerTo, rustAfterCall, rustAnswersTo, rustAfter}
 use Rattle.rust_reference.specs.Reflector as rust
 use Rattle.rust_reference.specs.Sessions.{Reflector, tableIn, handling, freshReflector, rustConfig, rustReflector, rustRemoved, rustAction, outcomeTo, SequenceFits}
+use Rattle.rust_reference.proofs.Branches.{told-is}
 use Rattle.rust_reference.proofs.Capacity.{Fits, made-is}
 use Rattle.rust_reference.proofs.Handling.{handle-ready, handled-in, handled-fits}
 use Rattle.rust_reference.proofs.Registering.{SoundIn, register-sound, registered-in}
@@ -54,7 +55,7 @@ call-same r s sequence (remove teid) typed long =
 call-same r s sequence (handle source message payload buffer) typed long =
     let c = handled-in r source message payload buffer s long sequence typed in
     record {
-      answer = ap₂ answer-of (ap (outcomeTo acted) (c .0)) (c .1);
+      answer = ap₂ answer-of (ap (outcomeTo acted) (c .0 ∙ ap (outcomeTo (rustAction payload)) (told-is (handling r source message payload buffer .outcome)))) (c .1);
       left = c .2;
       sound = s;
       sequence = handled-fits r source message payload buffer s long sequence;
@@ -68,7 +69,8 @@ call-ready r fits (remove teid) added =
     (remove-sound r fits teid (none-before rustRemoved o (none-before removed (outcomeTo rustRemoved o) added)), tt)
 call-ready r fits (handle source message payload buffer) added =
     let o = handling r source message payload buffer .outcome in
-    handle-ready r source message payload buffer fits (none-before (rustAction payload) o (none-before acted (outcomeTo (rustAction payload) o) added))
+    let before : NoneAdded (told o) = none-before (rustAction payload) (told o) (none-before acted (outcomeTo (rustAction payload) (told o)) added) in
+    handle-ready r source message payload buffer fits (λ n a e. before n a (ap told e))
 
 abbrev RunsAlike : Reflector → List Call → Type 0
 RunsAlike r calls = (rustAnswersTo (rustReflector r) calls ≡ answersTo r calls) × (rustAfter (rustReflector r) calls ≡ rustReflector (after r calls))

@@ -1,5 +1,4 @@
 -- The reflector's sessions: a search of the `Vec` and one of the used rows find the same, and registering answers alike and leaves the same.
--- Assumes nothing.
 use Prim.Native.Nat.{ℕ, suc, _+_, _<_}
 use native.Mathlib.Omega.{arith}
 use mathlib.Core.Path.{_≡_, refl, sym, ap, _∙_, subst}

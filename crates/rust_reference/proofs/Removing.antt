@@ -1,5 +1,4 @@
 -- Removal: the place of a TEID is the same in the `Vec` and among the used rows, and `swap_remove` there leaves the used rows of the port.
--- Assumes nothing.
 use Prim.Native.Nat.{ℕ, zero, suc, _-_, _<_}
 use native.Mathlib.Omega.{arith}
 use mathlib.Core.Path.{_≡_, refl, sym, ap, _∙_, subst}

@@ -1,5 +1,4 @@
--- The report: the Rust's loops over its maps come to document 01's numbers over the rows.
--- Assumes nothing.
+-- The report: the Rust's loops over its maps give document 01's numbers over the rows.
 use Prim.Native.Nat.{ℕ, suc, _+_, _-_, _*_, _/_, _%_, _<_, _≤_, min, max}
 use native.Mathlib.Nat.{div-le-of-le-mul, min-eq-left, le-trans}
 use native.Mathlib.Omega.{arith}

@@ -1,6 +1,5 @@
 -- The Rust's values as the port has them ("What must change shape", document 01): flows and T-PDUs; `Vec`s in a lent buffer;
 -- the report.
--- Assumes nothing.
 use Prim.Native.Nat.{ℕ}
 use mathlib.Core.List.{List, [], _∷_, _++_, map}
 use lib.ListN.{length, drop}

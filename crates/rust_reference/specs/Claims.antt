@@ -1,6 +1,5 @@
 -- Demand 2: "where no refusal marked added is due, the results equal the Rust's". For each ported function of the Rust, by its name: its
 -- result, with errors as numbers, equals document 01's definition, the one that the contract of the call names. proofs/ proves each claim.
--- Assumes nothing.
 use Prim.Native.Nat.{ℕ, _%_, _≤_}
 use mathlib.Core.Path.{_≡_}
 use mathlib.Core.List.{List, [], _∷_, flatten}
@@ -45,6 +44,7 @@ use Rattle.rust_reference.specs.Sheet.{receivedOf, ValuesFit, Same, rust
 use Rattle.rust_reference.specs.Runs.{Call, Typed, answerTo, afterCall, answersTo, after, rustAnswersTo, rustAfter}
 use Rattle.rust_reference.specs.Map.{Option}
 use Rattle.rust_reference.specs.Number.{outcomeBy, outcomeOf}
+use Rattle.rust_reference.specs.Compared.{Compared, told}
 use Rattle.rust_reference.specs.Answers.{rustFlow, tpduOf, inBuffer, headersOf, packetsInBuffer, reportOf}
 use Rattle.rust_reference.specs.Sessions.{Reflector, tableIn, withTable, withState, freshReflector, handling, rustAddress, rustSession, rustConfig, rustReflector, rustMessage, rustRemoved, rustAction, outcomeTo, inOutput, IsMade, PayloadFits, SequenceFits}
 use Rattle.rust_reference.specs.Evidence as evidence
@@ -94,13 +94,13 @@ BuildMeasurementTpdu = (flow : InnerIpFlow) (sequence time : ℕ) → InRange fl
     → NoneAdded (writing (buildOf flow sequence time) buffer .outcome)
     → inBuffer (measurement.«build_measurement_tpdu» (rustFlow flow) sequence time) buffer ≡ writing (buildOf flow sequence time) buffer
 
--- Every T-PDU, whatever its bytes and its length.
 abbrev pub DecodeMeasurementTpdu : Type 0
-DecodeMeasurementTpdu = (tpdu : List ℕ) → Bytes tpdu → outcomeBy tpduOf (measurement.«decode_measurement_tpdu» tpdu) ≡ readOf tpdu
+DecodeMeasurementTpdu = (tpdu : List ℕ) → Compared tpdu
+    → outcomeBy tpduOf (measurement.«decode_measurement_tpdu» tpdu) ≡ told (readOf tpdu)
 
 abbrev pub EchoTpdu : Type 0
-EchoTpdu = (tpdu : List ℕ) → Bytes tpdu → (buffer : List ℕ) → NoneAdded (writingOf (echoOf tpdu) buffer .outcome)
-    → inBuffer (measurement.«echo_tpdu» tpdu) buffer ≡ writingOf (echoOf tpdu) buffer
+EchoTpdu = (tpdu : List ℕ) → Compared tpdu → (buffer : List ℕ) → NoneAdded (writingOf (echoOf tpdu) buffer .outcome)
+    → inBuffer (measurement.«echo_tpdu» tpdu) buffer ≡ writingOf (told (echoOf tpdu)) buffer
 
 -- ---- gtpu.rs
 
@@ -139,15 +139,16 @@ RecordSent = (rust : traffic.ContinuityObserver) (o : Observer) → Same rust o 
 
 -- Neither return call has an added refusal: 21 is not due on a related sheet.
 abbrev pub RecordReceivedTpdu : Type 0
-RecordReceivedTpdu = (rust : traffic.ContinuityObserver) (o : Observer) → Same rust o → (time : ℕ) → time ≤ «u64_max» → (tpdu : List ℕ) → Bytes tpdu
+RecordReceivedTpdu = (rust : traffic.ContinuityObserver) (o : Observer) → Same rust o → (time : ℕ) → time ≤ «u64_max» → (tpdu : List ℕ) → Compared tpdu
     → let after : traffic.Recorded (Unit {0}) = traffic.«record_received_tpdu» rust time tpdu in
-    (outcomeOf (after .result) ≡ recordReceivedTpdu o time tpdu .outcome) × Same (after .observer) (recordReceivedTpdu o time tpdu .observer)
+    (outcomeOf (after .result) ≡ told (recordReceivedTpdu o time tpdu .outcome)) × Same (after .observer) (recordReceivedTpdu o time tpdu .observer)
 
 abbrev pub RecordReturnGtpuDatagram : Type 0
 RecordReturnGtpuDatagram = (rust : traffic.ContinuityObserver) (o : Observer) → Same rust o → (time : ℕ) → time ≤ «u64_max»
-    → (messageType : ℕ) (payload : List ℕ) → Bytes payload
+    → (messageType : ℕ) (payload : List ℕ) → Compared payload
     → let after : traffic.Recorded GtpuReturnDatagramOutcome = traffic.«record_return_gtpu_datagram» rust time messageType payload in
-    (outcomeOf (after .result) ≡ recordReturnMessage o time messageType payload .outcome) × Same (after .observer) (recordReturnMessage o time messageType payload .observer)
+    (outcomeOf (after .result) ≡ told (recordReturnMessage o time messageType payload .outcome))
+    × Same (after .observer) (recordReturnMessage o time messageType payload .observer)
 
 -- Every window and budget.
 abbrev pub Report : Type 0
@@ -165,8 +166,8 @@ abbrev pub NoneAddedIn : Observer → List Call → Type 0
 NoneAddedIn o [] = Unit {0}
 NoneAddedIn o (call ∷ calls) = NoneAdded (answerTo o call) × NoneAddedIn (afterCall o call) calls
 
--- Every list of calls on a fresh sheet of any columns: every answer, each report on the way among them, is the Rust's, and what is left is
--- related.
+-- Every list of calls on a fresh sheet of any columns: every answer, each report on the way among them, is the Rust's, and the
+-- observers that are left hold the same.
 abbrev pub Runs : Type 0
 Runs = (qs ts ls ms : List ℕ) (calls : List Call) → AllTyped calls → NoneAddedIn (observerOf qs ts ls ms fresh) calls
     → (rustAnswersTo traffic.new calls ≡ answersTo (observerOf qs ts ls ms fresh) calls)
@@ -184,15 +185,18 @@ RunsUpTo2048 = (qs ts ls ms : List ℕ) → 2048 ≤ length qs → 2048 ≤ leng
 -- A call refuses by 30 where `new_multi` makes no reflector of the configuration, and nowhere else.
 abbrev pub RefusesAsNewMulti : {A : Type 0} → MultiSessionReflectorConfig → Outcome A → Type 0
 RefusesAsNewMulti config o =
-    ((error : DataplaneTestkitError) → reflector.«new_multi» (rustConfig config) ≡ Err error → o ≡ refused invalidReflectorCapacity)
+    ((error : DataplaneTestkitError) → reflector.«new_multi» (rustConfig config) ≡ Err error
+    → o ≡ refused invalidReflectorCapacity)
     × (o ≡ refused invalidReflectorCapacity → reflector.«new_multi» (rustConfig config) ≡ Err InvalidReflectorCapacity)
 
--- The Rust judges 30 once, when it makes a reflector; here each call does, on every table and for every session, TEID, message and output.
+-- The Rust judges 30 once, when it makes a reflector; here each call does, on every table and for every session, TEID, message
+-- and output.
 pub record NewMulti : Type 0 where
   -- What it makes holds what the fresh reflector holds, whatever slice is lent.
   pub makes : (sessions : List ReflectorSession) (config : MultiSessionReflectorConfig) (made : reflector.GtpuReflector)
       → reflector.«new_multi» (rustConfig config) ≡ Ok made → made ≡ rustReflector (freshReflector sessions config)
-  pub «register_session» : (r : Reflector) (session : ReflectorSession) → RefusesAsNewMulti (r .config) (registerSession (tableIn r) session .outcome)
+  pub «register_session» : (r : Reflector) (session : ReflectorSession)
+      → RefusesAsNewMulti (r .config) (registerSession (tableIn r) session .outcome)
   pub «remove_session» : (r : Reflector) (teid : ℕ) → RefusesAsNewMulti (r .config) (removeSession (tableIn r) teid .outcome)
   pub «handle_datagram» : (r : Reflector) (source : SocketAddr) (message : GtpuMessage) (payload buffer : List ℕ)
       → RefusesAsNewMulti (r .config) (handling r source message payload buffer .outcome)
@@ -217,7 +221,7 @@ abbrev pub HandleDatagram : Type 0
 HandleDatagram = (r : Reflector) → IsMade r → SequenceFits r → (source : SocketAddr) (message : GtpuMessage) (payload : List ℕ) → PayloadFits payload
     → (buffer : List ℕ) → NoneAdded (handling r source message payload buffer .outcome)
     → let after : reflector.Called (Result reflector.ReflectorAction) = reflector.«handle_datagram» (rustReflector r) (rustAddress source) (rustMessage message payload) in
-    (outcomeOf (after .result) ≡ outcomeTo (rustAction payload) (handling r source message payload buffer .outcome))
+    (outcomeOf (after .result) ≡ outcomeTo (rustAction payload) (told (handling r source message payload buffer .outcome)))
     × (inOutput (after .result) buffer ≡ placed (handling r source message payload buffer .outcome) buffer)
     × (after .reflector ≡ rustReflector (withState (handling r source message payload buffer .state) r))
 

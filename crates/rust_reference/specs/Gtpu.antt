@@ -2,7 +2,6 @@
 -- `validate_error_indication_ies`, lines 109 to 189.
 -- Offsets are `usize` there, and every `checked_add` succeeds: an offset is at most the payload's length when 65,538 at most is added to it,
 -- and a slice of bytes has fewer than 2^63.
--- Assumes nothing.
 use Prim.Native.Nat.{ℕ, zero, suc, _+_}
 use mathlib.Core.List.{List, [], _∷_}
 use mathlib.Core.Bool.{Bool, true, false, not, _&&_}
@@ -38,7 +37,8 @@ pub record GtpuMessage : Type 0 where
   pub «sequence_number» : Option ℕ
   pub payload : List ℕ
 
--- lines 191 to 227. The codec is document 01's stand-in for it, which carries a payload of at most 65,535 bytes and refuses a longer one.
+-- lines 191 to 227. In the codec's place is document 01's stand-in, which carries "a payload of at most 65,535 bytes" and refuses
+-- a longer one.
 abbrev pub «encode_message» : ℕ → ℕ → Option ℕ → List ℕ → Result GtpuMessage
 «encode_message» message-type teid sequence-number payload = do
   returnIf (ltb 65535 (length payload)) GtpuEncode
@@ -63,8 +63,8 @@ unfoldable pub «required_ies» : Bool → Bool → Result (Unit {0})
   returnIf (not has-peer-address) (InvalidPacket Error-Indication-missing-GTP-U-Peer-Address-IE)
   Ok tt
 
--- lines 114 to 176: `while offset < payload.len()`, at most so many turns. Each turn raises the offset, so the payload's length is enough of
--- them.
+-- lines 114 to 176: `while offset < payload.len()`, with a bound on the turns. Each turn raises the offset, so the payload's length is
+-- bound enough.
 unfoldable pub «while_ies» : ℕ → List ℕ → ℕ → Bool → Bool → Result (Unit {0})
 «while_ies» zero payload offset has-teid-data has-peer-address = «required_ies» has-teid-data has-peer-address
 «while_ies» (suc turns) payload offset has-teid-data has-peer-address =

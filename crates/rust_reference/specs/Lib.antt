@@ -3,6 +3,7 @@ pub mod Error
 pub mod Values
 pub mod Map
 pub mod Number
+pub mod Compared
 pub mod Gtpu
 pub mod Measurement
 pub mod Evidence

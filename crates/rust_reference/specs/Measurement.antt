@@ -1,6 +1,5 @@
 -- The Rust's measurement.rs: `build_measurement_tpdu` (lines 153 to 163), `decode_measurement_tpdu` (166 to 175), `echo_tpdu` (178 to 182) and
 -- what they call. Lengths are `usize` there, and no `checked_add` of them fails.
--- Assumes nothing.
 use Prim.Native.Nat.{ℕ, zero, suc, _+_, _-_, _*_, _/_, _%_}
 use mathlib.Core.List.{List, [], _∷_, _++_}
 use mathlib.Core.Bool.{true, false, not, _||_, _&&_}
@@ -69,7 +68,7 @@ unfoldable pub «add_parts» : ℕ → List (List ℕ) → ℕ
 «add_parts» sum [] = sum
 «add_parts» sum (part ∷ parts) = «add_parts» («add_part» sum part) parts
 
--- lines 470 to 472: `while (sum >> 16) != 0`, at most so many turns. Each turn makes the sum less.
+-- lines 470 to 472: `while (sum >> 16) != 0`, with a bound on the turns. Each turn makes the sum less.
 unfoldable pub «while_carries» : ℕ → ℕ → ℕ
 «while_carries» zero sum = sum
 «while_carries» (suc turns) sum = elim (eqb (sum / 65536) 0) [ true ↦ sum | false ↦ «while_carries» turns (sum % 65536 + sum / 65536) ]

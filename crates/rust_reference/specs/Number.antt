@@ -1,5 +1,4 @@
 -- Each of the Rust's error values as document 01's number ("Text reasons become numbers").
--- Assumes nothing.
 use Prim.Native.Nat.{ℕ}
 use Rattle.error.specs.Number.{truncatedIpHeader, unsupportedIpVersion, truncatedIpv4Header, invalidIpv4Ihl, invalidIpv4TotalLength, payloadIsNotUdp, invalidIpv4HeaderChecksum, truncatedIpv6UdpPacket, invalidIpv6PayloadLength, invalidUdpLength, ipv6UdpChecksumIsZero, invalidUdpChecksum, truncatedMeasurementHeader, measurementMagicMismatch, targetRateIsZero, targetRateExceedsResolution, sequenceOverflow, sendTimestampOverflow, sequenceWasNotSent, timestampReversed, truncatedElement, invalidPeerAddressLength, unsupportedFixedLengthElement, missingTeidDataI, missingPeerAddress, invalidReflectorCapacity, invalidReflectorSession, reflectorSessionConflict, reflectorSessionCapacityExceeded, echoRequestTeidNotZero, echoRequestMissingSequence, unsupportedMessageType}
 use Rattle.error.specs.Outcome.{Outcome, refused, gives}

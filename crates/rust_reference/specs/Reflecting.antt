@@ -1,5 +1,4 @@
 -- Lists of the reflector's calls, each on what the last one left, by document 01's definitions and by the Rust's.
--- Assumes nothing.
 use Prim.Native.Nat.{ℕ, _≤_}
 use mathlib.Core.List.{List, [], _∷_}
 use mathlib.Core.Bool.{Bool}
@@ -13,6 +12,7 @@ use Rattle.reflector_sessions.specs.declared.ReflectorSession.{ReflectorSession
 use Rattle.reflector_sessions.specs.declared.SocketAddr.{SocketAddr}
 use Rattle.rust_reference.specs.Map.{Option}
 use Rattle.rust_reference.specs.Number.{outcomeOf}
+use Rattle.rust_reference.specs.Compared.{told}
 use Rattle.rust_reference.specs.Reflector as rust
 use Rattle.rust_reference.specs.Sessions.{Reflector, tableIn, withTable, withState, handling, rustAddress, rustSession, rustMessage, rustRemoved, rustAction, outcomeTo, inOutput, PayloadFits}
 
@@ -22,7 +22,7 @@ pub data Call : Type 0 where
   remove : ℕ → Call
   handle : SocketAddr → GtpuMessage → List ℕ → List ℕ → Call
 
--- What it is handed is in the compared domain, as far as that matters: payloads are bytes, at most 65,535.
+-- What it is handed is compared: of payloads, those of at most 65,535 bytes.
 abbrev pub Typed : Call → Type 0
 Typed (register session) = Unit {0}
 Typed (remove teid) = Unit {0}
@@ -40,7 +40,7 @@ pub data Given : Type 0 where
   removed : Option rust.ReflectorSession → Given
   acted : rust.ReflectorAction → Given
 
--- What a call comes to, and the output as it leaves it, where one was lent.
+-- A call's outcome, and the output as it leaves it, where one was lent.
 pub record Answer : Type 0 where
   pub outcome : Outcome Given
   pub output : List ℕ
@@ -50,7 +50,7 @@ abbrev pub answerTo : Reflector → Call → Answer
 answerTo r (register session) = record { outcome = outcomeTo registered (registerSession (tableIn r) session .outcome); output = [] }
 answerTo r (remove teid) = record { outcome = outcomeTo removed (outcomeTo rustRemoved (removeSession (tableIn r) teid .outcome)); output = [] }
 answerTo r (handle source message payload buffer) = record {
-  outcome = outcomeTo acted (outcomeTo (rustAction payload) (handling r source message payload buffer .outcome));
+  outcome = outcomeTo acted (outcomeTo (rustAction payload) (told (handling r source message payload buffer .outcome)));
   output = placed (handling r source message payload buffer .outcome) buffer;
 }
 

@@ -1,6 +1,5 @@
 -- The Rust's reflector.rs: `GtpuReflector` with `ReflectorSessions::Multiple`, made by `new_multi`. (`new` and `Single`, a reflector of one
 -- session, are not ported.) What `decode_gtpu` refuses is not here: a datagram is the message in it.
--- Assumes nothing.
 use Prim.Native.Nat.{ℕ, suc, _+_, _-_, _%_, max}
 use mathlib.Core.List.{List, [], _∷_, _++_}
 use mathlib.Core.Bool.{Bool, true, false, not, _||_, _&&_}

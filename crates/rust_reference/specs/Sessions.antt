@@ -1,12 +1,10 @@
 -- The port's reflector, and the Rust's that holds the same: the `Vec` of sessions is the used rows of the lent slice.
--- Assumes nothing.
 use Prim.Native.Nat.{ℕ, _<_, _≤_}
 use mathlib.Core.Path.{_≡_}
 use mathlib.Core.List.{List, map, _++_}
 use mathlib.Core.Option.{Option, some, none}
 use lib.ListN.{length, drop}
 use Rattle.error.specs.Outcome.{Outcome, refused, gives}
-use Rattle.field.specs.Field.{Bytes}
 use Rattle.measurement.specs.Packet.{address}
 use Rattle.measurement.specs.declared.IpVersion.{IpVersion}
 use Rattle.measurement.specs.declared.IpVersion.the-variants.{V4, V6}
@@ -29,6 +27,7 @@ use Rattle.reflector_answer.specs.declared.RouteTarget.{RouteTarget}
 use Rattle.reflector_answer.specs.declared.SequenceNumber.{SequenceNumber}
 use Rattle.reflector_answer.specs.declared.SequenceNumber.the-variants.{Present, Absent}
 use Rattle.rust_reference.specs.Error.{Result, Ok, Err}
+use Rattle.rust_reference.specs.Compared.{Compared}
 use Rattle.rust_reference.specs.Gtpu as gtpu
 use Rattle.rust_reference.specs.Map as map
 use Rattle.rust_reference.specs.Reflector as rust
@@ -50,7 +49,7 @@ withTable t r = record { sessions = t .sessions; used = t .used; config = r .con
 abbrev pub withState : ReflectorState → Reflector → Reflector
 withState state r = record { sessions = r .sessions; used = r .used; config = r .config; state = state }
 
--- What a message comes to there.
+-- The answer to a message there.
 abbrev pub handling : Reflector → SocketAddr → GtpuMessage → List ℕ → List ℕ → Answer
 handling r source message payload buffer = handleDatagram (r .sessions) (r .used) (r .config) (r .state) source message payload buffer
 
@@ -156,9 +155,9 @@ inOutput (Ok (rust.Send destination packet ErrorIndication)) buffer = packet .pa
 abbrev pub IsMade : Reflector → Type 0
 IsMade r = (made : rust.GtpuReflector) × (rust.«new_multi» (rustConfig (r .config)) ≡ Ok made)
 
--- "a payload of at most 65,535 bytes", which is what the stand-in for the codec carries
+-- A payload that is compared, and that the stand-in for the codec carries: "a payload of at most 65,535 bytes".
 abbrev pub PayloadFits : List ℕ → Type 0
-PayloadFits payload = Bytes payload × (length payload ≤ 65535)
+PayloadFits payload = Compared payload × (length payload ≤ 65535)
 
 -- The error sequence is a u16.
 abbrev pub SequenceFits : Reflector → Type 0

@@ -1,6 +1,5 @@
 -- The Rust's maps and the port's run sheet: what it is for an observer of the one and one of the other to hold the same
 -- ("`BTreeMap` becomes sorted columns", document 01).
--- Assumes nothing.
 use Prim.Native.Nat.{ℕ, _≤_, max}
 use mathlib.Core.Path.{_≡_}
 use mathlib.Core.List.{List, [], _∷_}

@@ -1,5 +1,4 @@
 -- `rust_reference::equals_the_rust` meets its contract.
--- Assumes nothing.
 use Rattle.rust_reference.proofs.Claims.{equals-the-rust}
 use Rattle.rust_reference.proofs.equals_the_rust.Statement.{statement}
 use Rattle.rust_reference.proofs.equals_the_rust.Tie as tie
