@@ -79,7 +79,7 @@ static void call_returns(void)
     static uint64_t read[2];
     static uint8_t numbers[2];
     size_t lengths[2] = {in_length / 2, in_length};
-    kept = ENTER(testkit_record_received_tpdus)(SHEET, at, 2, lengths, 2, in, in_length, read, 2, numbers, 2).returns;
+    kept = ENTER(testkit_record_received_tpdus)(SHEET, at, 2, lengths, 2, in, in_length, read, 2, numbers, 2).number;
 }
 static void call_message(void) { kept = ENTER(testkit_record_return_gtpu_datagram)(SHEET, 9, message_type, in, in_length).number; }
 static void call_report(void) { kept = ENTER(testkit_report)(SHEET, 1, 2, 3, 4, 5).number; }

@@ -296,9 +296,10 @@ struct testkit_plan_recorded testkit_record_sent_plan(
     uint64_t interval_ns,
     uint64_t packet_count);
 
-/* How many returns there were, and the counts for the next call. */
+/* How many returns there were and 0, or 0 and the number of a refusal of the whole list; and the counts for the next call. */
 struct testkit_returns_recorded {
     size_t returns;
+    uint8_t number;
     size_t used;
     uint64_t duplicate_packets;
     uint64_t out_of_order_packets;
@@ -306,10 +307,12 @@ struct testkit_returns_recorded {
 };
 
 /*
- * Enters packets that came back, as testkit_record_received_tpdu would one after the other; the sheet is judged (21) once. The T-PDUs lie
- * end to end in `tpdus`, each as long as `lengths` says. There are as many returns as the shortest of `return_timestamps`, `lengths`,
- * `returned` and `numbers` has elements. `numbers` gets each return's answer, 0 or a refusal's number; `returned` the sequence that its
- * T-PDU reads as, or 0.
+ * Enters packets that came back, as testkit_record_received_tpdu would one after the other. The T-PDUs lie end to end in `tpdus`, each as
+ * long as `lengths` says; where the lengths pass the end of `tpdus`, the T-PDU there ends with it and those behind are empty, and each is
+ * refused as testkit_decode refuses it. There are as many returns as the shortest of `return_timestamps`, `lengths`, `returned` and
+ * `numbers` has elements. `numbers` gets each return's answer, 0 or a refusal's number; `returned` the sequence that its T-PDU reads as,
+ * or 0. A return that is refused changes no more than that, and those behind it are tried all the same.
+ * Refuses the whole list by 21, an empty one too, and then writes nothing, `returned` and `numbers` included.
  */
 struct testkit_returns_recorded testkit_record_received_tpdus(
     const uint64_t *sequences, size_t sequences_length,

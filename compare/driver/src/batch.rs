@@ -35,7 +35,8 @@ pub fn batches(seed: u64, rounds: u64) -> Part {
     part
 }
 
-/// Malformed sheets: every packet and every return is refused by 21, and the sheet is left.
+/// Malformed sheets: every packet and every list of returns, an empty one too, is refused by 21,
+/// and the sheet and the two columns that are lent for the list are left.
 pub fn malformed_batches(seed: u64, rounds: u64) -> Part {
     let mut part = Part::new("run sheet, malformed, batches", "batch calls");
     let mut random = Random::new(seed);
@@ -50,9 +51,10 @@ pub fn malformed_batches(seed: u64, rounds: u64) -> Part {
         let answer = (answer, difference(&ours, &sheet));
         part.case(&[], answer, ((0, number), None));
 
-        let returns = any_returns(&mut random, &contents, rows);
-        let due = Due::of(&mut random, &returns, |_| SHEET_MALFORMED);
-        due.compare(&mut part, sheet.clone(), &sheet, &returns);
+        for returns in [vec![], any_returns(&mut random, &contents, rows)] {
+            let due = Due::left(&mut random, returns.len());
+            due.compare(&mut part, sheet.clone(), &sheet, &returns);
+        }
     }
     part
 }
@@ -136,29 +138,41 @@ struct Due {
     /// What stood in them before.
     before: (Vec<u64>, Vec<u8>),
     returns: usize,
+    /// The number of a refusal of the whole list.
+    number: u8,
 }
 
 impl Due {
-    fn of(random: &mut Random, returns: &Returns, mut number: impl FnMut(usize) -> u8) -> Self {
-        let most = returns.len() + random.length(4);
+    /// A malformed sheet: 21, and both columns are left.
+    fn left(random: &mut Random, returns: usize) -> Self {
+        let most = returns + random.length(4);
         let mut length = || most - random.length(2).min(most);
         let (returned_length, numbers_length) = (length(), length());
         let before: (Vec<u64>, Vec<u8>) = (
             (0..returned_length).map(|_| random.number()).collect(),
             (0..numbers_length).map(|_| random.number() as u8).collect(),
         );
-        let (mut returned, mut numbers) = before.clone();
-        let taken = returns.len().min(returned_length).min(numbers_length);
-        for (k, (_, tpdu)) in returns.iter().take(taken).enumerate() {
-            returned[k] = decode(tpdu).map_or(0, |probe| probe.sequence);
-            numbers[k] = number(k);
-        }
+        let (returned, numbers) = before.clone();
         Self {
             returned,
             numbers,
             before,
-            returns: taken,
+            returns: 0,
+            number: SHEET_MALFORMED,
         }
+    }
+
+    /// Each return is taken or refused by its own number.
+    fn of(random: &mut Random, returns: &Returns, mut number: impl FnMut(usize) -> u8) -> Self {
+        let mut due = Self::left(random, returns.len());
+        let columns = due.returned.len().min(due.numbers.len());
+        due.returns = returns.len().min(columns);
+        due.number = 0;
+        for (k, (_, tpdu)) in returns.iter().take(due.returns).enumerate() {
+            due.returned[k] = decode(tpdu).map_or(0, |probe| probe.sequence);
+            due.numbers[k] = number(k);
+        }
+        due
     }
 
     /// Takes the list on our sheet and compares every column.
@@ -171,7 +185,7 @@ impl Due {
             ours.record_received_tpdus(&times, &lengths, &tpdus, &mut returned, &mut numbers);
         let answer = (answer, returned, numbers, difference(&ours, due));
         let due = (
-            self.returns,
+            (self.returns, self.number),
             self.returned.clone(),
             self.numbers.clone(),
             None,

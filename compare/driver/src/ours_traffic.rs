@@ -148,10 +148,11 @@ struct TestkitPlanRecorded {
     counts: Counts,
 }
 
-/// How many returns a list had.
+/// How many returns a list had, and the number of a refusal of the whole list.
 #[repr(C)]
 struct TestkitReturnsRecorded {
     returns: usize,
+    number: u8,
     counts: Counts,
 }
 
@@ -317,8 +318,9 @@ impl RunSheet {
         (recorded.entered, recorded.number)
     }
 
-    /// Takes a list of T-PDUs that came back, end to end in `tpdus`: how many they were. What each
-    /// reads as and its number are written to the last two columns.
+    /// Takes a list of T-PDUs that came back, end to end in `tpdus`: how many they were, and the
+    /// number of a refusal of the whole list or 0. What each reads as and its number are written to
+    /// the last two columns.
     pub fn record_received_tpdus(
         &mut self,
         return_times: &[u64],
@@ -326,7 +328,7 @@ impl RunSheet {
         tpdus: &[u8],
         returned: &mut [u64],
         numbers: &mut [u8],
-    ) -> usize {
+    ) -> (usize, u8) {
         // SAFETY: as in `record_sent`; the call reads three more columns and writes two, each lent
         // with its length for as long as it runs.
         let recorded = unsafe {
@@ -346,7 +348,7 @@ impl RunSheet {
             )
         };
         self.counts = recorded.counts;
-        recorded.returns
+        (recorded.returns, recorded.number)
     }
 
     pub fn record_return_gtpu_datagram(

@@ -1,48 +1,94 @@
--- What reading comes to for the observer, the answers by their cases, and a message by its type.
--- Assumes nothing.
+-- What the observer is told of a T-PDU and of elements, the answers by their cases, and a message by its type.
 use Prim.Native.Nat.{ℕ}
 use native.Mathlib.Omega.{arith}
 use mathlib.Core.Path.{_≡_, refl, sym, ap, _∙_}
 use mathlib.Core.Logic.{_⊎_, inl, inr}
-use mathlib.Core.Bool.{Bool, true, false, _||_}
-use mathlib.Core.List.{List}
+use mathlib.Core.Bool.{Bool, true, false}
+use mathlib.Core.List.{List, [], _∷_}
 use lib.Dec.{eqb}
-use borrow.Author.Tests.{eq-eqb, ne-eqb}
+use borrow.Author.Tests.{eq-eqb, ne-eqb, eqb-true}
 use Rattle.error.specs.Number.{malformedObserver, unsupportedMessageType}
 use Rattle.error.specs.Outcome.{Outcome, refused, gives}
-use Rattle.error.proofs.Tests.{or-left, or-right, or-none}
 use Rattle.measurement.specs.Read.{readOf}
 use Rattle.measurement.specs.declared.DecodedTpdu.{DecodedTpdu}
+use Rattle.measurement.proofs.Accept.{read-by-zero}
+use Rattle.measurement_decode.specs.Numbers.{tpduNumbers}
+use Rattle.measurement_decode.specs.declared.TpduNumbers.{TpduNumbers}
 use Rattle.gtpu.specs.Element.{elementsOf}
 use Rattle.observer.specs.Observer.{Observer}
-use Rattle.observer.specs.Judge.{wellFormed, judged, Step}
+use Rattle.observer.specs.Judge.{wellFormed, judged, Step, refusing, afterReading}
 use Rattle.observer.specs.Returning.{recordReturn, recordErrorIndication}
 use Rattle.observer.specs.Answer.{recorded}
 use Rattle.observer.specs.declared.Recorded.{Recorded}
 use Rattle.observer.specs.declared.Recording.{Recording}
 use Rattle.observer.specs.declared.Recording.the-variants as recording
 use Rattle.observer.proofs.Calls.{judged-malformed, judged-well}
-use Rattle.continuity.specs.Returns.{sequenceRead, recordReceivedTpdu, asMessage, unchanged, recordReturnMessage}
-use Rattle.continuity.specs.Answer.{messageRecorded, messageOfKind, answerOfKind, noticed}
+use Rattle.continuity.specs.Kinds.{messageTypeOf, kinds, kindAmong, messageKind}
+use Rattle.continuity.specs.Returns.{sequenceRead, recordReceivedTpdu, recordElements, MessageStep, asMessage, unchanged, recordKind, recordReturnMessage}
+use Rattle.continuity.specs.Answer.{messageRecorded, messageOfKind, answerOfKind, sequenceNumbers}
 use Rattle.continuity.specs.declared.GtpuReturnDatagramOutcome.{GtpuReturnDatagramOutcome}
 use Rattle.continuity.specs.declared.GtpuReturnDatagramOutcome.the-variants.{MeasurementTpdu, ErrorIndication, EchoResponse, Ignored}
 use Rattle.continuity.specs.declared.MessageRecorded.{MessageRecorded}
+use Rattle.continuity.specs.declared.SequenceRead.{SequenceRead}
 
 -- ---- a T-PDU
 
-pub seen-refused : (tpdu : List ℕ) {n : ℕ} → readOf tpdu ≡ refused n → refused n ≡ sequenceRead tpdu
-unfolding sequenceRead
-seen-refused tpdu e = rw (e, sequenceRead)
+abbrev told : TpduNumbers → SequenceRead
+told x = record { sequence = x .sequence; number = x .number }
 
-pub seen-given : (tpdu : List ℕ) {t : DecodedTpdu} {s : ℕ} → readOf tpdu ≡ gives t → s ≡ t .measurement .sequence → gives s ≡ sequenceRead tpdu
-unfolding sequenceRead
-seen-given tpdu e q = rw (e, sequenceRead) (ap gives q)
+-- what the reader answers
+pub read-as : (p : List ℕ) {x : TpduNumbers} → x ≡ tpduNumbers (readOf p) → record { sequence = x .sequence; number = x .number } ≡ sequenceNumbers (sequenceRead p)
+unfolding sequenceRead tpduNumbers
+read-as p e = ap told e ∙ go (readOf p)
+  where
+    go : (o : Outcome DecodedTpdu) → told (tpduNumbers o) ≡ sequenceNumbers (elim o [ refused n ↦ refused n | gives t ↦ gives (t .measurement .sequence) ])
+    go (refused n) = refl
+    go (gives t) = refl
 
--- what was read goes to the observer
-pub received : (o : Observer) (time : ℕ) (tpdu : List ℕ) {read : Outcome ℕ} → read ≡ sequenceRead tpdu
-    → recordReturn o time read ≡ recordReceivedTpdu o time tpdu
-unfolding recordReceivedTpdu
-received o time tpdu e = ap (recordReturn o time) e
+-- no refusal of the reader is numbered 0, which stands for none
+pub sequence-by-zero : (p : List ℕ) → sequenceRead p ≡ refused 0 → ⊥
+unfolding sequenceRead
+sequence-by-zero p = go (readOf p) refl
+  where
+    go : (o : Outcome DecodedTpdu) → readOf p ≡ o
+        → _≡_ {A = Outcome ℕ} (elim o [ refused n ↦ refused n | gives t ↦ gives (t .measurement .sequence) ]) (refused 0) → ⊥
+    go (refused n) f e = read-by-zero p (f ∙ ap refused (let z : n ≡ 0 = cc in z))
+    go (gives t) f e = let z : _≡_ {A = ℕ} 0 1 = cc in omega arith
+
+module _ (p : List ℕ) {r : SequenceRead} (e : r ≡ sequenceNumbers (sequenceRead p)) where
+  number-is : (o : Outcome ℕ) → sequenceRead p ≡ o → r .number ≡ sequenceNumbers o .number
+  number-is o f = ap (λ (x : SequenceRead). x .number) e ∙ ap (λ (x : Outcome ℕ). sequenceNumbers x .number) f
+
+  -- it was refused by that number, or read
+  pub seen-refused : (r .number ≡ 0 → ⊥) → sequenceRead p ≡ refused (r .number)
+  seen-refused h = go (sequenceRead p) refl
+    where
+      go : (o : Outcome ℕ) → sequenceRead p ≡ o → sequenceRead p ≡ refused (r .number)
+      go (refused n) f = f ∙ ap refused (sym (number-is (refused n) f))
+      go (gives q) f = absurd (h (number-is (gives q) f))
+
+  pub seen-given : r .number ≡ 0 → sequenceRead p ≡ gives (r .sequence)
+  seen-given z = go (sequenceRead p) refl
+    where
+      go : (o : Outcome ℕ) → sequenceRead p ≡ o → sequenceRead p ≡ gives (r .sequence)
+      go (refused n) f = absurd (sequence-by-zero p (f ∙ ap refused (sym (number-is (refused n) f) ∙ z)))
+      go (gives q) f =
+          f ∙ ap gives (sym (ap (λ (x : SequenceRead). x .sequence) e ∙ ap (λ (x : Outcome ℕ). sequenceNumbers x .sequence) f))
+
+module _ (o : Observer) (time : ℕ) (p : List ℕ) where
+  pub received-refused : {n : ℕ} → sequenceRead p ≡ refused n → refusing o n ≡ recordReceivedTpdu o time p
+  unfolding recordReceivedTpdu
+  received-refused e = ap (λ (x : Outcome ℕ). afterReading o x (recordReturn o time)) (sym e)
+
+  pub received-given : {q : ℕ} → sequenceRead p ≡ gives q → recordReturn o time q ≡ recordReceivedTpdu o time p
+  unfolding recordReceivedTpdu
+  received-given e = ap (λ (x : Outcome ℕ). afterReading o x (recordReturn o time)) (sym e)
+
+-- ---- elements
+
+module _ (o : Observer) (p : List ℕ) where
+  pub elements-are : (x : Outcome (Unit {0})) → elementsOf p ≡ x → afterReading o x (λ accepted. recordErrorIndication o) ≡ recordElements o p
+  elements-are x e = ap (λ (y : Outcome (Unit {0})). afterReading o y (λ accepted. recordErrorIndication o)) (sym e)
 
 -- ---- the answers
 
@@ -77,50 +123,111 @@ module _ (o : Observer) (x : Outcome GtpuReturnDatagramOutcome) where
 
 -- ---- a message by its type
 
+-- each of these kinds has the property
+abbrev All : (GtpuReturnDatagramOutcome → Type 0) → List GtpuReturnDatagramOutcome → Type 0
+All P [] = Unit {0}
+All P (kind ∷ rest) = P kind × All P rest
+
+-- the kind that is found has the type, and is one of those looked among
+kind-among : (P : GtpuReturnDatagramOutcome → Type 0) (ks : List GtpuReturnDatagramOutcome) (t : ℕ) (kind : GtpuReturnDatagramOutcome) → All P ks
+    → kindAmong ks t ≡ gives kind → (messageTypeOf kind ≡ t) × P kind
+kind-among P [] t kind all e = absurd (let z : _≡_ {A = ℕ} 0 1 = cc in omega arith)
+kind-among P (x ∷ ks) t kind all e = go (eqb t (messageTypeOf x)) refl e (λ f. kind-among P ks t kind (all .1) f)
+  where
+    go : (b : Bool) → eqb t (messageTypeOf x) ≡ b → _≡_ {A = Outcome GtpuReturnDatagramOutcome} (elim b [ true ↦ gives x | false ↦ kindAmong ks t ]) (gives kind)
+        → (kindAmong ks t ≡ gives kind → (messageTypeOf kind ≡ t) × P kind) → (messageTypeOf kind ≡ t) × P kind
+    go true f e rest =
+        let same : x ≡ kind = cc in
+        (ap messageTypeOf (sym same) ∙ sym (eqb-true t (messageTypeOf x) f), (rw same at (all .0)))
+    go false f e rest = rest e
+
+-- the first kind has the type, or one of the others may have it
+module _ (x : GtpuReturnDatagramOutcome) (ks : List GtpuReturnDatagramOutcome) (t : ℕ) where
+  first : t ≡ messageTypeOf x → kindAmong (x ∷ ks) t ≡ gives x
+  first h =
+      ap (λ (b : Bool). elim b as (λ (y : Bool). Outcome GtpuReturnDatagramOutcome) [ true ↦ gives x | false ↦ kindAmong ks t ]) (eq-eqb t (messageTypeOf x) h)
+
+  other : (t ≡ messageTypeOf x → ⊥) → kindAmong (x ∷ ks) t ≡ kindAmong ks t
+  other h =
+      ap (λ (b : Bool). elim b as (λ (y : Bool). Outcome GtpuReturnDatagramOutcome) [ true ↦ gives x | false ↦ kindAmong ks t ]) (ne-eqb t (messageTypeOf x) h)
+
+-- an ignored message is of the type 254 or 31
+abbrev IgnoredTypes : GtpuReturnDatagramOutcome → Type 0
+IgnoredTypes MeasurementTpdu = Unit {0}
+IgnoredTypes ErrorIndication = Unit {0}
+IgnoredTypes EchoResponse = Unit {0}
+IgnoredTypes (Ignored t) = (t ≡ 254) ⊎ (t ≡ 31)
+
+pub kind-is : (t : ℕ) (kind : GtpuReturnDatagramOutcome) → messageKind t ≡ gives kind → (messageTypeOf kind ≡ t) × IgnoredTypes kind
+unfolding messageKind
+kind-is t kind e = kind-among IgnoredTypes kinds t kind (tt, (tt, (tt, (inl refl, (inr refl, tt))))) e
+
+-- the kinds from each on
+abbrev from-31 : List GtpuReturnDatagramOutcome
+from-31 = Ignored 31 ∷ []
+
+abbrev from-254 : List GtpuReturnDatagramOutcome
+from-254 = Ignored 254 ∷ from-31
+
+abbrev from-2 : List GtpuReturnDatagramOutcome
+from-2 = EchoResponse ∷ from-254
+
+abbrev from-26 : List GtpuReturnDatagramOutcome
+from-26 = ErrorIndication ∷ from-2
+
 module _ (t : ℕ) where
-  pub notices-response : t ≡ 2 → gives EchoResponse ≡ noticed t
-  unfolding noticed
-  notices-response h = rw (eq-eqb t 2 h, noticed)
+  pub kind-255 : t ≡ 255 → messageKind t ≡ gives MeasurementTpdu
+  unfolding messageKind
+  kind-255 h = first MeasurementTpdu from-26 t h
 
-  ignored : t ≡ 31 ⊎ t ≡ 254 → eqb t 254 || eqb t 31 ≡ true
-  ignored (inl h) = or-right (eqb t 254) _ (eq-eqb t 31 h)
-  ignored (inr h) = or-left _ (eqb t 31) (eq-eqb t 254 h)
+  not-255 : (t ≡ 255 → ⊥) → messageKind t ≡ kindAmong from-26 t
+  unfolding messageKind
+  not-255 h = other MeasurementTpdu from-26 t h
 
-  not-response : t ≡ 31 ⊎ t ≡ 254 → eqb t 2 ≡ false
-  not-response (inl h) = ne-eqb t 2 (λ k. omega arith)
-  not-response (inr h) = ne-eqb t 2 (λ k. omega arith)
+  pub kind-26 : t ≡ 26 → messageKind t ≡ gives ErrorIndication
+  kind-26 h = not-255 (λ k. omega arith) ∙ first ErrorIndication from-2 t h
 
-  pub notices-ignored : t ≡ 31 ⊎ t ≡ 254 → gives (Ignored t) ≡ noticed t
-  unfolding noticed
-  notices-ignored h = rw (not-response h, ignored h, noticed)
+  not-26 : (t ≡ 255 → ⊥) → (t ≡ 26 → ⊥) → messageKind t ≡ kindAmong from-2 t
+  not-26 h k = not-255 h ∙ other ErrorIndication from-2 t k
 
-  pub notices-other : (t ≡ 2 → ⊥) → (t ≡ 31 ⊎ t ≡ 254 → ⊥) → refused unsupportedMessageType ≡ noticed t
-  unfolding noticed
-  notices-other h k =
-      rw (ne-eqb t 2 h, or-none (eqb t 254) (eqb t 31) (ne-eqb t 254 (λ e. k (inr e))) (ne-eqb t 31 (λ e. k (inl e))), noticed)
+  pub kind-2 : t ≡ 2 → gives EchoResponse ≡ messageKind t
+  kind-2 h = sym (not-26 (λ k. omega arith) (λ k. omega arith) ∙ first EchoResponse from-254 t h)
+
+  not-2 : (t ≡ 255 → ⊥) → (t ≡ 26 → ⊥) → (t ≡ 2 → ⊥) → messageKind t ≡ kindAmong from-254 t
+  not-2 h k l = not-26 h k ∙ other EchoResponse from-254 t l
+
+  pub kind-ignored : t ≡ 31 ⊎ t ≡ 254 → gives (Ignored t) ≡ messageKind t
+  kind-ignored (inl h) =
+      ap (λ (x : ℕ). gives (Ignored x)) h
+      ∙ sym (not-2 (λ k. omega arith) (λ k. omega arith) (λ k. omega arith) ∙ other (Ignored 254) from-31 t (λ k. omega arith) ∙ first (Ignored 31) [] t h)
+  kind-ignored (inr h) =
+      ap (λ (x : ℕ). gives (Ignored x)) h
+      ∙ sym (not-2 (λ k. omega arith) (λ k. omega arith) (λ k. omega arith) ∙ first (Ignored 254) from-31 t h)
+
+  pub kind-other : (t ≡ 255 → ⊥) → (t ≡ 26 → ⊥) → (t ≡ 2 → ⊥) → (t ≡ 31 ⊎ t ≡ 254 → ⊥) → refused unsupportedMessageType ≡ messageKind t
+  kind-other a b c d =
+      sym (not-2 a b c ∙ other (Ignored 254) from-31 t (λ e. d (inr e)) ∙ other (Ignored 31) [] t (λ e. d (inl e)))
 
   module _ (o : Observer) (time : ℕ) (payload : List ℕ) where
+    abbrev pub recordAs : Outcome GtpuReturnDatagramOutcome → MessageStep
+    recordAs x = elim x [ refused n ↦ unchanged o (refused n) | gives kind ↦ recordKind o time payload kind ]
+
+    pub message-is : recordReturnMessage o time t payload ≡ recordAs (messageKind t)
+    unfolding recordReturnMessage
+    message-is = refl
+
     pub message-255 : t ≡ 255 → asMessage MeasurementTpdu (recordReceivedTpdu o time payload) ≡ recordReturnMessage o time t payload
-    unfolding recordReturnMessage
-    message-255 h = rw (eq-eqb t 255 h, recordReturnMessage)
+    message-255 h = sym (message-is ∙ ap recordAs (kind-255 h))
 
-    pub message-26 : t ≡ 26 → asMessage ErrorIndication (recordErrorIndication o (elementsOf payload)) ≡ recordReturnMessage o time t payload
-    unfolding recordReturnMessage
-    message-26 h = rw (ne-eqb t 255 (λ k. omega arith), eq-eqb t 26 h, recordReturnMessage)
+    pub message-26 : t ≡ 26 → asMessage ErrorIndication (recordElements o payload) ≡ recordReturnMessage o time t payload
+    message-26 h = sym (message-is ∙ ap recordAs (kind-26 h))
 
-    pub message-other : (t ≡ 255 → ⊥) → (t ≡ 26 → ⊥) → unchanged o (noticed t) ≡ recordReturnMessage o time t payload
-    unfolding recordReturnMessage noticed
-    message-other h k = rw (ne-eqb t 255 h, ne-eqb t 26 k, recordReturnMessage) (by (eqb t 2) (eqb t 254 || eqb t 31) refl refl)
+    pub message-other : (t ≡ 255 → ⊥) → (t ≡ 26 → ⊥) → unchanged o (messageKind t) ≡ recordReturnMessage o time t payload
+    message-other h k = go (messageKind t) refl ∙ sym message-is
       where
-        by : (a b : Bool) → eqb t 2 ≡ a → eqb t 254 || eqb t 31 ≡ b
-            → unchanged o (noticed t)
-            ≡ elim (eqb t 2) [
-              | true ↦ unchanged o (gives EchoResponse)
-              | false ↦ elim (eqb t 254 || eqb t 31) [
-                | true ↦ unchanged o (gives (Ignored t))
-                | false ↦ unchanged o (refused unsupportedMessageType)
-              ]
-            ]
-        by true b e f = rw (e, noticed)
-        by false true e f = rw (e, f, noticed)
-        by false false e f = rw (e, f, noticed)
+        go : (x : Outcome GtpuReturnDatagramOutcome) → messageKind t ≡ x → unchanged o x ≡ recordAs x
+        go (refused n) e = refl
+        go (gives MeasurementTpdu) e = absurd (h (sym (kind-is t MeasurementTpdu e .0)))
+        go (gives ErrorIndication) e = absurd (k (sym (kind-is t ErrorIndication e .0)))
+        go (gives EchoResponse) e = refl
+        go (gives (Ignored m)) e = refl

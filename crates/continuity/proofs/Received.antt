@@ -7,70 +7,32 @@ use mathlib.Core.List.{List, [], _∷_, _++_, map}
 use native.Mathlib.Nat.{le-of-suc-le-suc}
 use native.Mathlib.Numerals.{add-one}
 use native.Mathlib.Omega.{arith}
-use lib.Dec.{eqb}
 use lib.ListN.{length, getD, set, take, drop, length-drop, length-map, drop-of-length-le}
 use lib.Seq.{take-all, drop-cons, drop-drop, drop-at, length-take-le}
 use borrow.Author.Tests.{ne-eqb}
-use Rattle.error.specs.Outcome.{Outcome, refused, gives, Cause, _⇒_, firstCause, outcomeNumber}
-use Rattle.measurement.specs.Read.{readOf, tpduCauses, versionOf, readIpv4, ipv4Causes, readIpv6, ipv6Causes, readUdp, udpCauses, readProbe, probeCauses, payload, tpduOf}
-use Rattle.measurement.specs.declared.DecodedTpdu.{DecodedTpdu}
-use Rattle.measurement.specs.declared.IpVersion.{IpVersion}
-use Rattle.measurement.specs.declared.IpVersion.the-variants.{V4, V6}
+use Rattle.error.specs.Number.{malformedObserver}
+use Rattle.error.specs.Outcome.{Outcome, refused, gives, outcomeNumber}
 use Rattle.observer.specs.Observer.{Observer}
-use Rattle.observer.specs.Judge.{Step}
-use Rattle.observer.specs.Returning.{recordReturn}
-use Rattle.observer.specs.InTurn.{Steps, inTurn, Arrival, recordArrival, readAs, arrivalsOf, Arrived, arrivedIn, recordReturns}
-use Rattle.observer.proofs.InTurn.{number-each}
+use Rattle.observer.specs.Judge.{wellFormed}
+use Rattle.observer.specs.InTurn.{Steps, inTurn}
+use Rattle.observer.specs.Arrivals.{Arrival, recordArrival, readAs, arrivalsOf, atFront, arrivedIn, recordReturns}
+use Rattle.observer.proofs.Calls.{judged-malformed, judged-well}
+use Rattle.observer.proofs.Arrivals.{number-each, returns-well}
 use Rattle.continuity.specs.Returns.{sequenceRead, recordReceivedTpdu}
-use Rattle.continuity.specs.Batch.{tpdusOf, Received, receivedOf, recordReceived, returnsIn, sequenceOrZero, ReceivedAll, recordReceivedTpdus}
+use Rattle.continuity.specs.Answer.{sequenceNumbers}
+use Rattle.continuity.specs.Batch.{tpdusOf, Received, receivedOf, recordReceived, returnsIn, ReceivedAll, sequencesIn, recordReceivedTpdus}
+use Rattle.continuity.proofs.Laws.{sequence-by-zero}
 
--- ---- no refusal of the reader is numbered 0, which stands for none
+-- ---- the two numbers say what a T-PDU reads as
 
-abbrev Numbered : {A : Type 0} → Outcome A → Type 0
-Numbered (refused n) = n ≡ 0 → ⊥
-Numbered (gives x) = Unit {0}
-
-abbrev AllNumbered : List Cause → Type 0
-AllNumbered [] = Unit {0}
-AllNumbered ((test ⇒ n) ∷ rows) = (n ≡ 0 → ⊥) × AllNumbered rows
-
-first-numbered : {A : Type 0} (rows : List Cause) (o : Outcome A) → AllNumbered rows → Numbered o → Numbered (firstCause rows o)
-unfolding firstCause
-first-numbered [] o h g = g
-first-numbered ((true ⇒ n) ∷ rows) o h g = h .0
-first-numbered ((false ⇒ n) ∷ rows) o h g = first-numbered rows o (h .1) g
-
-udp-numbered : (v : IpVersion) (source destination part : List ℕ) → Numbered (readUdp v source destination part)
-unfolding readUdp readProbe probeCauses udpCauses
-udp-numbered v source destination part =
-    first-numbered (udpCauses v source destination part) (readProbe v source destination part) (rows v)
-    (first-numbered (probeCauses (payload part)) (gives (tpduOf v source destination part)) ((λ e. omega arith), ((λ e. omega arith), tt)) tt)
+read-back : (tpdu : List ℕ) → readAs (sequenceNumbers (sequenceRead tpdu) .sequence) (sequenceNumbers (sequenceRead tpdu) .number) ≡ sequenceRead tpdu
+read-back tpdu = go (sequenceRead tpdu) refl
   where
-    rows : (v : IpVersion) → AllNumbered (udpCauses v source destination part)
-    rows V4 = ((λ e. omega arith), ((λ e. omega arith), tt))
-    rows V6 = ((λ e. omega arith), ((λ e. omega arith), ((λ e. omega arith), tt)))
-
-read-numbered : (tpdu : List ℕ) → Numbered (readOf tpdu)
-unfolding readOf tpduCauses readIpv4 ipv4Causes readIpv6 ipv6Causes
-read-numbered tpdu = first-numbered (tpduCauses tpdu) _ ((λ e. omega arith), ((λ e. omega arith), tt)) (by (eqb (versionOf tpdu) 4))
-  where
-    by : (b : Bool) → Numbered {A = DecodedTpdu} (elim b [ true ↦ readIpv4 tpdu | false ↦ readIpv6 tpdu ])
-    by true =
-        first-numbered (ipv4Causes tpdu) _ ((λ e. omega arith), ((λ e. omega arith), ((λ e. omega arith), ((λ e. omega arith), ((λ e. omega arith), tt)))))
-        (udp-numbered V4 _ _ _)
-    by false = first-numbered (ipv6Causes tpdu) _ ((λ e. omega arith), ((λ e. omega arith), ((λ e. omega arith), tt))) (udp-numbered V6 _ _ _)
-
--- so its two numbers say what a T-PDU reads as
-read-back : (tpdu : List ℕ) → readAs (sequenceOrZero (sequenceRead tpdu)) (outcomeNumber (sequenceRead tpdu)) ≡ sequenceRead tpdu
-unfolding sequenceRead
-read-back tpdu = go (readOf tpdu) (read-numbered tpdu)
-  where
-    read-of : Outcome DecodedTpdu → Outcome ℕ
-    read-of o = elim o [ refused n ↦ refused n | gives t ↦ gives (t .measurement .sequence) ]
-
-    go : (o : Outcome DecodedTpdu) → Numbered o → readAs (sequenceOrZero (read-of o)) (outcomeNumber (read-of o)) ≡ read-of o
-    go (refused n) h = ap (λ (b : Bool). elim b [ true ↦ gives 0 | false ↦ refused n ]) (ne-eqb n 0 h)
-    go (gives t) h = refl
+    go : (o : Outcome ℕ) → sequenceRead tpdu ≡ o → readAs (sequenceNumbers o .sequence) (sequenceNumbers o .number) ≡ o
+    go (refused n) e =
+        ap (λ (b : Bool). elim b as (λ (x : Bool). Outcome ℕ) [ true ↦ gives 0 | false ↦ refused n ])
+        (ne-eqb n 0 (λ z. sequence-by-zero tpdu (e ∙ ap refused z)))
+    go (gives q) e = refl
 
 -- ---- reading
 
@@ -126,8 +88,8 @@ asArrival r = record { time = r .time; read = sequenceRead (r .tpdu) }
 -- T-PDUs that were read are the returns that the observer is handed
 module _ (qs ns : List ℕ) where
   handed : (n : ℕ) (ts : List ℕ) (tpdus : List (List ℕ)) → n ≤ length ts → n ≤ length tpdus
-      → arrivalsOf (take n ts) (map (λ tpdu. sequenceOrZero (sequenceRead tpdu)) (take n tpdus) ++ qs)
-      (map (λ tpdu. outcomeNumber (sequenceRead tpdu)) (take n tpdus) ++ ns)
+      → arrivalsOf (take n ts) (map (λ tpdu. sequenceNumbers (sequenceRead tpdu) .sequence) (take n tpdus) ++ qs)
+      (map (λ tpdu. sequenceNumbers (sequenceRead tpdu) .number) (take n tpdus) ++ ns)
       ≡ map asArrival (receivedOf ts (take n tpdus))
   handed zero [] tpdus h g = refl
   handed zero (t ∷ ts) tpdus h g = refl
@@ -154,6 +116,33 @@ received-count [] (tpdu ∷ tpdus) h = absurd (omega arith)
 received-count (t ∷ ts) [] h = refl
 received-count (t ∷ ts) (tpdu ∷ tpdus) h = ap suc (received-count ts tpdus (le-of-suc-le-suc h))
 
+-- what a list gives behind 21, of its first T-PDUs
+module _ (o : Observer) (times lengths bytes returned numbers : List ℕ) where
+  abbrev sequencesOf : ℕ → Outcome (List ℕ)
+  sequencesOf k = gives (map (λ tpdu. sequenceNumbers (sequenceRead tpdu) .sequence) (take k (tpdusOf lengths bytes)))
+
+  abbrev stepsOf : ℕ → Outcome Steps
+  stepsOf k = gives (inTurn recordReceived o (receivedOf times (take k (tpdusOf lengths bytes))))
+
+  abbrev takenOf : Outcome (List ℕ) → Outcome Steps → ReceivedAll
+  takenOf sequences steps = record { returned = sequencesIn returned sequences; arrived = arrivedIn o numbers steps }
+
+  -- 21, before anything is read
+  pub received-malformed : wellFormed o ≡ false
+      → record { returned = returned; arrived = record { outcome = refused malformedObserver; numbers = numbers; observer = o } }
+      ≡ recordReceivedTpdus o times lengths bytes returned numbers
+  unfolding recordReceivedTpdus
+  received-malformed w =
+      let n : ℕ = returnsIn times lengths returned numbers in
+      λ i. takenOf (judged-malformed o (sequencesOf n) w i) (judged-malformed o (stepsOf n) w i)
+
+  received-well : wellFormed o ≡ true → (n : ℕ) → n ≡ returnsIn times lengths returned numbers
+      → takenOf (sequencesOf n) (stepsOf n) ≡ recordReceivedTpdus o times lengths bytes returned numbers
+  unfolding recordReceivedTpdus
+  received-well w n e =
+      (λ i. takenOf (sequencesOf (e i)) (stepsOf (e i)))
+      ∙ (λ i. takenOf (judged-well o (sequencesOf (returnsIn times lengths returned numbers)) w i) (judged-well o (stepsOf (returnsIn times lengths returned numbers)) w i))
+
 module _ (o : Observer) (times lengths bytes returned numbers : List ℕ) (n : ℕ) (e : n ≡ returnsIn times lengths returned numbers) where
   abbrev tpdus : List (List ℕ)
   tpdus = take n (tpdusOf lengths bytes)
@@ -163,33 +152,35 @@ module _ (o : Observer) (times lengths bytes returned numbers : List ℕ) (n : �
 
   -- the column of numbers, read and then recorded
   column-kept : (s : Steps) → length (s .numbers) ≡ n
-      → arrivedIn (map (λ tpdu. outcomeNumber (sequenceRead tpdu)) tpdus ++ drop n numbers) s ≡ arrivedIn numbers s
+      → arrivedIn o (map (λ tpdu. sequenceNumbers (sequenceRead tpdu) .number) tpdus ++ drop n numbers) (gives s) ≡ arrivedIn o numbers (gives s)
   column-kept s l =
-      let first : List ℕ = map (λ tpdu. outcomeNumber (sequenceRead tpdu)) tpdus in
+      let first : List ℕ = map (λ tpdu. sequenceNumbers (sequenceRead tpdu) .number) tpdus in
       let same : drop (length (s .numbers)) (first ++ drop n numbers) ≡ drop (length (s .numbers)) numbers =
-      drop-at first (drop n numbers) (length (s .numbers)) (length-map tpdus (λ tpdu. outcomeNumber (sequenceRead tpdu)) ∙ count ∙ sym l)
+      drop-at first (drop n numbers) (length (s .numbers)) (length-map tpdus (λ tpdu. sequenceNumbers (sequenceRead tpdu) .number) ∙ count ∙ sym l)
       ∙ ap (λ (k : ℕ). drop k numbers) (sym l) in
-      ap (λ (l : List ℕ). record { returns = length (s .numbers); numbers = s .numbers ++ l; observer = s .observer }) same
+      ap (λ (l : List ℕ). record { outcome = gives (length (s .numbers)); numbers = s .numbers ++ l; observer = s .observer }) same
 
-  pub received-all : (returned-then numbers-then : List ℕ)
-      → returned-then ≡ map (λ tpdu. sequenceOrZero (sequenceRead tpdu)) tpdus ++ drop n returned
-      → numbers-then ≡ map (λ tpdu. outcomeNumber (sequenceRead tpdu)) tpdus ++ drop n numbers
+  sequences-front : map (λ tpdu. sequenceNumbers (sequenceRead tpdu) .sequence) tpdus ++ drop n returned
+      ≡ atFront (map (λ tpdu. sequenceNumbers (sequenceRead tpdu) .sequence) tpdus) returned
+  sequences-front =
+      ap (λ (k : ℕ). map (λ tpdu. sequenceNumbers (sequenceRead tpdu) .sequence) tpdus ++ drop k returned)
+      (sym (length-map tpdus (λ tpdu. sequenceNumbers (sequenceRead tpdu) .sequence) ∙ count))
+
+  pub received-all : wellFormed o ≡ true → (returned-then numbers-then : List ℕ)
+      → returned-then ≡ map (λ tpdu. sequenceNumbers (sequenceRead tpdu) .sequence) tpdus ++ drop n returned
+      → numbers-then ≡ map (λ tpdu. sequenceNumbers (sequenceRead tpdu) .number) tpdus ++ drop n numbers
       → record { returned = returned-then; arrived = recordReturns o (take n times) returned-then numbers-then }
       ≡ recordReceivedTpdus o times lengths bytes returned numbers
-  unfolding recordReceivedTpdus recordReturns
-  received-all returned-then numbers-then r m =
+  received-all w returned-then numbers-then r m =
       let rs : List Received = receivedOf times tpdus in
-      let steps =
+      let front : List ℕ = map (λ tpdu. sequenceNumbers (sequenceRead tpdu) .sequence) tpdus ++ drop n returned in
+      let column : List ℕ = map (λ tpdu. sequenceNumbers (sequenceRead tpdu) .number) tpdus ++ drop n numbers in
+      let steps : inTurn recordArrival o (arrivalsOf (take n times) front column) ≡ inTurn recordReceived o rs =
       ap (inTurn recordArrival o) (handed (drop n returned) (drop n numbers) n times (tpdusOf lengths bytes) (omega arith) (omega (arith, tpdus-count lengths bytes)))
       ∙ in-turn o rs in
+      let same : recordReturns o (take n times) front column ≡ arrivedIn o numbers (gives (inTurn recordReceived o rs)) =
+      sym (returns-well o (take n times) front column w)
+      ∙ ap (λ (s : Steps). arrivedIn o column (gives s)) steps
+      ∙ column-kept (inTurn recordReceived o rs) (number-each recordReceived o rs ∙ received-count times tpdus (omega (arith, count)) ∙ count) in
       rw (r, m)
-      (ap (λ (s : Steps). record {
-        returned = map (λ tpdu. sequenceOrZero (sequenceRead tpdu)) tpdus ++ drop n returned;
-        arrived = arrivedIn (map (λ tpdu. outcomeNumber (sequenceRead tpdu)) tpdus ++ drop n numbers) s;
-      }) steps
-      ∙ ap (λ (a : Arrived). record { returned = map (λ tpdu. sequenceOrZero (sequenceRead tpdu)) tpdus ++ drop n returned; arrived = a })
-      (column-kept (inTurn recordReceived o rs) (number-each recordReceived o rs ∙ received-count times tpdus (omega (arith, count)) ∙ count))
-      ∙ ap (λ (k : ℕ). record {
-        returned = map (λ tpdu. sequenceOrZero (sequenceRead tpdu)) (take k (tpdusOf lengths bytes)) ++ drop k returned;
-        arrived = arrivedIn numbers (inTurn recordReceived o (receivedOf times (take k (tpdusOf lengths bytes))));
-      }) e)
+      ((λ i. record { returned = sequences-front i; arrived = same i }) ∙ received-well o times lengths bytes returned numbers w n e)

@@ -1,22 +1,17 @@
--- The code's answers to a message in these terms: what each case means.
--- Assumes nothing.
+-- The code's answers in these terms: what each case means.
 use Prim.Native.Nat.{ℕ}
 use mathlib.Core.List.{List}
-use mathlib.Core.Bool.{true, false, _||_}
-use lib.Dec.{eqb}
-use Rattle.error.specs.Number.{unsupportedMessageType}
 use Rattle.error.specs.Outcome.{Outcome, refused, gives}
-use Rattle.gtpu.specs.Message.{gtpuMsgEchoResponse, gtpuMsgSupportedExtensionHeadersNotification, gtpuMsgEndMarker}
 use Rattle.observer.specs.Answer.{observerOf}
 use Rattle.observer.specs.declared.Recorded.{Recorded}
 use Rattle.observer.specs.declared.Recording.{Recording}
 use Rattle.observer.specs.declared.Recording.the-variants as recording
 use Rattle.continuity.specs.Returns.{MessageStep}
 use Rattle.continuity.specs.declared.GtpuReturnDatagramOutcome.{GtpuReturnDatagramOutcome}
-use Rattle.continuity.specs.declared.GtpuReturnDatagramOutcome.the-variants.{EchoResponse, Ignored}
 use Rattle.continuity.specs.declared.MessageRecorded.{MessageRecorded}
 use Rattle.continuity.specs.declared.ReturnRecording.{ReturnRecording}
 use Rattle.continuity.specs.declared.ReturnRecording.the-variants as message
+use Rattle.continuity.specs.declared.SequenceRead.{SequenceRead}
 
 -- What the answer to a message means: what the message was, or a refusal.
 abbrev pub messageMeans : ReturnRecording → Outcome GtpuReturnDatagramOutcome
@@ -35,13 +30,7 @@ answerOfKind kind (recording.Refused n) = message.Refused n
 abbrev pub messageOfKind : GtpuReturnDatagramOutcome → Recorded → MessageRecorded
 messageOfKind kind r = record { answer = answerOfKind kind (r .answer); counts = r .counts }
 
--- What a message of another type than 255 and 26 comes to behind 21: "2 is noted, 254 and 31 ignored, others (1 too) get 37."
-unfoldable pub noticed : ℕ → Outcome GtpuReturnDatagramOutcome
-noticed messageType =
-    elim (eqb messageType gtpuMsgEchoResponse) [
-      | true ↦ gives EchoResponse
-      | false ↦ elim (eqb messageType gtpuMsgEndMarker || eqb messageType gtpuMsgSupportedExtensionHeadersNotification) [
-        | true ↦ gives (Ignored messageType)
-        | false ↦ refused unsupportedMessageType
-      ]
-    ]
+-- What a T-PDU reads as, in two numbers: its sequence beside 0, or 0 beside the number of the reader's refusal.
+abbrev pub sequenceNumbers : Outcome ℕ → SequenceRead
+sequenceNumbers (refused n) = record { sequence = 0; number = n }
+sequenceNumbers (gives q) = record { sequence = q; number = 0 }

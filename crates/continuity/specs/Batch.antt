@@ -1,15 +1,15 @@
--- A list of T-PDUs that came back, taken in one call: the single call of each, in turn. The Rust has no such call.
--- Assumes nothing.
+-- A list of T-PDUs that came back, taken in one call: 21, and then the single call of each, in turn. The Rust has no such call.
 use Prim.Native.Nat.{ℕ, min}
-use mathlib.Core.List.{List, [], _∷_, _++_, map}
+use mathlib.Core.List.{List, [], _∷_, map}
 use lib.ListN.{length, take, drop}
 use Rattle.error.specs.Outcome.{Outcome, refused, gives}
 use Rattle.observer.specs.Observer.{Observer}
-use Rattle.observer.specs.Judge.{Step}
-use Rattle.observer.specs.InTurn.{inTurn, Arrived, arrivedIn}
-use Rattle.observer.specs.BatchAnswer.{returnsRecorded}
+use Rattle.observer.specs.Judge.{judged, Step}
+use Rattle.observer.specs.InTurn.{inTurn}
+use Rattle.observer.specs.Arrivals.{Arrived, atFront, arrivedIn, returnsRecorded}
 use Rattle.observer.specs.declared.batch.ReturnsRecorded.{ReturnsRecorded}
 use Rattle.continuity.specs.Returns.{sequenceRead, recordReceivedTpdu}
+use Rattle.continuity.specs.Answer.{sequenceNumbers}
 
 -- T-PDUs of these lengths, end to end. Where the bytes end first, the last ones are cut, and the reader refuses them as it does cut packets.
 abbrev pub tpdusOf : List ℕ → List ℕ → List (List ℕ)
@@ -33,23 +33,23 @@ recordReceived o r = recordReceivedTpdu o (r .time) (r .tpdu)
 abbrev pub returnsIn : List ℕ → List ℕ → List ℕ → List ℕ → ℕ
 returnsIn times lengths returned numbers = min (length times) (min (length lengths) (min (length returned) (length numbers)))
 
--- The sequence that a T-PDU reads as, 0 beside a refusal.
-abbrev pub sequenceOrZero : Outcome ℕ → ℕ
-sequenceOrZero (refused n) = 0
-sequenceOrZero (gives q) = q
-
--- What taking a list comes to: the sequences that its T-PDUs read as, at the front of a lent column; and the rest as the observer has it.
+-- What taking a list comes to: the lent column of the sequences that its T-PDUs read as, and the rest as the observer has it.
 pub record ReceivedAll : Type 0 where
   pub returned : List ℕ
   pub arrived : Arrived
 
+-- the sequences at the front of a lent column, which a refusal leaves as it was
+abbrev pub sequencesIn : List ℕ → Outcome (List ℕ) → List ℕ
+sequencesIn column (refused n) = column
+sequencesIn column (gives sequences) = atFront sequences column
+
+-- "Every call .. judges 21 first", for an empty list too; behind it the T-PDUs return one after the other.
 unfoldable pub recordReceivedTpdus : Observer → List ℕ → List ℕ → List ℕ → List ℕ → List ℕ → ReceivedAll
 recordReceivedTpdus o times lengths bytes returned numbers =
-    let n : ℕ = returnsIn times lengths returned numbers in
-    let tpdus : List (List ℕ) = take n (tpdusOf lengths bytes) in
+    let tpdus : List (List ℕ) = take (returnsIn times lengths returned numbers) (tpdusOf lengths bytes) in
     record {
-      returned = map (λ tpdu. sequenceOrZero (sequenceRead tpdu)) tpdus ++ drop n returned;
-      arrived = arrivedIn numbers (inTurn recordReceived o (receivedOf times tpdus));
+      returned = sequencesIn returned (judged o (gives (map (λ tpdu. sequenceNumbers (sequenceRead tpdu) .sequence) tpdus)));
+      arrived = arrivedIn o numbers (judged o (gives (inTurn recordReceived o (receivedOf times tpdus))));
     }
 
 -- What the call answered, and every lent column as it left them.

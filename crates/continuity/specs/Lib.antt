@@ -1,4 +1,6 @@
 -- The two return calls, and what their answers mean.
+pub mod Kinds
 pub mod Returns
 pub mod Answer
 pub mod Batch
+pub mod Claims

@@ -1,28 +1,28 @@
 -- The observer's two return calls (document 01, leaf 6; the Rust's `record_received_tpdu` and `record_return_gtpu_datagram`, the second after
 -- its header is parsed).
--- Assumes nothing.
 use Prim.Native.Nat.{ℕ}
 use mathlib.Core.List.{List}
-use mathlib.Core.Bool.{Bool, true, false, _||_}
-use lib.Dec.{eqb}
-use Rattle.error.specs.Number.{unsupportedMessageType}
 use Rattle.error.specs.Outcome.{Outcome, refused, gives}
 use Rattle.measurement.specs.Read.{readOf}
 use Rattle.gtpu.specs.Element.{elementsOf}
-use Rattle.gtpu.specs.Message.{gtpuMsgEchoResponse, gtpuMsgErrorIndication, gtpuMsgSupportedExtensionHeadersNotification, gtpuMsgEndMarker, gtpuMsgGpdu}
 use Rattle.observer.specs.Observer.{Observer}
-use Rattle.observer.specs.Judge.{judged, Step}
+use Rattle.observer.specs.Judge.{judged, Step, afterReading}
 use Rattle.observer.specs.Returning.{recordReturn, recordErrorIndication}
+use Rattle.continuity.specs.Kinds.{messageKind}
 use Rattle.continuity.specs.declared.GtpuReturnDatagramOutcome.{GtpuReturnDatagramOutcome}
 use Rattle.continuity.specs.declared.GtpuReturnDatagramOutcome.the-variants.{MeasurementTpdu, ErrorIndication, EchoResponse, Ignored}
 
--- What reading a T-PDU comes to for the observer: the sequence. Its flow and send time are not compared with anything.
+-- What the observer is told of a T-PDU: the sequence, or the reader's refusal. Its flow and send time are not compared with anything.
 unfoldable pub sequenceRead : List ℕ → Outcome ℕ
 sequenceRead tpdu = elim (readOf tpdu) [ refused n ↦ refused n | gives t ↦ gives (t .measurement .sequence) ]
 
 -- A T-PDU returns at this time. "A return is judged 21, 1 to 14, 23, 24, then duplicate, then out of order".
 unfoldable pub recordReceivedTpdu : Observer → ℕ → List ℕ → Step
-recordReceivedTpdu o time tpdu = recordReturn o time (sequenceRead tpdu)
+recordReceivedTpdu o time tpdu = afterReading o (sequenceRead tpdu) (recordReturn o time)
+
+-- An Error Indication comes: 21, then "leaf 8's walk and then the counter".
+abbrev pub recordElements : Observer → List ℕ → Step
+recordElements o elements = afterReading o (elementsOf elements) (λ accepted. recordErrorIndication o)
 
 -- What a message comes to: what it was, or a refusal; and the observer as it leaves it.
 pub record MessageStep : Type 0 where
@@ -37,20 +37,14 @@ asMessage kind s = record { outcome = elim (s .outcome) [ refused n ↦ refused 
 abbrev pub unchanged : Observer → Outcome GtpuReturnDatagramOutcome → MessageStep
 unchanged o outcome = record { outcome = judged o outcome; observer = o }
 
--- A message of this type and payload returns at this time. "type 255 is a return, 26 is leaf 8's walk and then the counter, 2 is noted, 254 and
--- 31 ignored, others (1 too) get 37."
+-- What a message of each kind does, with this payload at this time.
+abbrev pub recordKind : Observer → ℕ → List ℕ → GtpuReturnDatagramOutcome → MessageStep
+recordKind o time payload MeasurementTpdu = asMessage MeasurementTpdu (recordReceivedTpdu o time payload)
+recordKind o time payload ErrorIndication = asMessage ErrorIndication (recordElements o payload)
+recordKind o time payload EchoResponse = unchanged o (gives EchoResponse)
+recordKind o time payload (Ignored messageType) = unchanged o (gives (Ignored messageType))
+
+-- A message of this type and payload returns at this time; 37 leaves all as it was.
 unfoldable pub recordReturnMessage : Observer → ℕ → ℕ → List ℕ → MessageStep
 recordReturnMessage o time messageType payload =
-    elim (eqb messageType gtpuMsgGpdu) [
-      | true ↦ asMessage MeasurementTpdu (recordReceivedTpdu o time payload)
-      | false ↦ elim (eqb messageType gtpuMsgErrorIndication) [
-        | true ↦ asMessage ErrorIndication (recordErrorIndication o (elementsOf payload))
-        | false ↦ elim (eqb messageType gtpuMsgEchoResponse) [
-          | true ↦ unchanged o (gives EchoResponse)
-          | false ↦ elim (eqb messageType gtpuMsgEndMarker || eqb messageType gtpuMsgSupportedExtensionHeadersNotification) [
-            | true ↦ unchanged o (gives (Ignored messageType))
-            | false ↦ unchanged o (refused unsupportedMessageType)
-          ]
-        ]
-      ]
-    ]
+    elim (messageKind messageType) [ refused n ↦ unchanged o (refused n) | gives kind ↦ recordKind o time payload kind ]

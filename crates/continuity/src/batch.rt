@@ -1,36 +1,16 @@
-// A list of T-PDUs that came back, taken in one call: they are read one after the other, and what they read as goes to the observer, which judges
-// 21 once. The Rust has no such call: the contract says that it comes to what the single calls come to (specs/Batch.antt).
+// A list of T-PDUs that came back, taken in one call: 21 is judged, they are read one after the other, and the observer is told what they read as.
+// The Rust has no such call: behind 21 it is the single calls in turn (specs/Batch.antt).
 use observer::ObserverCounts;
-use observer::Returned;
 use observer::batch::ReturnsRecorded;
+use observer::batch::ReturnsRecording;
 ghost use mathlib.Core.Path.{_≡_};
 ghost use mathlib.Core.List.{_++_, map};
 ghost use Prim.Native.Nat.{_+_, _≤_, min};
 ghost use lib.ListN.{length, take, drop};
-ghost use Rattle.error.specs.Outcome.{outcomeNumber};
-ghost use Rattle.observer.specs.Answer.{observerOf, returnedMeans};
+ghost use Rattle.observer.specs.Answer.{observerOf};
 ghost use Rattle.continuity.specs.Returns.{sequenceRead};
-ghost use Rattle.continuity.specs.Batch.{tpdusOf, sequenceOrZero, recordReceivedTpdus, receivedAll};
-
-// The sequence that a T-PDU reads as, 0 beside a refusal.
-fn read_value(read: Returned) -> u64
-    ensures { λ r. ⌜ r ≡ sequenceOrZero (returnedMeans read) ⌝ }
-{
-    match read {
-        Returned::Sequence(sequence) => sequence,
-        Returned::Refused(_) => 0,
-    }
-}
-
-// The number of the reader's refusal, 0 beside a sequence.
-fn read_number(read: Returned) -> u8
-    ensures { λ r. ⌜ r ≡ outcomeNumber (returnedMeans read) ⌝ }
-{
-    match read {
-        Returned::Sequence(_) => 0,
-        Returned::Refused(number) => number,
-    }
-}
+ghost use Rattle.continuity.specs.Answer.{sequenceNumbers};
+ghost use Rattle.continuity.specs.Batch.{tpdusOf, recordReceivedTpdus, receivedAll};
 
 fn least(a: usize, b: usize) -> usize
     ensures { λ r. ⌜ r ≡ min a b ⌝ }
@@ -59,16 +39,16 @@ fn read_tpdus(
     numbers: &mut [u8],
 )
     requires { ⌜ (returns ≤ length (now lengths)) × (returns ≤ length (now returned)) × (returns ≤ length (now numbers)) ⌝ }
-    ensures sequences { λ _. ⌜ now (returned .exit) ≡ map (λ tpdu. sequenceOrZero (sequenceRead tpdu)) (take returns (tpdusOf (now (lengths .entry)) (now (tpdus .entry)))) ++ drop returns (now (returned .entry)) ⌝ }
-    ensures refusals { λ _. ⌜ now (numbers .exit) ≡ map (λ tpdu. outcomeNumber (sequenceRead tpdu)) (take returns (tpdusOf (now (lengths .entry)) (now (tpdus .entry)))) ++ drop returns (now (numbers .entry)) ⌝ }
+    ensures sequences { λ _. ⌜ now (returned .exit) ≡ map (λ tpdu. sequenceNumbers (sequenceRead tpdu) .sequence) (take returns (tpdusOf (now (lengths .entry)) (now (tpdus .entry)))) ++ drop returns (now (returned .entry)) ⌝ }
+    ensures refusals { λ _. ⌜ now (numbers .exit) ≡ map (λ tpdu. sequenceNumbers (sequenceRead tpdu) .number) (take returns (tpdusOf (now (lengths .entry)) (now (tpdus .entry)))) ++ drop returns (now (numbers .entry)) ⌝ }
 {
     let mut at = 0;
     let mut i = 0;
     while i < returns {
         let end = tpdu_end(at, lengths[i], tpdus.len());
         let read = crate::read_sequence(&tpdus[at..end]);
-        returned[i] = read_value(read);
-        numbers[i] = read_number(read);
+        returned[i] = read.sequence;
+        numbers[i] = read.number;
         at = end;
         i += 1;
     }
@@ -76,7 +56,7 @@ fn read_tpdus(
 
 // Records T-PDUs that came back: T-PDU k has the k-th length, lies behind those before it, and came at the k-th time. Each is taken or refused as
 // `record_received_tpdu` would, and its number, 0 for none, is written to `numbers`; `returned` gets the sequence that it reads as, 0 beside a
-// refusal of the reader. The list is as long as the shortest of these columns.
+// refusal of the reader. The list is as long as the shortest of these columns. Refuses the whole list by 21, and leaves these columns too.
 pub fn record_received_tpdus(
     sequences: &[u64],
     send_timestamps: &[u64],
@@ -93,6 +73,12 @@ pub fn record_received_tpdus(
         ≡ recordReceivedTpdus (observerOf (now (sequences .entry)) (now («send_timestamps» .entry)) (now (latencies .entry)) (now (marks .entry)) counts)
         (now («return_timestamps» .entry)) (now (lengths .entry)) (now (tpdus .entry)) (now (returned .entry)) (now (numbers .entry)) ⌝ }
 {
+    if !observer::well_formed(sequences, send_timestamps, latencies, marks, counts) {
+        return ReturnsRecorded {
+            answer: ReturnsRecording::Refused(error::MALFORMED_OBSERVER),
+            counts: counts,
+        };
+    }
     let columns = least(returned.len(), numbers.len());
     let returns = least(return_timestamps.len(), least(lengths.len(), columns));
     read_tpdus(lengths, tpdus, returns, returned, numbers);

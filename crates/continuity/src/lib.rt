@@ -5,13 +5,14 @@ use gtpu::ElementsChecked;
 use observer::ObserverCounts;
 use observer::Recorded;
 use observer::Recording;
-use observer::Returned;
-use observer::Walked;
 ghost use mathlib.Core.Path.{_≡_};
-ghost use Rattle.gtpu.specs.Element.{elementsOf};
-ghost use Rattle.observer.specs.Answer.{observerOf, recorded, returnedMeans, walkedMeans};
-ghost use Rattle.continuity.specs.Returns.{sequenceRead, recordReceivedTpdu, unchanged, recordReturnMessage};
-ghost use Rattle.continuity.specs.Answer.{messageMeans, messageRecorded, messageOfKind, noticed};
+ghost use Rattle.gtpu.specs.Message.{gtpuMsgErrorIndication, gtpuMsgGpdu};
+ghost use Rattle.observer.specs.Judge.{refusing};
+ghost use Rattle.observer.specs.Answer.{observerOf, recorded};
+ghost use Rattle.continuity.specs.Kinds.{messageKind};
+ghost use Rattle.continuity.specs.Returns.{sequenceRead, recordReceivedTpdu, recordElements, unchanged, recordReturnMessage};
+ghost use Rattle.continuity.specs.Answer.{messageMeans, messageRecorded, messageOfKind, sequenceNumbers};
+ghost use Rattle.continuity.specs.Claims.{KindIsOfType};
 
 pub mod batch; // batch.rt: a list of T-PDUs that came back, in one call
 
@@ -35,21 +36,50 @@ pub struct MessageRecorded {
     pub counts: ObserverCounts,
 }
 
-// What reading a T-PDU comes to for the observer: its sequence, or the reader's refusal.
-fn read_sequence(tpdu: &[u8]) -> Returned
-    ensures { λ r. ⌜ returnedMeans r ≡ sequenceRead (now (tpdu .entry)) ⌝ }
+// What a T-PDU reads as: its sequence beside 0, or 0 beside the number of the reader's refusal.
+struct SequenceRead {
+    sequence: u64,
+    number: u8,
+}
+
+fn read_sequence(tpdu: &[u8]) -> SequenceRead
+    ensures { λ r. ⌜ r ≡ sequenceNumbers (sequenceRead (now (tpdu .entry))) ⌝ }
 {
     let mut src = [0; 16];
     let mut dst = [0; 16];
     let read = measurement_decode::decode_into(tpdu, &mut src, &mut dst);
-    if read.number != 0 {
-        return Returned::Refused(read.number);
+    SequenceRead {
+        sequence: read.sequence,
+        number: read.number,
     }
-    Returned::Sequence(read.sequence)
 }
 
-// Records a T-PDU that came back. It is read first, which changes nothing; what it reads as goes to the observer, which judges 21 before
-// the reader's refusal. Refuses by 21, 1 to 14, 23, 24.
+// A T-PDU or a list of elements that is refused by this number: 21 comes first.
+fn refuse(
+    sequences: &[u64],
+    send_timestamps: &[u64],
+    latencies: &[u64],
+    marks: &[u8],
+    counts: ObserverCounts,
+    number: u8,
+) -> Recorded
+    ensures { λ r. ⌜ recorded r (now (sequences .entry)) (now («send_timestamps» .entry)) (now (latencies .entry)) (now (marks .entry))
+        ≡ refusing (observerOf (now (sequences .entry)) (now («send_timestamps» .entry)) (now (latencies .entry)) (now (marks .entry)) counts) number ⌝ }
+{
+    if !observer::well_formed(sequences, send_timestamps, latencies, marks, counts) {
+        return Recorded {
+            answer: Recording::Refused(error::MALFORMED_OBSERVER),
+            counts: counts,
+        };
+    }
+    Recorded {
+        answer: Recording::Refused(number),
+        counts: counts,
+    }
+}
+
+// Records a T-PDU that came back. It is read first, which changes nothing; the observer judges 21 before the reader's refusal, and is told the
+// sequence where there is none. Refuses by 21, 1 to 14, 23, 24.
 pub fn record_received_tpdu(
     sequences: &[u64],
     send_timestamps: &[u64],
@@ -63,7 +93,17 @@ pub fn record_received_tpdu(
         ≡ recordReceivedTpdu (observerOf (now (sequences .entry)) (now («send_timestamps» .entry)) (now (latencies .entry)) (now (marks .entry)) counts)
         «return_timestamp_ns» (now (tpdu .entry)) ⌝ }
 {
-    let returned = read_sequence(tpdu);
+    let read = read_sequence(tpdu);
+    if read.number != 0 {
+        return refuse(
+            sequences,
+            send_timestamps,
+            latencies,
+            marks,
+            counts,
+            read.number,
+        );
+    }
     observer::record_return(
         sequences,
         send_timestamps,
@@ -71,17 +111,39 @@ pub fn record_received_tpdu(
         marks,
         counts,
         return_timestamp_ns,
-        returned,
+        read.sequence,
     )
 }
 
-// What walking the elements of an Error Indication comes to for the observer.
-fn walk(payload: &[u8]) -> Walked
-    ensures { λ r. ⌜ walkedMeans r ≡ elementsOf (now (payload .entry)) ⌝ }
+// Records an Error Indication with these elements, which are walked first. Refuses by 21, 25 to 29.
+fn record_elements(
+    sequences: &[u64],
+    send_timestamps: &[u64],
+    latencies: &[u64],
+    marks: &[u8],
+    counts: ObserverCounts,
+    elements: &[u8],
+) -> Recorded
+    ensures { λ r. ⌜ recorded r (now (sequences .entry)) (now («send_timestamps» .entry)) (now (latencies .entry)) (now (marks .entry))
+        ≡ recordElements (observerOf (now (sequences .entry)) (now («send_timestamps» .entry)) (now (latencies .entry)) (now (marks .entry)) counts)
+        (now (elements .entry)) ⌝ }
 {
-    match gtpu::validate_error_indication_ies(payload) {
-        ElementsChecked::Refused(number) => Walked::Refused(number),
-        ElementsChecked::Accepted => Walked::Accepted,
+    match gtpu::validate_error_indication_ies(elements) {
+        ElementsChecked::Refused(number) => refuse(
+            sequences,
+            send_timestamps,
+            latencies,
+            marks,
+            counts,
+            number,
+        ),
+        ElementsChecked::Accepted => observer::record_error_indication(
+            sequences,
+            send_timestamps,
+            latencies,
+            marks,
+            counts,
+        ),
     }
 }
 
@@ -105,7 +167,8 @@ fn message_of_kind(kind: GtpuReturnDatagramOutcome, step: Recorded) -> MessageRe
 
 // The answer to a message of another type than 255 and 26, behind 21.
 fn notice(message_type: u8) -> ReturnRecording
-    ensures { λ r. ⌜ messageMeans r ≡ noticed «message_type» ⌝ }
+    requires { ⌜ («message_type» ≡ gtpuMsgGpdu → ⊥) × («message_type» ≡ gtpuMsgErrorIndication → ⊥) ⌝ }
+    ensures { λ r. ⌜ messageMeans r ≡ messageKind «message_type» ⌝ }
 {
     match message_type {
         gtpu::GTPU_MSG_ECHO_RESPONSE => ReturnRecording::Accepted(
@@ -172,14 +235,13 @@ pub fn record_return_gtpu_datagram(
             message_of_kind(GtpuReturnDatagramOutcome::MeasurementTpdu, step)
         }
         gtpu::GTPU_MSG_ERROR_INDICATION => {
-            let walked = walk(payload);
-            let step = observer::record_error_indication(
+            let step = record_elements(
                 sequences,
                 send_timestamps,
                 latencies,
                 marks,
                 counts,
-                walked,
+                payload,
             );
             message_of_kind(GtpuReturnDatagramOutcome::ErrorIndication, step)
         }
@@ -193,3 +255,8 @@ pub fn record_return_gtpu_datagram(
         ),
     }
 }
+
+// Carries the claim that an accepted message is of a kind that has its type.
+pub fn kind_is_of_type()
+    ensures { λ _. ⌜ KindIsOfType ⌝ }
+{}

@@ -15,10 +15,10 @@ use mathlib.Core.Path.{_≡_}
 use Rattle.observer.specs.Judge.{Step}
 use Rattle.observer.specs.declared.ObserverCounts.{ObserverCounts}
 use Rattle.observer.specs.declared.batch.PlanRecorded.{PlanRecorded}
-use Rattle.observer.specs.declared.batch.ReturnsRecorded.{ReturnsRecorded}
 use Rattle.traffic.specs.Generate.{Generating}
 use Rattle.plan.specs.declared.TrafficPlan.{TrafficPlan}
 use Rattle.continuity.specs.Returns.{MessageStep}
+use Rattle.continuity.specs.Batch.{ReceivedAll}
 use Rattle.continuity.specs.declared.GtpuReturnDatagramOutcome.{GtpuReturnDatagramOutcome}
 use Rattle.continuity.specs.declared.GtpuReturnDatagramOutcome.the-variants.{MeasurementTpdu, ErrorIndication, EchoResponse, Ignored}
 use Rattle.evidence.specs.Latency.{latencyMeans}
@@ -81,22 +81,11 @@ recordedNumbers outcome c = record {
   «gtpu_error_indications» = c .«gtpu_error_indications»;
 }
 
--- The batch calls' answers, which C has with the counts as fields of their own.
+-- What entering a plan answers, which C has with the counts as fields of their own.
 abbrev pub planAnswer : TestkitPlanRecorded → PlanRecorded
 planAnswer r = record {
   entered = r .entered;
   number = r .number;
-  counts = record {
-    used = r .used;
-    «duplicate_packets» = r .«duplicate_packets»;
-    «out_of_order_packets» = r .«out_of_order_packets»;
-    «gtpu_error_indications» = r .«gtpu_error_indications»;
-  };
-}
-
-abbrev pub returnsAnswer : TestkitReturnsRecorded → ReturnsRecorded
-returnsAnswer r = record {
-  returns = r .returns;
   counts = record {
     used = r .used;
     «duplicate_packets» = r .«duplicate_packets»;
@@ -112,6 +101,29 @@ pub record RecordedStep (r : TestkitRecorded) (qs ts ls ms : List ℕ) (s : Step
   pub send-times : ts ≡ s .observer .sendTimes
   pub latencies : ls ≡ s .observer .latencies
   pub marks : ms ≡ s .observer .marks
+
+abbrev pub countGiven : Outcome ℕ → ℕ
+countGiven (refused n) = 0
+countGiven (gives count) = count
+
+-- A list of returns: how many there were and 0, or 0 and the number of a refusal of the whole list.
+abbrev pub returnsNumbers : Outcome ℕ → ObserverCounts → TestkitReturnsRecorded
+returnsNumbers outcome c = record {
+  returns = countGiven outcome;
+  number = outcomeNumber outcome;
+  used = c .used;
+  «duplicate_packets» = c .«duplicate_packets»;
+  «out_of_order_packets» = c .«out_of_order_packets»;
+  «gtpu_error_indications» = c .«gtpu_error_indications»;
+}
+
+-- Its answer, the two columns that are lent for it, and the two of the sheet that it may change.
+pub record ReturnsNumbers (r : TestkitReturnsRecorded) (qs ns ls ms : List ℕ) (s : ReceivedAll) : Type 0 where
+  pub answer : r ≡ returnsNumbers (s .arrived .outcome) (s .arrived .observer .counts)
+  pub returned : qs ≡ s .returned
+  pub numbers : ns ≡ s .arrived .numbers
+  pub latencies : ls ≡ s .arrived .observer .latencies
+  pub marks : ms ≡ s .arrived .observer .marks
 
 -- What a message was: 0 where it was refused.
 abbrev pub kindOf : GtpuReturnDatagramOutcome → ℕ

@@ -16,6 +16,8 @@ use measurement::Written;
 use observer::ObserverCounts;
 use observer::Recorded;
 use observer::Recording;
+use observer::batch::ReturnsRecorded;
+use observer::batch::ReturnsRecording;
 use plan::TrafficPlan;
 use report::Reported;
 ghost use mathlib.Core.Path.{_≡_};
@@ -36,13 +38,14 @@ ghost use Rattle.observer.specs.Sending.{recordSent};
 ghost use Rattle.observer.specs.Answer.{observerOf, recordingMeans};
 ghost use Rattle.observer.specs.InTurn.{recordSentPlan};
 ghost use Rattle.observer.specs.BatchAnswer.{planRecorded};
+ghost use Rattle.observer.specs.Arrivals.{returnsMeans};
 ghost use Rattle.continuity.specs.Returns.{recordReceivedTpdu, recordReturnMessage};
 ghost use Rattle.continuity.specs.Answer.{messageMeans};
-ghost use Rattle.continuity.specs.Batch.{recordReceivedTpdus, receivedAll};
+ghost use Rattle.continuity.specs.Batch.{recordReceivedTpdus};
 ghost use Rattle.evidence.specs.Latency.{latencyMeans};
 ghost use Rattle.report.specs.Report.{reporting};
 ghost use Rattle.report.specs.Answer.{reportedMeans};
-ghost use Rattle.exports.specs.Interface.{flowOf, writtenNumbers, testkitTpdu, planOf, GeneratedStep, countsOf, recordedNumbers, RecordedStep, planAnswer, returnsAnswer, kindNumber, ignoredType, messageNumbers, MessageStepNumbers, latencyNumbers, budgetOf, reportNumbers};
+ghost use Rattle.exports.specs.Interface.{flowOf, writtenNumbers, testkitTpdu, planOf, GeneratedStep, countsOf, recordedNumbers, RecordedStep, planAnswer, countGiven, returnsNumbers, ReturnsNumbers, kindNumber, ignoredType, messageNumbers, MessageStepNumbers, latencyNumbers, budgetOf, reportNumbers};
 
 // What a call that writes into a lent buffer answers: 0 and how many bytes it wrote, or a refusal's number and 0 bytes.
 #[repr(C)]
@@ -362,14 +365,48 @@ pub extern "C" fn testkit_record_sent_plan(
     }
 }
 
-// What a list of returns answers: how many returns it had, and the counts after the last.
+// What a list of returns answers: how many returns it had and 0, or 0 and the number of a refusal of the whole list; and the counts afterwards.
 #[repr(C)]
 pub struct TestkitReturnsRecorded {
     pub returns: usize,
+    pub number: u8,
     pub used: usize,
     pub duplicate_packets: u64,
     pub out_of_order_packets: u64,
     pub gtpu_error_indications: u64,
+}
+
+fn returns_count(answer: ReturnsRecording) -> usize
+    ensures { λ r. ⌜ r ≡ countGiven (returnsMeans answer) ⌝ }
+{
+    match answer {
+        ReturnsRecording::Accepted(returns) => returns,
+        ReturnsRecording::Refused(_) => 0,
+    }
+}
+
+fn returns_number(answer: ReturnsRecording) -> u8
+    ensures { λ r. ⌜ r ≡ outcomeNumber (returnsMeans answer) ⌝ }
+{
+    match answer {
+        ReturnsRecording::Accepted(_) => 0,
+        ReturnsRecording::Refused(number) => number,
+    }
+}
+
+fn returns_numbers(recorded: ReturnsRecorded) -> TestkitReturnsRecorded
+    ensures { λ r. ⌜ r ≡ returnsNumbers (returnsMeans (recorded .answer)) (recorded .counts) ⌝ }
+{
+    let answer = recorded.answer;
+    let counts = recorded.counts;
+    TestkitReturnsRecorded {
+        returns: returns_count(answer),
+        number: returns_number(answer),
+        used: counts.used,
+        duplicate_packets: counts.duplicate_packets,
+        out_of_order_packets: counts.out_of_order_packets,
+        gtpu_error_indications: counts.gtpu_error_indications,
+    }
 }
 
 // `continuity::batch::record_received_tpdus`
@@ -386,11 +423,11 @@ pub extern "C" fn testkit_record_received_tpdus(
     returned: &mut [u64],
     numbers: &mut [u8],
 ) -> TestkitReturnsRecorded
-    ensures { λ r. ⌜ receivedAll (returnsAnswer r) (now (returned .exit)) (now (numbers .exit)) (now (sequences .entry)) (now («send_timestamps» .entry)) (now (latencies .exit)) (now (marks .exit))
-        ≡ recordReceivedTpdus (observerOf (now (sequences .entry)) (now («send_timestamps» .entry)) (now (latencies .entry)) (now (marks .entry)) (countsOf counts))
-        (now («return_timestamps» .entry)) (now (lengths .entry)) (now (tpdus .entry)) (now (returned .entry)) (now (numbers .entry)) ⌝ }
+    ensures { λ r. ⌜ ReturnsNumbers r (now (returned .exit)) (now (numbers .exit)) (now (latencies .exit)) (now (marks .exit))
+        (recordReceivedTpdus (observerOf (now (sequences .entry)) (now («send_timestamps» .entry)) (now (latencies .entry)) (now (marks .entry)) (countsOf counts))
+        (now («return_timestamps» .entry)) (now (lengths .entry)) (now (tpdus .entry)) (now (returned .entry)) (now (numbers .entry))) ⌝ }
 {
-    let recorded = continuity::batch::record_received_tpdus(
+    returns_numbers(continuity::batch::record_received_tpdus(
         sequences,
         send_timestamps,
         latencies,
@@ -401,15 +438,7 @@ pub extern "C" fn testkit_record_received_tpdus(
         tpdus,
         returned,
         numbers,
-    );
-    let after = recorded.counts;
-    TestkitReturnsRecorded {
-        returns: recorded.returns,
-        used: after.used,
-        duplicate_packets: after.duplicate_packets,
-        out_of_order_packets: after.out_of_order_packets,
-        gtpu_error_indications: after.gtpu_error_indications,
-    }
+    ))
 }
 
 // What a message call answers. `kind`: 0 refused, 1 a measurement T-PDU, 2 an Error Indication, 3 an Echo Response, 4 ignored; of an ignored

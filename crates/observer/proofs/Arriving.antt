@@ -56,7 +56,7 @@ used-kept false c = refl
 
 -- an observer that was judged, and a place that was found
 module _ {o : Observer} (w : Well o) (q t k : ℕ) (at : k ≡ place q (take (o .counts .used) (o .sequences))) where
-  pub arrives-unknown : holds q k (take (o .counts .used) (o .sequences)) ≡ false → step o (refused sequenceWasNotSent) ≡ recordReturn o t (gives q)
+  pub arrives-unknown : holds q k (take (o .counts .used) (o .sequences)) ≡ false → step o (refused sequenceWasNotSent) ≡ recordReturn o t q
   arrives-unknown e = return-unknown o (w .accepted) q t (found w q k at ∙ e)
 
   module _ (h : holds q k (take (o .counts .used) (o .sequences)) ≡ true) where
@@ -93,11 +93,11 @@ module _ {o : Observer} (w : Well o) (q t k : ℕ) (at : k ≡ place q (take (o 
         ∙ ap (λ (l : List ℕ). anyMarked (drop (suc k) l)) (w .fronts .marks)
         ∙ ap (λ (i : ℕ). anyMarked (drop i (take (o .counts .used) (o .marks)))) (sym (add-one k))
 
-    pub arrives-early : t < getD (o .sendTimes) k 0 → step o (refused timestampReversed) ≡ recordReturn o t (gives q)
+    pub arrives-early : t < getD (o .sendTimes) k 0 → step o (refused timestampReversed) ≡ recordReturn o t q
     arrives-early g = return-early o (w .accepted) q t known (omega (arith, sent-is))
 
     pub arrives-duplicate : getD (o .sendTimes) k 0 ≤ t → getD (o .marks) k 0 ≡ 1 → (c : ObserverCounts) → c ≡ oneDuplicate (o .counts)
-        → step o (gives (withCounts c o)) ≡ recordReturn o t (gives q)
+        → step o (gives (withCounts c o)) ≡ recordReturn o t q
     arrives-duplicate g m c e =
         ap (λ (x : ObserverCounts). step o (gives (withCounts x o))) e
         ∙ return-duplicate o (w .accepted) q t known (omega (arith, sent-is)) (mark-is ∙ m)
@@ -113,7 +113,7 @@ module _ {o : Observer} (w : Well o) (q t k : ℕ) (at : k ≡ place q (take (o 
           marks = set (o .marks) k 1;
           counts = c;
         }))
-        ≡ recordReturn o t (gives q)
+        ≡ recordReturn o t q
     arrives-first g m late c el ec =
         let row : ℕ → ObserverCounts → Observer = λ i x. withRows (set (rows o) i (returned t (rowAt i (rows o)))) (withCounts x o) in
         let e : c ≡ outOfOrderIf (ltb q (highestMarked (rows o))) (o .counts) = ec ∙ ap (λ (b : Bool). outOfOrderIf b (o .counts)) (el ∙ sym late-is) in

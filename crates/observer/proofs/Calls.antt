@@ -12,7 +12,7 @@ use Rattle.error.proofs.Causes.{refuses, passes, here, later, past, none}
 use Rattle.error.proofs.Tests.{and-left, and-right, and-both}
 use Rattle.observer.specs.Counts.{oneDuplicate, outOfOrderIf, oneErrorIndication}
 use Rattle.observer.specs.Observer.{Observer, capacity, rows, sentRow, withRows, withCounts}
-use Rattle.observer.specs.Judge.{wellFormed, judged, step}
+use Rattle.observer.specs.Judge.{wellFormed, judged, step, refusing}
 use Rattle.observer.specs.Place.{placeOf, wasSent, rowOf, highestMarked}
 use Rattle.observer.specs.Sending.{resent, entered, sendingCauses, recordSent}
 use Rattle.observer.specs.Returning.{returned, arrivalCauses, arrived, arrival, recordReturn, recordErrorIndication}
@@ -32,14 +32,20 @@ pub sent-malformed : (o : Observer) (q t : ℕ) → wellFormed o ≡ false → s
 unfolding recordSent
 sent-malformed o q t e = ap (step o) (judged-malformed o _ e)
 
-pub return-malformed : (o : Observer) (t : ℕ) (read : Outcome ℕ) → wellFormed o ≡ false → step o (refused malformedObserver) ≡ recordReturn o t read
+pub return-malformed : (o : Observer) (t q : ℕ) → wellFormed o ≡ false → step o (refused malformedObserver) ≡ recordReturn o t q
 unfolding recordReturn
-return-malformed o t read e = ap (step o) (judged-malformed o _ e)
+return-malformed o t q e = ap (step o) (judged-malformed o _ e)
 
-pub indication-malformed : (o : Observer) (walk : Outcome (Unit {0})) → wellFormed o ≡ false
-    → step o (refused malformedObserver) ≡ recordErrorIndication o walk
+pub indication-malformed : (o : Observer) → wellFormed o ≡ false → step o (refused malformedObserver) ≡ recordErrorIndication o
 unfolding recordErrorIndication
-indication-malformed o walk e = ap (step o) (judged-malformed o _ e)
+indication-malformed o e = ap (step o) (judged-malformed o _ e)
+
+-- a refusal behind 21
+pub refusing-malformed : (o : Observer) (n : ℕ) → wellFormed o ≡ false → step o (refused malformedObserver) ≡ refusing o n
+refusing-malformed o n e = ap (step o) (judged-malformed o _ e)
+
+pub refusing-well : (o : Observer) (n : ℕ) → wellFormed o ≡ true → step o (refused n) ≡ refusing o n
+refusing-well o n e = ap (step o) (judged-well o _ e)
 
 -- ---- sending
 
@@ -83,23 +89,19 @@ module _ (o : Observer) (w : wellFormed o ≡ true) (q t : ℕ) where
 
 -- ---- a return
 
-pub return-refused : (o : Observer) (t n : ℕ) → wellFormed o ≡ true → step o (refused n) ≡ recordReturn o t (refused n)
-unfolding recordReturn
-return-refused o t n e = ap (step o) (judged-well o _ e)
-
 module _ (o : Observer) (w : wellFormed o ≡ true) (q t : ℕ) where
-  arrives : (x : Outcome Observer) → x ≡ arrival o q t → step o x ≡ recordReturn o t (gives q)
+  arrives : (x : Outcome Observer) → x ≡ arrival o q t → step o x ≡ recordReturn o t q
   unfolding recordReturn
   arrives x e = ap (step o) (e ∙ judged-well o _ w)
 
   -- the sequence is not on the sheet
-  pub return-unknown : wasSent q (rows o) ≡ false → step o (refused sequenceWasNotSent) ≡ recordReturn o t (gives q)
+  pub return-unknown : wasSent q (rows o) ≡ false → step o (refused sequenceWasNotSent) ≡ recordReturn o t q
   unfolding arrival arrivalCauses
   return-unknown e = arrives _ (refuses _ (here (ap not e)))
 
   -- it is
   module _ (s : wasSent q (rows o) ≡ true) where
-    pub return-early : t < rowOf q (rows o) .sent → step o (refused timestampReversed) ≡ recordReturn o t (gives q)
+    pub return-early : t < rowOf q (rows o) .sent → step o (refused timestampReversed) ≡ recordReturn o t q
     unfolding arrival arrivalCauses
     return-early h = arrives _ (refuses _ (later (ap not s) (here (lt-ltb _ _ h))))
 
@@ -113,7 +115,7 @@ module _ (o : Observer) (w : wellFormed o ≡ true) (q t : ℕ) where
         ]
 
     taken : (marked : Bool) → rowOf q (rows o) .sent ≤ t → eqb (rowOf q (rows o) .mark) 1 ≡ marked
-        → step o (gives (arrivedIf marked)) ≡ recordReturn o t (gives q)
+        → step o (gives (arrivedIf marked)) ≡ recordReturn o t q
     unfolding arrival arrivalCauses arrived
     taken marked h e =
         arrives _
@@ -121,7 +123,7 @@ module _ (o : Observer) (w : wellFormed o ≡ true) (q t : ℕ) where
 
     -- its row is marked
     pub return-duplicate : rowOf q (rows o) .sent ≤ t → rowOf q (rows o) .mark ≡ 1
-        → step o (gives (withCounts (oneDuplicate (o .counts)) o)) ≡ recordReturn o t (gives q)
+        → step o (gives (withCounts (oneDuplicate (o .counts)) o)) ≡ recordReturn o t q
     return-duplicate h m = taken true h (eq-eqb _ _ m)
 
     -- it is not, and is now
@@ -130,16 +132,12 @@ module _ (o : Observer) (w : wellFormed o ≡ true) (q t : ℕ) where
         (gives
         (withRows (set (rows o) (placeOf q (rows o)) (returned t (rowOf q (rows o))))
         (withCounts (outOfOrderIf (ltb q (highestMarked (rows o))) (o .counts)) o)))
-        ≡ recordReturn o t (gives q)
+        ≡ recordReturn o t q
     return-first h m = taken false h (ne-eqb _ _ m)
 
 -- ---- an error indication
 
-pub indication-refused : (o : Observer) (n : ℕ) → wellFormed o ≡ true → step o (refused n) ≡ recordErrorIndication o (refused n)
-unfolding recordErrorIndication
-indication-refused o n e = ap (step o) (judged-well o _ e)
-
 pub indication-counted : (o : Observer) → wellFormed o ≡ true
-    → step o (gives (withCounts (oneErrorIndication (o .counts)) o)) ≡ recordErrorIndication o (gives tt)
+    → step o (gives (withCounts (oneErrorIndication (o .counts)) o)) ≡ recordErrorIndication o
 unfolding recordErrorIndication
 indication-counted o e = ap (step o) (judged-well o _ e)

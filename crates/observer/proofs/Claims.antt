@@ -8,7 +8,6 @@ use native.Mathlib.Omega.{arith}
 use lib.Dec.{eqb, ltb}
 use lib.ListN.{length, getD, set, length-set, length-map}
 use borrow.Author.Tests.{eqb-true, eqb-false, eq-eqb, lt-ltb, le-leb, ltb-true, ltb-false}
-use Rattle.error.specs.Outcome.{refused, gives}
 use Rattle.error.proofs.Tests.{and-both}
 use Rattle.observer.specs.Counts.{fresh, withUsed, oneDuplicate, outOfOrderIf, oneErrorIndication}
 use Rattle.observer.specs.Observer.{Row, Observer, capacity, rows, sequencesOf}
@@ -21,7 +20,7 @@ use Rattle.observer.specs.Claims.{PutBack, FreshIsWell, Call, sending, r
 use Rattle.observer.proofs.Search.{both-right, rising-at, place-at, held-within}
 use Rattle.observer.proofs.Rows.{rows-are, rows-with, counts-with, field-at}
 use Rattle.observer.proofs.OutOfOrder.{below-highest}
-use Rattle.observer.proofs.Calls.{sent-again, sent-full, sent-new, return-refused, return-unknown, return-early, return-duplicate, return-first, indication-refused, indication-counted}
+use Rattle.observer.proofs.Calls.{sent-again, sent-full, sent-new, return-unknown, return-early, return-duplicate, return-first, indication-counted}
 use Rattle.observer.proofs.Keeping.{WellRows, well-rows, counts-well, set-well, put-well, row-known}
 
 pub put-back : PutBack
@@ -58,11 +57,11 @@ module _ (o : Observer) (w : wellFormed o ≡ true) where
       go false true e f = kept (sent-full o w q t e (eqb-true _ _ f)) w
       go false false e f = kept (sent-new o w q t e (eqb-false _ _ f)) (put-well o q t rows-well-at count (eqb-false _ _ f) e)
 
-  keeps-arrival : (q t : ℕ) → wellFormed (recordReturn o t (gives q) .observer) ≡ true
+  keeps-arrival : (q t : ℕ) → wellFormed (recordReturn o t q .observer) ≡ true
   keeps-arrival q t = go (wasSent q (rows o)) (ltb t (rowOf q (rows o) .sent)) (eqb (rowOf q (rows o) .mark) 1) refl refl refl
     where
       go : (known early marked : Bool) → wasSent q (rows o) ≡ known → ltb t (rowOf q (rows o) .sent) ≡ early → eqb (rowOf q (rows o) .mark) 1 ≡ marked
-          → wellFormed (recordReturn o t (gives q) .observer) ≡ true
+          → wellFormed (recordReturn o t q .observer) ≡ true
       go false early marked e f g = kept (return-unknown o w q t e) w
       go true true marked e f g = kept (return-early o w q t e (ltb-true _ _ f)) w
       go true false true e f g =
@@ -73,10 +72,8 @@ module _ (o : Observer) (w : wellFormed o ≡ true) where
 
   keeps : (call : Call) → wellFormed (recordCall o call .observer) ≡ true
   keeps (sending q t) = keeps-sent q t
-  keeps (returning t (refused n)) = kept (return-refused o t n w) w
-  keeps (returning t (gives q)) = keeps-arrival q t
-  keeps (indicating (refused n)) = kept (indication-refused o n w) w
-  keeps (indicating (gives u)) = kept (indication-counted o w) (counts-well (oneErrorIndication (o .counts)) o refl ∙ w)
+  keeps (returning t q) = keeps-arrival q t
+  keeps indicating = kept (indication-counted o w) (counts-well (oneErrorIndication (o .counts)) o refl ∙ w)
 
 pub calls-keep-well : CallsKeepWell
 calls-keep-well o [] w = w

@@ -11,3 +11,4 @@ pub mod Arriving
 pub mod Keeping
 pub mod Claims
 pub mod InTurn
+pub mod Arrivals

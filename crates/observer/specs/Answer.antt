@@ -9,10 +9,6 @@ use Rattle.observer.specs.declared.ObserverCounts.{ObserverCounts}
 use Rattle.observer.specs.declared.Recorded.{Recorded}
 use Rattle.observer.specs.declared.Recording.{Recording}
 use Rattle.observer.specs.declared.Recording.the-variants as recording
-use Rattle.observer.specs.declared.Returned.{Returned}
-use Rattle.observer.specs.declared.Returned.the-variants as returned
-use Rattle.observer.specs.declared.Walked.{Walked}
-use Rattle.observer.specs.declared.Walked.the-variants as walked
 
 -- The observer of lent columns (sequences, send times, latencies, marks) and the counts beside them.
 abbrev pub observerOf : List ℕ → List ℕ → List ℕ → List ℕ → ObserverCounts → Observer
@@ -29,16 +25,6 @@ acceptance c = record { answer = recording.Accepted; counts = c }
 
 abbrev pub refusal : ℕ → ObserverCounts → Recorded
 refusal n c = record { answer = recording.Refused n; counts = c }
-
--- What reading a T-PDU came to, of which only the sequence counts: the observer has its own send time for it.
-abbrev pub returnedMeans : Returned → Outcome ℕ
-returnedMeans (returned.Sequence q) = gives q
-returnedMeans (returned.Refused n) = refused n
-
--- What walking the elements of an Error Indication came to.
-abbrev pub walkedMeans : Walked → Outcome (Unit {0})
-walkedMeans walked.Accepted = gives tt
-walkedMeans (walked.Refused n) = refused n
 
 -- What a call answered, and the columns as it left them.
 abbrev pub recorded : Recorded → List ℕ → List ℕ → List ℕ → List ℕ → Step

@@ -6,12 +6,11 @@ use mathlib.Core.List.{List, _∷_}
 use mathlib.Core.Bool.{true, false}
 use lib.Dec.{eqb}
 use Rattle.error.specs.Outcome.{outcomeNumber}
-use Rattle.observer.specs.InTurn.{Packet, packetsFrom, Entry, Arrived}
+use Rattle.observer.specs.InTurn.{Packet, packetsFrom, Entry}
 use Rattle.observer.specs.Answer.{observerOf, recordingMeans}
 use Rattle.observer.specs.declared.Recorded.{Recorded}
 use Rattle.observer.specs.declared.batch.PlanRecorded.{PlanRecorded}
 use Rattle.observer.specs.declared.batch.PacketsLeft.{PacketsLeft}
-use Rattle.observer.specs.declared.batch.ReturnsRecorded.{ReturnsRecorded}
 
 -- What entering a plan answered, and the columns as it left them.
 abbrev pub planRecorded : PlanRecorded → List ℕ → List ℕ → List ℕ → List ℕ → Entry
@@ -37,7 +36,3 @@ leftOf interval p = packetsFrom interval (p .sequence) (p .time) (p .left)
 pub record Behind (interval : ℕ) (p r : PacketsLeft) : Type 0 where
   pub fewer : r .left < p .left
   pub first : leftOf interval p ≡ record { sequence = p .sequence; time = p .time } ∷ leftOf interval r
-
--- What a list of returns answered, and its column of numbers and the sheet's columns as it left them.
-abbrev pub returnsRecorded : ReturnsRecorded → List ℕ → List ℕ → List ℕ → List ℕ → List ℕ → Arrived
-returnsRecorded r numbers qs ts ls ms = record { returns = r .returns; numbers = numbers; observer = observerOf qs ts ls ms (r .counts) }

@@ -7,7 +7,7 @@ use mathlib.Core.Bool.{true, false}
 use lib.Dec.{ltb}
 use lib.ListN.{length, set, take, drop}
 use Rattle.error.specs.Number.{observerFull}
-use Rattle.error.specs.Outcome.{Outcome, refused, gives}
+use Rattle.error.specs.Outcome.{refused, gives}
 use Rattle.observer.specs.Counts.{fresh}
 use Rattle.observer.specs.Observer.{Row, Observer, capacity, rows, rowAt, sentRow, withRows}
 use Rattle.observer.specs.Judge.{wellFormed, Step}
@@ -28,13 +28,13 @@ FreshIsWell = (qs ts ls ms : List ℕ) → wellFormed (observerOf qs ts ls ms fr
 -- A call, with what it is handed.
 pub data Call : Type 0 where
   sending : ℕ → ℕ → Call
-  returning : ℕ → Outcome ℕ → Call
-  indicating : Outcome (Unit {0}) → Call
+  returning : ℕ → ℕ → Call
+  indicating : Call
 
 abbrev pub recordCall : Observer → Call → Step
 recordCall o (sending q t) = recordSent o q t
-recordCall o (returning t read) = recordReturn o t read
-recordCall o (indicating walk) = recordErrorIndication o walk
+recordCall o (returning t q) = recordReturn o t q
+recordCall o indicating = recordErrorIndication o
 
 -- The observer after calls, one after the other, each on what the last one left, refused or not.
 abbrev pub afterCalls : Observer → List Call → Observer

@@ -8,5 +8,6 @@ pub mod Returning
 pub mod InTurn
 pub mod Answer
 pub mod BatchAnswer
+pub mod Arrivals
 pub mod Columns
 pub mod Claims

@@ -1,13 +1,12 @@
--- Returns and error indications: document 01, leaf 6. What reads a T-PDU or walks the elements of a message is known here only by what it
--- comes to, so that its refusals stand where the order has them: after 21, before the rest.
--- Assumes nothing.
+-- Returns and error indications: document 01, leaf 6. A return is that of a sequence here: a T-PDU is read, and the elements of a message are
+-- walked, before these calls, and what is refused there does not reach them (`afterReading`).
 use Prim.Native.Nat.{ℕ, _-_}
 use mathlib.Core.List.{List, [], _∷_}
 use mathlib.Core.Bool.{true, false, not}
 use lib.Dec.{eqb, ltb}
 use lib.ListN.{set}
 use Rattle.error.specs.Number.{sequenceWasNotSent, timestampReversed}
-use Rattle.error.specs.Outcome.{Outcome, refused, gives, Cause, _⇒_, firstCause}
+use Rattle.error.specs.Outcome.{Outcome, gives, Cause, _⇒_, firstCause}
 use Rattle.observer.specs.Counts.{oneDuplicate, outOfOrderIf, oneErrorIndication}
 use Rattle.observer.specs.Observer.{Row, Observer, rows, withRows, withCounts}
 use Rattle.observer.specs.Judge.{judged, Step, step}
@@ -38,11 +37,10 @@ arrived o q t =
 unfoldable pub arrival : Observer → ℕ → ℕ → Outcome Observer
 arrival o q t = firstCause (arrivalCauses o q t) (gives (arrived o q t))
 
--- A T-PDU returns at this time and reads as this. "A return is judged 21, 1 to 14, 23, 24".
-unfoldable pub recordReturn : Observer → ℕ → Outcome ℕ → Step
-recordReturn o t read = step o (judged o (elim read [ refused n ↦ refused n | gives q ↦ arrival o q t ]))
+-- This sequence returns at this time. "A return is judged 21, .. 23, 24, then duplicate, then out of order".
+unfoldable pub recordReturn : Observer → ℕ → ℕ → Step
+recordReturn o t q = step o (judged o (arrival o q t))
 
--- An Error Indication comes, and the walk over its elements comes to this: "26 is leaf 8's walk and then the counter".
-unfoldable pub recordErrorIndication : Observer → Outcome (Unit {0}) → Step
-recordErrorIndication o walk =
-    step o (judged o (elim walk [ refused n ↦ refused n | gives accepted ↦ gives (withCounts (oneErrorIndication (o .counts)) o) ]))
+-- An Error Indication comes, whose elements leaf 8's walk accepts: 21, "and then the counter".
+unfoldable pub recordErrorIndication : Observer → Step
+recordErrorIndication o = step o (judged o (gives (withCounts (oneErrorIndication (o .counts)) o)))

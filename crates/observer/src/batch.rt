@@ -3,18 +3,15 @@
 use crate::ObserverCounts;
 use crate::Recorded;
 use crate::Recording;
-use crate::Returned;
 ghost use mathlib.Core.Path.{_≡_};
 ghost use mathlib.Core.Bool.{true};
-ghost use mathlib.Core.List.{_++_};
-ghost use Prim.Native.Nat.{_≤_, _<_, min};
-ghost use lib.ListN.{length, drop, replicate};
-ghost use Rattle.error.specs.Number.{malformedObserver};
+ghost use Prim.Native.Nat.{_<_, min};
 ghost use Rattle.error.specs.Outcome.{outcomeNumber};
 ghost use Rattle.observer.specs.Judge.{wellFormed};
-ghost use Rattle.observer.specs.InTurn.{recordSentPlan, readAs, recordReturns};
-ghost use Rattle.observer.specs.Answer.{observerOf, recordingMeans, returnedMeans};
-ghost use Rattle.observer.specs.BatchAnswer.{planRecorded, andThen, Behind, returnsRecorded};
+ghost use Rattle.observer.specs.InTurn.{recordSentPlan};
+ghost use Rattle.observer.specs.Answer.{observerOf, recorded, recordingMeans};
+ghost use Rattle.observer.specs.BatchAnswer.{planRecorded, andThen, Behind};
+ghost use Rattle.observer.specs.Arrivals.{arrivalAs, recordArrival, recordReturns, returnsRecorded};
 
 // What entering a plan answers: how many packets were entered, the number of the first that was refused or 0, and the counts afterwards.
 pub struct PlanRecorded {
@@ -181,20 +178,16 @@ pub fn record_sent_plan(
     )
 }
 
-// What a list of returns answers: how many returns it had, and the counts after the last.
-pub struct ReturnsRecorded {
-    pub returns: usize,
-    pub counts: ObserverCounts,
+// Whether a list of returns was taken, and how many returns it had.
+pub enum ReturnsRecording {
+    Accepted(usize),
+    Refused(u8),
 }
 
-// What a T-PDU reads as, from the sequence and the number of the reader.
-fn read_as(sequence: u64, number: u8) -> Returned
-    ensures { λ r. ⌜ returnedMeans r ≡ readAs sequence number ⌝ }
-{
-    if number == 0 {
-        return Returned::Sequence(sequence);
-    }
-    Returned::Refused(number)
+// What a list of returns answers, and the counts as it leaves them.
+pub struct ReturnsRecorded {
+    pub answer: ReturnsRecording,
+    pub counts: ObserverCounts,
 }
 
 // How many returns columns of these lengths have.
@@ -204,16 +197,34 @@ fn returns_in(times: usize, returned: usize, numbers: usize) -> usize
     crate::least(times, crate::least(returned, numbers))
 }
 
-// The numbers of returns that are all refused by 21.
-fn refuse_returns(numbers: &mut [u8], returns: usize)
-    requires { ⌜ returns ≤ length (now numbers) ⌝ }
-    ensures { λ _. ⌜ now (numbers .exit) ≡ replicate returns malformedObserver ++ drop returns (now (numbers .entry)) ⌝ }
+// One return of a list, on an observer that was judged: the number that it came with, or `arrive`.
+fn take_return(
+    sequences: &[u64],
+    send_timestamps: &[u64],
+    latencies: &mut [u64],
+    marks: &mut [u8],
+    counts: ObserverCounts,
+    return_timestamp_ns: u64,
+    sequence: u64,
+    number: u8,
+) -> Recorded
+    requires { ⌜ wellFormed (observerOf (now sequences) (now «send_timestamps») (now latencies) (now marks) counts) ≡ true ⌝ }
+    ensures { λ r. ⌜ recorded r (now (sequences .entry)) (now («send_timestamps» .entry)) (now (latencies .exit)) (now (marks .exit))
+        ≡ recordArrival (observerOf (now (sequences .entry)) (now («send_timestamps» .entry)) (now (latencies .entry)) (now (marks .entry)) counts)
+        (arrivalAs «return_timestamp_ns» sequence number) ⌝ }
 {
-    let mut i = 0;
-    while i < returns {
-        numbers[i] = error::MALFORMED_OBSERVER;
-        i += 1;
+    if number != 0 {
+        return counts.refused(number);
     }
+    crate::arrive(
+        sequences,
+        send_timestamps,
+        latencies,
+        marks,
+        counts,
+        return_timestamp_ns,
+        sequence,
+    )
 }
 
 // A list of returns, on an observer that was judged.
@@ -236,14 +247,15 @@ fn take_returns(
     let mut latest = counts;
     let mut i = 0;
     while i < returns {
-        let step = crate::take_return(
+        let step = take_return(
             sequences,
             send_timestamps,
             latencies,
             marks,
             latest,
             return_timestamps[i],
-            read_as(returned[i], numbers[i]),
+            returned[i],
+            numbers[i],
         );
         let answer = step.answer;
         numbers[i] = answer_number(answer);
@@ -251,14 +263,14 @@ fn take_returns(
         i += 1;
     }
     ReturnsRecorded {
-        returns: returns,
+        answer: ReturnsRecording::Accepted(returns),
         counts: latest,
     }
 }
 
-// Records a list of returned T-PDUs, which were read before: return k came at the k-th time, and `returned` and `numbers` say what it reads as, a
-// sequence beside 0 or the reader's refusal. Each is taken or refused as `record_return` would, and its number takes the place of the reader's.
-// The list is as long as the shortest of its columns.
+// Records a list of returns: return k came at the k-th time, and `returned` has its sequence where `numbers` has 0. Each is taken or refused as
+// `record_return` would, and its number is written to `numbers`; one that has another number there was refused before, keeps it and changes
+// nothing. The list is as long as the shortest of its columns. Refuses the whole list by 21, and leaves `numbers` too.
 pub fn record_returns(
     sequences: &[u64],
     send_timestamps: &[u64],
@@ -274,10 +286,8 @@ pub fn record_returns(
         (now («return_timestamps» .entry)) (now (returned .entry)) (now (numbers .entry)) ⌝ }
 {
     if !crate::well_formed(sequences, send_timestamps, latencies, marks, counts) {
-        let returns = returns_in(return_timestamps.len(), returned.len(), numbers.len());
-        refuse_returns(numbers, returns);
         return ReturnsRecorded {
-            returns: returns,
+            answer: ReturnsRecording::Refused(error::MALFORMED_OBSERVER),
             counts: counts,
         };
     }

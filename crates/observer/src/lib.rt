@@ -7,7 +7,6 @@ ghost use mathlib.Core.Bool.{true};
 ghost use mathlib.Core.List.{[], _∷_};
 ghost use Prim.Native.Nat.{_+_, _≤_, _<_, min};
 ghost use lib.ListN.{length, take, drop};
-ghost use Rattle.error.specs.Outcome.{gives};
 ghost use Rattle.observer.specs.Counts.{withUsed, oneDuplicate, outOfOrderIf, oneErrorIndication};
 ghost use Rattle.observer.specs.Observer.{capacityOf};
 ghost use Rattle.observer.specs.Judge.{rising, wellFormed};
@@ -16,7 +15,7 @@ ghost use Rattle.observer.specs.Columns.{marksKnown, anyMarked, inserted
 ghost use Rattle.observer.specs.Sending.{recordSent};
 ghost use Rattle.observer.specs.Returning.{recordReturn, recordErrorIndication};
 ghost use Rattle.observer.specs.Claims.{PutBack, FreshIsWell, CallsKeepWell, SearchFinds, FullOnlyWhenFull, FullAtRow2049, SentAgain, BelowHighestMarked};
-ghost use Rattle.observer.specs.Answer.{observerOf, acceptance, refusal, recorded, returnedMeans, walkedMeans};
+ghost use Rattle.observer.specs.Answer.{observerOf, acceptance, refusal, recorded};
 
 pub mod batch; // batch.rt: the packets of a plan, or a list of returns, in one call
 
@@ -112,18 +111,6 @@ pub enum Recording {
 pub struct Recorded {
     pub answer: Recording,
     pub counts: ObserverCounts,
-}
-
-// What reading a returned T-PDU came to.
-pub enum Returned {
-    Sequence(u64),
-    Refused(u8),
-}
-
-// What walking the elements of an Error Indication came to.
-pub enum Walked {
-    Accepted,
-    Refused(u8),
 }
 
 fn least(a: usize, b: usize) -> usize
@@ -350,7 +337,7 @@ fn arrive(
     requires { ⌜ wellFormed (observerOf (now sequences) (now «send_timestamps») (now latencies) (now marks) counts) ≡ true ⌝ }
     ensures { λ r. ⌜ recorded r (now (sequences .entry)) (now («send_timestamps» .entry)) (now (latencies .exit)) (now (marks .exit))
         ≡ recordReturn (observerOf (now (sequences .entry)) (now («send_timestamps» .entry)) (now (latencies .entry)) (now (marks .entry)) counts)
-        «return_timestamp_ns» (gives sequence) ⌝ }
+        «return_timestamp_ns» sequence ⌝ }
 {
     let used = counts.used;
     let k = find(sequences, used, sequence);
@@ -371,37 +358,8 @@ fn arrive(
     counts.out_of_order_if(late).accepted()
 }
 
-// A returned T-PDU, which was read before, on an observer that was judged: the reader's refusal, then `arrive`.
-fn take_return(
-    sequences: &[u64],
-    send_timestamps: &[u64],
-    latencies: &mut [u64],
-    marks: &mut [u8],
-    counts: ObserverCounts,
-    return_timestamp_ns: u64,
-    returned: Returned,
-) -> Recorded
-    requires { ⌜ wellFormed (observerOf (now sequences) (now «send_timestamps») (now latencies) (now marks) counts) ≡ true ⌝ }
-    ensures { λ r. ⌜ recorded r (now (sequences .entry)) (now («send_timestamps» .entry)) (now (latencies .exit)) (now (marks .exit))
-        ≡ recordReturn (observerOf (now (sequences .entry)) (now («send_timestamps» .entry)) (now (latencies .entry)) (now (marks .entry)) counts)
-        «return_timestamp_ns» (returnedMeans returned) ⌝ }
-{
-    match returned {
-        Returned::Refused(number) => counts.refused(number),
-        Returned::Sequence(sequence) => arrive(
-            sequences,
-            send_timestamps,
-            latencies,
-            marks,
-            counts,
-            return_timestamp_ns,
-            sequence,
-        ),
-    }
-}
-
-// Records a returned T-PDU, which was read before: the first return of a sequence marks its row and gives it a latency, a later one is
-// counted as a duplicate. Refuses by 21, then as the reader did, then by 23, 24.
+// Records the return of a sequence: its first return marks its row and gives it a latency, a later one is counted as a duplicate. Refuses by 21,
+// 23, 24.
 pub fn record_return(
     sequences: &[u64],
     send_timestamps: &[u64],
@@ -409,46 +367,41 @@ pub fn record_return(
     marks: &mut [u8],
     counts: ObserverCounts,
     return_timestamp_ns: u64,
-    returned: Returned,
+    sequence: u64,
 ) -> Recorded
     ensures { λ r. ⌜ recorded r (now (sequences .entry)) (now («send_timestamps» .entry)) (now (latencies .exit)) (now (marks .exit))
         ≡ recordReturn (observerOf (now (sequences .entry)) (now («send_timestamps» .entry)) (now (latencies .entry)) (now (marks .entry)) counts)
-        «return_timestamp_ns» (returnedMeans returned) ⌝ }
+        «return_timestamp_ns» sequence ⌝ }
 {
     if !well_formed(sequences, send_timestamps, latencies, marks, counts) {
         return counts.refused(error::MALFORMED_OBSERVER);
     }
-    take_return(
+    arrive(
         sequences,
         send_timestamps,
         latencies,
         marks,
         counts,
         return_timestamp_ns,
-        returned,
+        sequence,
     )
 }
 
-// Records an Error Indication, whose elements were walked before. Refuses by 21, then as the walk did.
+// Records an Error Indication, whose elements were accepted. Refuses by 21.
 pub fn record_error_indication(
     sequences: &[u64],
     send_timestamps: &[u64],
     latencies: &[u64],
     marks: &[u8],
     counts: ObserverCounts,
-    walked: Walked,
 ) -> Recorded
     ensures { λ r. ⌜ recorded r (now (sequences .entry)) (now («send_timestamps» .entry)) (now (latencies .entry)) (now (marks .entry))
-        ≡ recordErrorIndication (observerOf (now (sequences .entry)) (now («send_timestamps» .entry)) (now (latencies .entry)) (now (marks .entry)) counts)
-        (walkedMeans walked) ⌝ }
+        ≡ recordErrorIndication (observerOf (now (sequences .entry)) (now («send_timestamps» .entry)) (now (latencies .entry)) (now (marks .entry)) counts) ⌝ }
 {
     if !well_formed(sequences, send_timestamps, latencies, marks, counts) {
         return counts.refused(error::MALFORMED_OBSERVER);
     }
-    match walked {
-        Walked::Refused(number) => counts.refused(number),
-        Walked::Accepted => counts.one_error_indication().accepted(),
-    }
+    counts.one_error_indication().accepted()
 }
 
 // Carries that 21 is never due on a sheet that was fresh and that only these calls have written since.

@@ -2,14 +2,14 @@
 use Prim.Native.Nat.{ℕ, _+_, _-_, _<_, _≤_, min, max}
 use native.Mathlib.Omega.{arith}
 use mathlib.Core.Path.{_≡_, refl, sym, ap, _∙_, subst}
-use mathlib.Core.Logic.{inl, inr}
+use mathlib.Core.Logic.{_⊎_, inl, inr}
 use mathlib.Core.List.{List, [], _∷_, _++_}
 use mathlib.Core.Bool.{Bool, true, false, _||_}
 use lib.Dec.{eqb, ltb}
 use lib.ListN.{length, set, length-append}
-use borrow.Author.Tests.{ltb-true, ltb-false, eqb-true, eqb-false, lt-ltb, le-ltb}
+use borrow.Author.Tests.{ltb-true, ltb-false, eqb-true, eqb-false, eq-eqb, lt-ltb, le-ltb}
 use Rattle.error.specs.Outcome.{Outcome, refused, gives}
-use Rattle.error.proofs.Tests.{true-not-false}
+use Rattle.error.proofs.Tests.{true-not-false, or-left, or-right}
 use Rattle.field.specs.Field.{Bytes}
 use Rattle.measurement.specs.Read.{readOf}
 use Rattle.gtpu.specs.Element.{elementsOf}
@@ -17,17 +17,18 @@ use Rattle.observer.specs.Claims.{sending, returning, indicating}
 use Rattle.counter.specs.Counter.{oneMore}
 use Rattle.observer.specs.Counts.{fresh, oneDuplicate, outOfOrderIf, oneErrorIndication}
 use Rattle.observer.specs.declared.ObserverCounts.{ObserverCounts}
-use Rattle.observer.specs.Judge.{wellFormed, Step, step}
+use Rattle.observer.specs.Judge.{wellFormed, Step, step, refusing, afterReading}
 use Rattle.observer.specs.Observer.{Row, Observer, capacity, rows, withRows, withCounts, sentRow}
 use Rattle.observer.specs.Place.{placeOf, wasSent, rowOf, highestMarked}
 use Rattle.observer.specs.Sending.{resent, recordSent}
 use Rattle.observer.specs.Returning.{returned, recordReturn, recordErrorIndication}
-use Rattle.observer.proofs.Calls.{sent-again, sent-full, sent-new, return-refused, return-unknown, return-early, return-duplicate, return-first, indication-refused, indication-counted, judged-well}
+use Rattle.observer.proofs.Calls.{sent-again, sent-full, sent-new, refusing-well, return-unknown, return-early, return-duplicate, return-first, indication-counted, judged-well}
 use Rattle.observer.proofs.Claims.{fresh-is-well, calls-keep-well}
 use Rattle.observer.proofs.Keeping.{well-rows}
 use Rattle.observer.proofs.Rows.{rows-with, capacity-with}
 use Rattle.observer.proofs.Judging.{well}
 use Rattle.continuity.specs.Returns.{sequenceRead, recordReceivedTpdu, MessageStep, asMessage, unchanged, recordReturnMessage}
+use Rattle.continuity.proofs.Laws.{kind-2, kind-ignored, kind-other, message-255, message-26, message-other}
 use Rattle.continuity.specs.declared.GtpuReturnDatagramOutcome.{GtpuReturnDatagramOutcome}
 use Rattle.continuity.specs.declared.GtpuReturnDatagramOutcome.the-variants.{MeasurementTpdu, ErrorIndication, EchoResponse, Ignored}
 use Rattle.rust_reference.specs.Claims.{New, EverySheet, RecordSent, RecordReceivedTpdu, RecordReturnGtpuDatagram}
@@ -182,12 +183,12 @@ module _ (rust : ContinuityObserver) (o : Observer) (same : Same rust o) (t : �
     room = ap (λ (x : Step). capacity (x .observer)) (sym p);
   }
 
-  kept-well : wellFormed (recordReturn o t (gives q) .observer) ≡ true
-  kept-well = calls-keep-well o (returning t (gives q) ∷ []) (same .well)
+  kept-well : wellFormed (recordReturn o t q .observer) ≡ true
+  kept-well = calls-keep-well o (returning t q ∷ []) (same .well)
 
   -- a duplicate
-  duplicate-as : step o (gives (withCounts (oneDuplicate (o .counts)) o)) ≡ recordReturn o t (gives q)
-      → AsStep o (record { result = Ok tt; observer = duplicate rust }) (recordReturn o t (gives q))
+  duplicate-as : step o (gives (withCounts (oneDuplicate (o .counts)) o)) ≡ recordReturn o t q
+      → AsStep o (record { result = Ok tt; observer = duplicate rust }) (recordReturn o t q)
   unfolding duplicate «saturating_add» oneMore rows capacity
   duplicate-as e = record {
     answer = ap (λ (x : Step). x .outcome) e;
@@ -209,9 +210,9 @@ module _ (rust : ContinuityObserver) (o : Observer) (same : Same rust o) (t : �
 
   -- the rows X are put back with the counts
   first-as : (l : ℕ) (X : List Row) → l ≤ «u64_max» → length X ≤ capacity o
-      → step o (gives (withRows X (withCounts (outOfOrderIf late (o .counts)) o))) ≡ recordReturn o t (gives q)
+      → step o (gives (withRows X (withCounts (outOfOrderIf late (o .counts)) o))) ≡ recordReturn o t q
       → sentOf X ≡ sentOf (rows o) → insert q l (receivedOf (rows o)) ≡ receivedOf X
-      → AsStep o (record { result = Ok tt; observer = «first_return» rust q l }) (recordReturn o t (gives q))
+      → AsStep o (record { result = Ok tt; observer = «first_return» rust q l }) (recordReturn o t q)
   unfolding «first_return» withRows capacity
   first-as l X small fit e s r = record {
     answer = ap (λ (x : Step). x .outcome) e;
@@ -235,11 +236,11 @@ module _ (rust : ContinuityObserver) (o : Observer) (same : Same rust o) (t : �
       lateness = ap (λ (h : Option ℕ). «is_some_and» h (λ highest. ltb q highest)) (same .highest ∙ ap highestKey (same .received)) ∙ late-is q (rows o)
 
   -- whatever the search finds
-  arrives : Located q (rows o) → AsStep o (arriving rust t q) (recordReturn o t (gives q))
+  arrives : Located q (rows o) → AsStep o (arriving rust t q) (recordReturn o t q)
   arrives (absent before after e b a p w) =
       let none-there : get q (rust .sent) ≡ None = ap (get q) (same .sent ∙ ap sentOf e) ∙ get-absent q before after b a in
       rw none-there
-      (refused-as (InvalidPacket error.received-sequence-was-not-sent) (recordReturn o t (gives q)) (return-unknown o (same .well) q t w))
+      (refused-as (InvalidPacket error.received-sequence-was-not-sent) (recordReturn o t q) (return-unknown o (same .well) q t w))
   arrives (found before r after e b s a p w) =
       let there : get q (rust .sent) ≡ Some (r .sent) = ap (get q) (same .sent ∙ ap sentOf e) ∙ get-found q before r after b s a in
       rw there (by (ltb t (r .sent)) refl)
@@ -257,7 +258,7 @@ module _ (rust : ContinuityObserver) (o : Observer) (same : Same rust o) (t : �
           → AsStep o (elim again [
             | true ↦ record { result = Ok tt; observer = duplicate rust }
             | false ↦ record { result = Ok tt; observer = «first_return» rust q (t - r .sent) }
-          ]) (recordReturn o t (gives q))
+          ]) (recordReturn o t q)
       judged-by true m h = duplicate-as (return-duplicate o (same .well) q t w (rw row-is h) (rw row-is (eqb-true (r .mark) 1 m)))
       judged-by false m h =
           first-as (t - r .sent) (before ++ returned t r ∷ after) (omega arith)
@@ -272,16 +273,16 @@ module _ (rust : ContinuityObserver) (o : Observer) (same : Same rust o) (t : �
           elim («contains_key» q (rust .received)) [
             | true ↦ record { result = Ok tt; observer = duplicate rust }
             | false ↦ record { result = Ok tt; observer = «first_return» rust q latency-ns }
-          ]) (recordReturn o t (gives q))
+          ]) (recordReturn o t q)
       by true h =
           rw (checked-under t (r .sent) (ltb-true t (r .sent) h))
-          (refused-as TimestampReversed (recordReturn o t (gives q)) (return-early o (same .well) q t w (rw row-is (ltb-true t (r .sent) h))))
+          (refused-as TimestampReversed (recordReturn o t q) (return-early o (same .well) q t w (rw row-is (ltb-true t (r .sent) h))))
       by false h =
           rw (checked-fits t (r .sent) (ltb-false t (r .sent) h))
           (subst (λ (x : Bool). AsStep o (elim x [
             | true ↦ record { result = Ok tt; observer = duplicate rust }
             | false ↦ record { result = Ok tt; observer = «first_return» rust q (t - r .sent) }
-          ]) (recordReturn o t (gives q))) (sym marked) (judged-by (eqb (r .mark) 1) refl (ltb-false t (r .sent) h)))
+          ]) (recordReturn o t q)) (sym marked) (judged-by (eqb (r .mark) 1) refl (ltb-false t (r .sent) h)))
 
 -- what the T-PDU reads as, for the observer
 sequence-read : (tpdu : List ℕ) (x : Result measurement.DecodedTpdu) → outcomeBy tpduOf x ≡ readOf tpdu → outcomeBy (λ d. d .measurement .sequence) x ≡ sequenceRead tpdu
@@ -291,10 +292,10 @@ sequence-read tpdu (Err x) e = rw (← e, sequenceRead)
 
 module _ (rust : ContinuityObserver) (o : Observer) (same : Same rust o) (t : ℕ) (fits : t ≤ «u64_max») where
   received-as : (x : Result measurement.DecodedTpdu) (read : Outcome ℕ) → outcomeBy (λ d. d .measurement .sequence) x ≡ read
-      → AsStep o (tried x rust (λ d. arriving rust t (d .measurement .sequence))) (recordReturn o t read)
+      → AsStep o (tried x rust (λ d. arriving rust t (d .measurement .sequence))) (afterReading o read (recordReturn o t))
   received-as (Ok d) read e =
       rw (← e) (arrives rust o same t fits (d .measurement .sequence) (locate (d .measurement .sequence) (rows o) (well-rows o (same .well) .rises)))
-  received-as (Err x) read e = rw (← e) (refused-as rust o same t fits 0 x (recordReturn o t (refused (errorNumber x))) (return-refused o t (errorNumber x) (same .well)))
+  received-as (Err x) read e = rw (← e) (refused-as rust o same t fits 0 x (refusing o (errorNumber x)) (refusing-well o (errorNumber x) (same .well)))
 
   pub received-step : (tpdu : List ℕ) → Bytes tpdu → AsStep o («record_received_tpdu» rust t tpdu) (recordReceivedTpdu o t tpdu)
   unfolding «record_received_tpdu» recordReceivedTpdu
@@ -310,11 +311,30 @@ pub record AsMessage (o : Observer) (x : Recorded GtpuReturnDatagramOutcome) (s 
   pub same : Same (x .observer) (s .observer)
   pub room : capacity (s .observer) ≡ capacity o
 
--- both sides branch on one test
-branch : (o : Observer) (test : Bool) (x x' : Recorded GtpuReturnDatagramOutcome) (y y' : MessageStep) → AsMessage o x y → AsMessage o x' y'
-    → AsMessage o (elim test [ true ↦ x | false ↦ x' ]) (elim test [ true ↦ y | false ↦ y' ])
-branch o true x x' y y' f g = f
-branch o false x x' y y' f g = g
+-- the Rust branches on a test
+branch : (o : Observer) (test : Bool) (x x' : Recorded GtpuReturnDatagramOutcome) (y : MessageStep) → (test ≡ true → AsMessage o x y)
+    → (test ≡ false → AsMessage o x' y) → AsMessage o (elim test [ true ↦ x | false ↦ x' ]) y
+branch o test x x' y f g = go test refl
+  where
+    go : (b : Bool) → test ≡ b → AsMessage o (elim b [ true ↦ x | false ↦ x' ]) y
+    go true e = f e
+    go false e = g e
+
+-- the same message step, said otherwise
+said : {o : Observer} {x : Recorded GtpuReturnDatagramOutcome} {s s' : MessageStep} → s ≡ s' → AsMessage o x s → AsMessage o x s'
+said {o} {x} e a = subst (λ (s : MessageStep). AsMessage o x s) e a
+
+-- one of two tests holds, or neither
+one-of : (t m n : ℕ) → (eqb t m || eqb t n) ≡ true → t ≡ n ⊎ t ≡ m
+one-of t m n e = go (eqb t m) refl e
+  where
+    go : (b : Bool) → eqb t m ≡ b → (b || eqb t n) ≡ true → t ≡ n ⊎ t ≡ m
+    go true f e = inr (eqb-true t m f)
+    go false f e = inl (eqb-true t n e)
+
+neither : (t m n : ℕ) → (eqb t m || eqb t n) ≡ false → t ≡ n ⊎ t ≡ m → ⊥
+neither t m n e (inl h) = true-not-false (sym (or-right (eqb t m) _ (eq-eqb t n h)) ∙ e)
+neither t m n e (inr h) = true-not-false (sym (or-left _ (eqb t n) (eq-eqb t m h)) ∙ e)
 
 -- a return, as a message of its kind
 as-kind : (o : Observer) (kind : GtpuReturnDatagramOutcome) (r : Result (Unit {0})) (rust : ContinuityObserver) (s : Step) → outcomeOf r ≡ s .outcome → Same rust (s .observer)
@@ -327,7 +347,7 @@ module _ (rust : ContinuityObserver) (o : Observer) (same : Same rust o) where
   indication-with : Same («error_indication» rust) (withCounts (oneErrorIndication (o .counts)) o)
   unfolding «error_indication» «saturating_add» oneMore rows
   indication-with = record {
-    well = ap (λ (x : Step). wellFormed (x .observer)) (indication-counted o (same .well)) ∙ calls-keep-well o (indicating (gives tt) ∷ []) (same .well);
+    well = ap (λ (x : Step). wellFormed (x .observer)) (indication-counted o (same .well)) ∙ calls-keep-well o (indicating ∷ []) (same .well);
     sent = same .sent;
     received = same .received;
     latencies = same .latencies;
@@ -338,13 +358,13 @@ module _ (rust : ContinuityObserver) (o : Observer) (same : Same rust o) where
   }
 
   indicated : (r : Result (Unit {0})) (walk : Outcome (Unit {0})) → outcomeOf r ≡ walk
-      → AsMessage o (tried r rust (λ u. record { result = Ok ErrorIndication; observer = «error_indication» rust })) (asMessage ErrorIndication (recordErrorIndication o walk))
+      → AsMessage o (tried r rust (λ u. record { result = Ok ErrorIndication; observer = «error_indication» rust })) (asMessage ErrorIndication (afterReading o walk (λ accepted. recordErrorIndication o)))
   indicated (Ok u) walk e =
       rw (← e) (subst (λ (s : Step). AsMessage o (record { result = Ok ErrorIndication; observer = «error_indication» rust }) (asMessage ErrorIndication s))
       (indication-counted o (same .well)) (record { answer = refl; same = indication-with; room = unfold capacity in refl }))
   indicated (Err x) walk e =
       rw (← e) (subst (λ (s : Step). AsMessage o (record { result = Err x; observer = rust }) (asMessage ErrorIndication s))
-      (indication-refused o (errorNumber x) (same .well)) (record { answer = refl; same = same; room = refl }))
+      (refusing-well o (errorNumber x) (same .well)) (record { answer = refl; same = same; room = refl }))
 
   -- a message that changes nothing
   noted : (r : Result GtpuReturnDatagramOutcome) → AsMessage o (record { result = r; observer = rust }) (unchanged o (outcomeOf r))
@@ -352,14 +372,21 @@ module _ (rust : ContinuityObserver) (o : Observer) (same : Same rust o) where
 
   pub message-step : (t : ℕ) → t ≤ «u64_max» → (ty : ℕ) (payload : List ℕ) → Bytes payload
       → AsMessage o («record_return_gtpu_datagram» rust t ty payload) (recordReturnMessage o t ty payload)
-  unfolding «record_return_gtpu_datagram» recordReturnMessage
+  unfolding «record_return_gtpu_datagram»
   message-step t fits ty payload b =
       let a = received-step rust o same t fits payload b in
-      branch o (eqb ty 255) _ _ _ _
-      (as-kind o MeasurementTpdu («record_received_tpdu» rust t payload .result) («record_received_tpdu» rust t payload .observer) (recordReceivedTpdu o t payload) (a .answer) (a .same) (a .room))
-      (branch o (eqb ty 26) _ _ _ _ (indicated («validate_error_indication_ies» payload) (elementsOf payload) (validate payload))
-      (branch o (eqb ty 2) _ _ _ _ (noted (Ok EchoResponse))
-      (branch o (eqb ty 254 || eqb ty 31) _ _ _ _ (noted (Ok (Ignored ty))) (noted (Err (InvalidPacket error.unsupported-GTP-U-return-message-type))))))
+      branch o (eqb ty 255) _ _ _
+      (λ is. said (message-255 ty o t payload (eqb-true ty 255 is))
+      (as-kind o MeasurementTpdu («record_received_tpdu» rust t payload .result) («record_received_tpdu» rust t payload .observer) (recordReceivedTpdu o t payload) (a .answer) (a .same) (a .room)))
+      (λ no. branch o (eqb ty 26) _ _ _
+      (λ is. said (message-26 ty o t payload (eqb-true ty 26 is)) (indicated («validate_error_indication_ies» payload) (elementsOf payload) (validate payload)))
+      (λ nor. said (message-other ty o t payload (eqb-false ty 255 no) (eqb-false ty 26 nor))
+      (branch o (eqb ty 2) _ _ _
+      (λ is. said (ap (unchanged o) (kind-2 ty (eqb-true ty 2 is))) (noted (Ok EchoResponse)))
+      (λ nor-this. branch o (eqb ty 254 || eqb ty 31) _ _ _
+      (λ is. said (ap (unchanged o) (kind-ignored ty (one-of ty 254 31 is))) (noted (Ok (Ignored ty))))
+      (λ none. said (ap (unchanged o) (kind-other ty (eqb-false ty 255 no) (eqb-false ty 26 nor) (eqb-false ty 2 nor-this) (neither ty 254 31 none)))
+      (noted (Err (InvalidPacket error.unsupported-GTP-U-return-message-type))))))))
 
 pub message-same : RecordReturnGtpuDatagram
 message-same rust o same t fits ty payload b = let a = message-step rust o same t fits ty payload b in (a .answer ∙ told-is _, a .same)

@@ -14,10 +14,16 @@ use Rattle.plan.specs.Plan as plans
 use Rattle.plan.specs.declared.TrafficPlan.{TrafficPlan}
 use Rattle.plan.proofs.Claims.{acceptable-if-accepted}
 use Rattle.traffic.proofs.Claims.{success-is-complete}
+use Rattle.error.specs.Outcome.{Outcome, refused, gives}
 use Rattle.observer.specs.Observer.{Observer}
+use Rattle.observer.specs.Judge.{wellFormed, judged, Step, afterReading}
 use Rattle.observer.specs.Sending.{recordSent}
-use Rattle.observer.specs.InTurn.{Packet, packetsFrom, goesOn, inTurn, sendPacket, recordSentPlan}
+use Rattle.observer.specs.Returning.{recordReturn}
+use Rattle.observer.specs.InTurn.{Steps, Packet, packetsFrom, goesOn, inTurn, sendPacket, recordSentPlan}
+use Rattle.observer.specs.Arrivals.{arrivedIn}
+use Rattle.observer.proofs.Calls.{judged-malformed, judged-well, refusing-malformed, return-malformed}
 use Rattle.observer.proofs.InTurn.{on-goes}
+use Rattle.continuity.specs.Returns.{sequenceRead, recordReceivedTpdu}
 use Rattle.continuity.specs.Batch.{Received, tpdusOf, receivedOf, recordReceived, returnsIn, recordReceivedTpdus}
 use Rattle.tally.specs.Demand.{sendAll, receiveAll}
 use Rattle.tally.specs.Batches.{PlanEntered, handedTpdu, ReturnsTaken, Batches}
@@ -77,10 +83,32 @@ takes : (o : Observer) (rs : List Received) → inTurn recordReceived o rs .obse
 takes o [] = refl
 takes o (r ∷ rs) = takes (recordReceived o r .observer) rs
 
+-- a malformed observer is left by each single call
+left-by : (o : Observer) → wellFormed o ≡ false → (r : Received) → o ≡ recordReceived o r .observer
+unfolding recordReceivedTpdu
+left-by o w r = go (sequenceRead (r .tpdu))
+  where
+    go : (x : Outcome ℕ) → o ≡ afterReading o x (recordReturn o (r .time)) .observer
+    go (refused n) = ap (λ (s : Step). s .observer) (refusing-malformed o n w)
+    go (gives q) = ap (λ (s : Step). s .observer) (return-malformed o (r .time) q w)
+
+left-by-all : (o : Observer) → ((r : Received) → o ≡ recordReceived o r .observer) → (rs : List Received) → o ≡ inTurn recordReceived o rs .observer
+left-by-all o h [] = refl
+left-by-all o h (r ∷ rs) = left-by-all o h rs ∙ ap (λ (x : Observer). inTurn recordReceived x rs .observer) (h r)
+
 returns-taken : ReturnsTaken
 unfolding recordReceivedTpdus
-returns-taken o times lengths bytes returned numbers =
-    takes o (receivedOf times (take (returnsIn times lengths returned numbers) (tpdusOf lengths bytes)))
+returns-taken o times lengths bytes returned numbers = go (wellFormed o) refl
+  where
+    rs : List Received
+    rs = receivedOf times (take (returnsIn times lengths returned numbers) (tpdusOf lengths bytes))
+
+    go : (b : Bool) → wellFormed o ≡ b → arrivedIn o numbers (judged o (gives (inTurn recordReceived o rs))) .observer ≡ receiveAll o (map handedTpdu rs)
+    go true w = ap (λ (x : Outcome Steps). arrivedIn o numbers x .observer) (sym (judged-well o (gives (inTurn recordReceived o rs)) w)) ∙ takes o rs
+    go false w =
+        ap (λ (x : Outcome Steps). arrivedIn o numbers x .observer) (sym (judged-malformed o (gives (inTurn recordReceived o rs)) w))
+        ∙ left-by-all o (left-by o w) rs
+        ∙ takes o rs
 
 pub batches : Batches
 batches = record { plan-entered = plan-entered; returns-taken = returns-taken }

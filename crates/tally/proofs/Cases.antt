@@ -15,7 +15,7 @@ use Rattle.measurement.specs.declared.DecodedTpdu.{DecodedTpdu}
 use Rattle.plan.specs.Plan.{rateCauses, intervalOf}
 use Rattle.gtpu.specs.Element.{endOf, walk, elementsFrom, elementsOf}
 use Rattle.observer.specs.Observer.{Observer, capacity, rows, withRows}
-use Rattle.observer.specs.Judge.{wellFormed, judged}
+use Rattle.observer.specs.Judge.{wellFormed, judged, afterReading}
 use Rattle.observer.specs.Place.{holds}
 use Rattle.observer.specs.Sending.{entered, sendingCauses, recordSent}
 use Rattle.observer.specs.Returning.{arrivalCauses, arrived, arrival, recordReturn}
@@ -97,17 +97,17 @@ all-sent =
     ∙ sent-five
 
 -- a built packet is read as its sequence
-read-as : (o : Observer) (q sentAt time : ℕ) → q < 2 ^ 64 → sentAt < 2 ^ 64 → returns o q sentAt time ≡ recordReturn o time (gives q) .observer
+read-as : (o : Observer) (q sentAt time : ℕ) → q < 2 ^ 64 → sentAt < 2 ^ 64 → returns o q sentAt time ≡ recordReturn o time q .observer
 unfolding recordReceivedTpdu sequenceRead
 read-as o q sentAt time g h =
-    ap (λ (x : Outcome DecodedTpdu). recordReturn o time (elim x [ refused n ↦ refused n | gives t ↦ gives (t .measurement .sequence) ]) .observer)
+    ap (λ (x : Outcome DecodedTpdu). afterReading o (elim x as (λ (y : Outcome DecodedTpdu). Outcome ℕ) [ refused n ↦ refused n | gives t ↦ gives (t .measurement .sequence) ]) (recordReturn o time) .observer)
     (reads-back-alone ipv4Flow q sentAt (range4 q sentAt g h))
 
-return-2 : recordReturn sent 50 (gives 2) .observer ≡ with2
+return-2 : recordReturn sent 50 2 .observer ≡ with2
 unfolding firstCause capacity rows withRows wellFormed judged holds arrivalCauses arrived arrival recordReturn
 return-2 = refl
 
-return-5 : recordReturn with2 60 (gives 5) .observer ≡ with2And5
+return-5 : recordReturn with2 60 5 .observer ≡ with2And5
 unfolding firstCause capacity rows withRows wellFormed judged holds arrivalCauses arrived arrival recordReturn
 return-5 = refl
 

@@ -14,14 +14,15 @@ use Rattle.measurement.specs.declared.DecodedTpdu.{DecodedTpdu}
 use Rattle.counter.specs.Counter.{oneMore}
 use Rattle.observer.specs.Counts.{oneDuplicate, outOfOrderIf}
 use Rattle.observer.specs.Observer.{Row, Observer, rows, rowAt, withRows, withCounts}
-use Rattle.observer.specs.Judge.{wellFormed, judged, Step, step}
+use Rattle.observer.specs.Judge.{wellFormed, Step, step, refusing, afterReading}
 use Rattle.observer.specs.Place.{placeOf, wasSent, rowOf, highestMarked}
 use Rattle.observer.specs.Returning.{returned, recordReturn}
 use Rattle.observer.specs.Claims.{returning}
 use Rattle.observer.specs.declared.ObserverCounts.{ObserverCounts}
 use Rattle.observer.proofs.Rows.{rows-with}
-use Rattle.observer.proofs.Calls.{judged-malformed, judged-well, return-refused, return-early, return-duplicate, return-first}
+use Rattle.observer.proofs.Calls.{judged-malformed, judged-well, refusing-well, return-early, return-duplicate, return-first}
 use Rattle.observer.proofs.Claims.{calls-keep-well, search-finds}
+use Rattle.continuity.specs.Kinds.{messageKind}
 use Rattle.continuity.specs.Returns.{sequenceRead, recordReceivedTpdu, recordReturnMessage}
 use Rattle.continuity.specs.declared.GtpuReturnDatagramOutcome.the-variants.{MeasurementTpdu}
 use Rattle.tally.specs.Tally.{Tally, Fed, isRefused, rowOfPacket, higherMarked, marked, counted, tallyReturn}
@@ -101,10 +102,10 @@ module _ {q n : ℕ} {o : Observer} (i : Ready q n o) (t k : ℕ) (h : k < n) wh
   row-is = ap (λ (j : ℕ). rowAt j (rows o)) (found .1)
 
   abbrev call : Step
-  call = recordReturn o t (gives (row .sequence))
+  call = recordReturn o t (row .sequence)
 
   still-well : wellFormed (call .observer) ≡ true
-  still-well = calls-keep-well o (returning t (gives (row .sequence)) ∷ []) (i .well)
+  still-well = calls-keep-well o (returning t (row .sequence) ∷ []) (i .well)
 
   sent-is : rowOf (row .sequence) (rows o) .sent ≡ row .sent
   sent-is = ap (λ (r : Row). r .sent) row-is
@@ -170,13 +171,17 @@ Reads q (refused m) = Unit {0}
 Reads q (gives d) = d .measurement .sequence ≡ q
 
 module _ (o : Observer) (t : ℕ) (b : List ℕ) where
-  received-refused : (m : ℕ) → readOf b ≡ refused m → recordReturn o t (refused m) ≡ recordReceivedTpdu o t b
+  received-as : (x : Outcome DecodedTpdu) → readOf b ≡ x
+      → afterReading o (elim x [ refused n ↦ refused n | gives d ↦ gives (d .measurement .sequence) ]) (recordReturn o t) ≡ recordReceivedTpdu o t b
   unfolding recordReceivedTpdu sequenceRead
-  received-refused m e = rw (e, sequenceRead)
+  received-as x e =
+      ap (λ (y : Outcome DecodedTpdu). afterReading o (elim y as (λ (z : Outcome DecodedTpdu). Outcome ℕ) [ refused n ↦ refused n | gives d ↦ gives (d .measurement .sequence) ]) (recordReturn o t)) (sym e)
 
-  received-given : (d : DecodedTpdu) → readOf b ≡ gives d → recordReturn o t (gives (d .measurement .sequence)) ≡ recordReceivedTpdu o t b
-  unfolding recordReceivedTpdu sequenceRead
-  received-given d e = rw (e, sequenceRead)
+  received-refused : (m : ℕ) → readOf b ≡ refused m → refusing o m ≡ recordReceivedTpdu o t b
+  received-refused m e = received-as (refused m) e
+
+  received-given : (d : DecodedTpdu) → readOf b ≡ gives d → recordReturn o t (d .measurement .sequence) ≡ recordReceivedTpdu o t b
+  received-given d e = received-as (gives d) e
 
 module _ (a : Tally) (r : Fed) where
   pub tally-refused : (m : ℕ) → readOf (r .arrived) ≡ refused m → a ≡ tallyReturn a r
@@ -198,7 +203,7 @@ as-refused (gives u) y = refl
 
 -- the message call does what the T-PDU call does
 pub message-is : (o : Observer) (t : ℕ) (b : List ℕ) → takenBy tpduCall o t b ≡ takenBy messageCall o t b
-unfolding recordReturnMessage
+unfolding recordReturnMessage messageKind
 message-is o t b =
     ap (λ (x : Bool). record { refuses = x; observer = recordReceivedTpdu o t b .observer }) (as-refused (recordReceivedTpdu o t b .outcome) MeasurementTpdu)
 
@@ -211,11 +216,11 @@ module _ {q n : ℕ} {o : Observer} (i : Ready q n o) (t k : ℕ) (h : k < n) (b
     where
       go : (x : Outcome DecodedTpdu) → readOf b ≡ x → Reads (q + k) x → Answers q n o (takenBy tpduCall o t b) (tallyReturn (readOff o) input)
       go (refused m) e u =
-          taken-as (return-refused o t m (i .well) ∙ received-refused o t b m e)
+          taken-as (refusing-well o m (i .well) ∙ received-refused o t b m e)
           (tallied-as (tally-refused (readOff o) input m e) (record { ready = i; is = refl; unchanged = λ v. refl }))
       go (gives d) e u =
           let s : rowAt k (rows o) .sequence ≡ d .measurement .sequence = sequence-is (rows o) q k (i .consecutive) (omega (arith, i .number)) ∙ sym u in
-          taken-as (ap (λ (x : ℕ). recordReturn o t (gives x)) s ∙ received-given o t b d e)
+          taken-as (ap (recordReturn o t) s ∙ received-given o t b d e)
           (tallied-as (tally-given (readOff o) input d e) (return-answers i t k h))
 
   pub call-answers : (call : Call) → Reads (q + k) (readOf b) → Answers q n o (takenBy call o t b) (tallyReturn (readOff o) input)
@@ -224,20 +229,16 @@ module _ {q n : ℕ} {o : Observer} (i : Ready q n o) (t k : ℕ) (h : k < n) (b
 
 -- ---- what the reader refuses, the calls refuse
 
-step-refused : (o : Observer) (m : ℕ) → isRefused (step o (judged o (refused m)) .outcome) ≡ true
+step-refused : (o : Observer) (m : ℕ) → isRefused (refusing o m .outcome) ≡ true
 step-refused o m = go (wellFormed o) refl
   where
-    go : (w : Bool) → wellFormed o ≡ w → isRefused (step o (judged o (refused m)) .outcome) ≡ true
+    go : (w : Bool) → wellFormed o ≡ w → isRefused (refusing o m .outcome) ≡ true
     go true e = ap (λ (x : Outcome Observer). isRefused (step o x .outcome)) (sym (judged-well o (refused m) e))
     go false e = ap (λ (x : Outcome Observer). isRefused (step o x .outcome)) (sym (judged-malformed o (refused m) e))
 
-return-not-read : (o : Observer) (t m : ℕ) → isRefused (recordReturn o t (refused m) .outcome) ≡ true
-unfolding recordReturn
-return-not-read o t m = step-refused o m
-
 tpdu-refused : (o : Observer) (t : ℕ) (b : List ℕ) (m : ℕ) → readOf b ≡ refused m → takenBy tpduCall o t b .refuses ≡ false → ⊥
 tpdu-refused o t b m e f =
-    no (sym f ∙ ap (λ (s : Step). isRefused (s .outcome)) (sym (received-refused o t b m e)) ∙ return-not-read o t m)
+    no (sym f ∙ ap (λ (s : Step). isRefused (s .outcome)) (sym (received-refused o t b m e)) ∙ step-refused o m)
 
 pub call-refused : (o : Observer) (t : ℕ) (b : List ℕ) (call : Call) (m : ℕ) → readOf b ≡ refused m → takenBy call o t b .refuses ≡ false → ⊥
 call-refused o t b tpduCall m e f = tpdu-refused o t b m e f

@@ -23,7 +23,7 @@ PlanEntered = (flow : InnerIpFlow) (plan : TrafficPlan) (next : ℕ) → Accepte
 abbrev pub handedTpdu : Received → Handed
 handedTpdu r = record { call = tpduCall; time = r .time; tpdu = r .tpdu }
 
--- A list of returns, taken in one call.
+-- A list of returns, taken in one call: on a malformed sheet too, which every single call leaves as it was.
 abbrev pub ReturnsTaken : Type 0
 ReturnsTaken = (o : Observer) (times lengths bytes returned numbers : List ℕ)
     → recordReceivedTpdus o times lengths bytes returned numbers .arrived .observer

@@ -1,9 +1,7 @@
 -- `continuity::record_return_gtpu_datagram` meets its contract: a T-PDU, an Error Indication, and what changes nothing.
--- Assumes nothing.
 use borrow.Author.Needs.{needs}
 use mathlib.Core.Path.{ap, _∙_}
 use Rattle.observer.specs.Observer.{Observer}
-use Rattle.observer.specs.Returning.{recordErrorIndication}
 use Rattle.observer.specs.Answer.{observerOf}
 use Rattle.continuity.specs.Returns.{unchanged}
 use Rattle.continuity.specs.declared.GtpuReturnDatagramOutcome.the-variants.{MeasurementTpdu, ErrorIndication}
@@ -24,17 +22,14 @@ record-received-tpdu-requires c κs = search needs
 message-of-kind-requires : tie.Need-message-of-kind-requires
 message-of-kind-requires c κs = search needs
 
-walk-requires : tie.Need-walk-requires
-walk-requires c κs = search needs
-
-record-error-indication-requires : tie.Need-record-error-indication-requires
-record-error-indication-requires c κs = search needs
+record-elements-requires : tie.Need-record-elements-requires
+record-elements-requires c κs = search needs
 
 message-of-kind-requires-2 : tie.Need-message-of-kind-requires-2
 message-of-kind-requires-2 c κs = search needs
 
 notice-requires : tie.Need-notice-requires
-notice-requires c κs = search needs
+notice-requires c κs = let k = c .before .before in (k .match .rest .0 .1, k .match .rest .1)
 
 leave-unchanged-requires : tie.Need-leave-unchanged-requires
 leave-unchanged-requires c κs = search needs
@@ -62,11 +57,9 @@ same-length-4 c = search needs
 returns-2 : tie.Need-returns-2
 returns-2 c =
     let step = c .before in
-    let walked = step .before .before .before in
-    let k = walked .before in
+    let k = step .before .before .before in
     let s = start (k .before) in
-    answered ErrorIndication (step .record-error-indication .result) _ _ _ _ (c .message-of-kind2 .ensures)
-    (step .record-error-indication .ensures ∙ ap (recordErrorIndication (observer s)) (walked .walk .ensures))
+    answered ErrorIndication (step .record-elements .result) _ _ _ _ (c .message-of-kind2 .ensures) (step .record-elements .ensures)
     ∙ message-26 (s .args .message-type) (observer s) (s .args .return-timestamp-ns) (s .args .payload .now) (k .match .keys2)
 
 same-length-5 : tie.Need-same-length-5
@@ -90,8 +83,7 @@ record-return-gtpu-datagram-spec =
     (tie.spec
     record-received-tpdu-requires
     message-of-kind-requires
-    walk-requires
-    record-error-indication-requires
+    record-elements-requires
     message-of-kind-requires-2
     notice-requires
     leave-unchanged-requires

@@ -1,10 +1,10 @@
 -- `exports::testkit_record_received_tpdus` meets its contract.
--- Assumes nothing.
 use mathlib.Core.Path.{ap, _∙_}
 use borrow.Author.Needs.{needs}
 use Rattle.observer.specs.Answer.{observerOf}
 use Rattle.observer.specs.declared.ObserverCounts.{ObserverCounts}
 use Rattle.continuity.specs.Batch.{recordReceivedTpdus}
+use Rattle.exports.proofs.Returns.{returns-stepped}
 use Rattle.exports.proofs.testkit_record_received_tpdus.Statement.{statement}
 use Rattle.exports.proofs.testkit_record_received_tpdus.Tie as tie
 
@@ -13,6 +13,9 @@ counts-of-requires c κs = search needs
 
 record-received-tpdus-requires : tie.Need-record-received-tpdus-requires
 record-received-tpdus-requires c κs = search needs
+
+returns-numbers-requires : tie.Need-returns-numbers-requires
+returns-numbers-requires c κs = search needs
 
 same-length : tie.Need-same-length
 same-length c = search needs
@@ -31,10 +34,12 @@ returns c =
     let b = c .before .before .before .before .before .before .before .before .before in
     let k = b .before .before .before in
     let a = k .before .before .before .before .before .before .before .before .before .before .before .before .args in
-    b .record-received-tpdus .ensures
+    let e = b .record-received-tpdus .ensures
     ∙ ap (λ (x : ObserverCounts). recordReceivedTpdus (observerOf (a .sequences .now) (a .send-timestamps .now) (a .latencies .now) (a .marks .now) x)
     (a .return-timestamps .now) (a .lengths .now) (a .tpdus .now) (a .returned .now) (a .numbers .now))
-    (k .counts-of .ensures)
+    (k .counts-of .ensures) in
+    returns-stepped (c .returns-numbers .result) (b .record-received-tpdus .result) _ _ (a .sequences .now) (a .send-timestamps .now) _ _ _ e
+    (c .returns-numbers .ensures)
 
 pub testkit-record-received-tpdus-spec : {M : Type 1} → statement M
 testkit-record-received-tpdus-spec =
@@ -42,6 +47,7 @@ testkit-record-received-tpdus-spec =
     (tie.spec
     counts-of-requires
     record-received-tpdus-requires
+    returns-numbers-requires
     same-length
     same-length-2
     same-length-3

@@ -1,4 +1,4 @@
--- `observer::record_return` meets its contract: cause 21, then `take_return`.
+-- `observer::record_return` meets its contract: cause 21, then `arrive`.
 -- Assumes nothing.
 use mathlib.Core.Path.{sym, _∙_}
 use borrow.Author.Needs.{needs}
@@ -32,8 +32,8 @@ returns c =
     let f = c .before in
     rw (c .refused .ensures) (return-malformed (observer (f .before)) _ _ (sym (f .before .well-formed .ensures) ∙ not-true _ (f .if1 .taken)))
 
-take-return-requires : tie.Need-take-return-requires
-take-return-requires c κs =
+arrive-requires : tie.Need-arrive-requires
+arrive-requires c κs =
     let e = c .before .before in
     sym (e .before .well-formed .ensures) ∙ not-false _ (e .if1 .left)
 
@@ -44,7 +44,7 @@ same-length-4 : tie.Need-same-length-4
 same-length-4 c = search needs
 
 returns-2 : tie.Need-returns-2
-returns-2 c = c .before .before .before .before .take-return .ensures
+returns-2 c = c .before .before .before .before .arrive .ensures
 
 pub record-return-spec : {M : Type 1} → statement M
 record-return-spec =
@@ -55,7 +55,7 @@ record-return-spec =
     same-length
     same-length-2
     returns
-    take-return-requires
+    arrive-requires
     same-length-3
     same-length-4
     returns-2)

@@ -1,15 +1,15 @@
 -- `continuity::batch::read_tpdus` meets its contract. The invariant: what the first i T-PDUs read as stands in the columns, and the others begin
 -- at `at`.
--- Assumes nothing.
 use Prim.Native.Nat.{ℕ, _≤_, _-_}
 use mathlib.Core.Path.{_≡_, refl, sym, ap, _∙_}
 use mathlib.Core.List.{List, _∷_, _++_, map}
 use native.Mathlib.Omega.{arith}
 use lib.ListN.{length, take, drop, length-set}
 use borrow.Author.Needs.{needs}
-use Rattle.error.specs.Outcome.{outcomeNumber}
 use Rattle.continuity.specs.Returns.{sequenceRead}
-use Rattle.continuity.specs.Batch.{tpdusOf, sequenceOrZero}
+use Rattle.continuity.specs.Answer.{sequenceNumbers}
+use Rattle.continuity.specs.Batch.{tpdusOf}
+use Rattle.continuity.specs.declared.SequenceRead.{SequenceRead}
 use Rattle.continuity.proofs.Received.{tpdu-next, tpdus-behind, stored}
 use Rattle.continuity.proofs.batch.read_tpdus.Statement.{statement}
 use Rattle.continuity.proofs.batch.read_tpdus.Tie as tie
@@ -19,8 +19,8 @@ Inv-loop lengths tpdus returns returned₀ numbers₀ at₀ i₀ returned number
     (i ≤ returns)
     × (at ≤ length tpdus)
     × (tpdusOf (drop i lengths) (drop at tpdus) ≡ drop i (tpdusOf lengths tpdus))
-    × (returned ≡ map (λ tpdu. sequenceOrZero (sequenceRead tpdu)) (take i (tpdusOf lengths tpdus)) ++ drop i returned₀)
-    × (numbers ≡ map (λ tpdu. outcomeNumber (sequenceRead tpdu)) (take i (tpdusOf lengths tpdus)) ++ drop i numbers₀)
+    × (returned ≡ map (λ tpdu. sequenceNumbers (sequenceRead tpdu) .sequence) (take i (tpdusOf lengths tpdus)) ++ drop i returned₀)
+    × (numbers ≡ map (λ tpdu. sequenceNumbers (sequenceRead tpdu) .number) (take i (tpdusOf lengths tpdus)) ++ drop i numbers₀)
     × (length returned ≡ length returned₀)
     × (length numbers ≡ length numbers₀)
 
@@ -51,17 +51,11 @@ part-read-sequence-end c = omega arith
 read-sequence-requires : tie.Need-read-sequence-requires Inv-loop μ-loop
 read-sequence-requires c κs = search needs
 
-read-value-requires : tie.Need-read-value-requires Inv-loop μ-loop
-read-value-requires c κs = search needs
-
 mul-returned : tie.Need-mul-returned Inv-loop μ-loop
 mul-returned c = omega arith
 
 slice-write-returned : tie.Need-slice-write-returned Inv-loop μ-loop
 slice-write-returned c = omega arith
-
-read-number-requires : tie.Need-read-number-requires Inv-loop μ-loop
-read-number-requires c κs = search needs
 
 slice-write-numbers : tie.Need-slice-write-numbers Inv-loop μ-loop
 slice-write-numbers c = omega arith
@@ -74,9 +68,8 @@ loop-less c = omega arith
 
 loop-again : tie.Need-loop-again Inv-loop μ-loop
 loop-again c =
-    let v = c .before in
-    let r = v .before in
-    let e = r .before .before in
+    let r = c .read-sequence in
+    let e = c .before .before in
     let l = e .before .before .before .loop in
     let s = e .before .before .before .before .before .before .before .before in
     let a = s .args in
@@ -85,12 +78,12 @@ loop-again c =
       omega arith,
       omega arith,
       tpdus-behind all _ _ (l .i) next,
-      stored (λ tpdu. sequenceOrZero (sequenceRead tpdu)) _ _ all (a .returned .now) (l .returned) (l .i) (v .read-value .result) next (omega (arith, s .pre .1)) (l .inv .3)
-          (v .read-value .ensures ∙ ap sequenceOrZero (r .read-sequence .ensures)),
-      stored (λ tpdu. outcomeNumber (sequenceRead tpdu)) _ _ all (a .numbers .now) (l .numbers) (l .i) (c .read-number .result) next (omega (arith, s .pre .2)) (l .inv .4)
-          (c .read-number .ensures ∙ ap outcomeNumber (r .read-sequence .ensures)),
-      length-set (l .returned) (l .i) (v .read-value .result) ∙ l .inv .5,
-      length-set (l .numbers) (l .i) (c .read-number .result) ∙ l .inv .6,
+      stored (λ tpdu. sequenceNumbers (sequenceRead tpdu) .sequence) _ _ all (a .returned .now) (l .returned) (l .i) (r .result .sequence) next (omega (arith, s .pre .1)) (l .inv .3)
+          (ap (λ (x : SequenceRead). x .sequence) (r .ensures)),
+      stored (λ tpdu. sequenceNumbers (sequenceRead tpdu) .number) _ _ all (a .numbers .now) (l .numbers) (l .i) (r .result .number) next (omega (arith, s .pre .2)) (l .inv .4)
+          (ap (λ (x : SequenceRead). x .number) (r .ensures)),
+      length-set (l .returned) (l .i) (r .result .sequence) ∙ l .inv .5,
+      length-set (l .numbers) (l .i) (r .result .number) ∙ l .inv .6,
     )
 
 same-length : tie.Need-same-length Inv-loop μ-loop
@@ -105,8 +98,8 @@ returns c =
     let a = c .before .before .before .before .before .before .args in
     let all = tpdusOf (a .lengths .now) (a .tpdus .now) in
     let e : l .i ≡ a .returns = omega arith in (
-      l .inv .3 ∙ ap (λ (n : ℕ). map (λ tpdu. sequenceOrZero (sequenceRead tpdu)) (take n all) ++ drop n (a .returned .now)) e,
-      l .inv .4 ∙ ap (λ (n : ℕ). map (λ tpdu. outcomeNumber (sequenceRead tpdu)) (take n all) ++ drop n (a .numbers .now)) e,
+      l .inv .3 ∙ ap (λ (n : ℕ). map (λ tpdu. sequenceNumbers (sequenceRead tpdu) .sequence) (take n all) ++ drop n (a .returned .now)) e,
+      l .inv .4 ∙ ap (λ (n : ℕ). map (λ tpdu. sequenceNumbers (sequenceRead tpdu) .number) (take n all) ++ drop n (a .numbers .now)) e,
     )
 
 pub read-tpdus-spec : {M : Type 1} → statement M
@@ -123,10 +116,8 @@ read-tpdus-spec =
     part-read-sequence-start
     part-read-sequence-end
     read-sequence-requires
-    read-value-requires
     mul-returned
     slice-write-returned
-    read-number-requires
     slice-write-numbers
     add-i
     loop-less

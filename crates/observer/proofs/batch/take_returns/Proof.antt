@@ -8,12 +8,12 @@ use mathlib.Core.Bool.{true}
 use native.Mathlib.Omega.{arith}
 use lib.ListN.{length, getD, take, drop, length-set}
 use borrow.Author.Needs.{needs}
-use Rattle.observer.specs.Observer.{Observer}
+use Rattle.error.specs.Outcome.{gives}
 use Rattle.observer.specs.Judge.{wellFormed, Step}
-use Rattle.observer.specs.Returning.{recordReturn}
 use Rattle.observer.specs.Answer.{observerOf, recorded}
-use Rattle.observer.specs.InTurn.{inTurn, recordArrival, readAs, arrivalsOf, recordReturns}
-use Rattle.observer.proofs.InTurn.{joined, arrival-step, arrival-well, arrival-last, stored-behind}
+use Rattle.observer.specs.InTurn.{inTurn}
+use Rattle.observer.specs.Arrivals.{Arrival, recordArrival, arrivalAs, arrivalsOf}
+use Rattle.observer.proofs.Arrivals.{joined, arrival-step, arrival-well, arrival-last, stored-behind, returns-well}
 use Rattle.observer.proofs.batch.take_returns.Statement.{statement}
 use Rattle.observer.proofs.batch.take_returns.Tie as tie
 
@@ -44,20 +44,17 @@ mul-take-return c = omega arith
 shared-slice-read-take-return : tie.Need-shared-slice-read-take-return Inv-loop μ-loop
 shared-slice-read-take-return c = omega arith
 
-mul-read-as : tie.Need-mul-read-as Inv-loop μ-loop
-mul-read-as c = omega arith
+mul-take-return-2 : tie.Need-mul-take-return-2 Inv-loop μ-loop
+mul-take-return-2 c = omega arith
 
-shared-slice-read-read-as : tie.Need-shared-slice-read-read-as Inv-loop μ-loop
-shared-slice-read-read-as c = omega arith
+shared-slice-read-take-return-2 : tie.Need-shared-slice-read-take-return-2 Inv-loop μ-loop
+shared-slice-read-take-return-2 c = omega arith
 
-slice-read-read-as : tie.Need-slice-read-read-as Inv-loop μ-loop
-slice-read-read-as c = omega arith
-
-read-as-requires : tie.Need-read-as-requires Inv-loop μ-loop
-read-as-requires c κs = search needs
+slice-read-take-return : tie.Need-slice-read-take-return Inv-loop μ-loop
+slice-read-take-return c = omega arith
 
 take-return-requires : tie.Need-take-return-requires Inv-loop μ-loop
-take-return-requires c κs = c .before .before .before .before .before .before .before .loop .inv .1
+take-return-requires c κs = c .before .before .before .before .before .before .loop .inv .1
 
 answer-number-requires : tie.Need-answer-number-requires Inv-loop μ-loop
 answer-number-requires c κs = search needs
@@ -74,18 +71,17 @@ loop-less c = omega arith
 loop-again : tie.Need-loop-again Inv-loop μ-loop
 loop-again c =
     let r = c .before .before .before .before .before .before in
-    let l = r .before .before .before .before .before .before .before .before .loop in
-    let a = r .before .before .before .before .before .before .before .before .before .before .before .before .before .before .before .before .before .args in
+    let l = r .before .before .before .before .before .before .before .loop in
+    let a = r .before .before .before .before .before .before .before .before .before .before .before .before .before .before .before .before .args in
     let o = observerOf (a .sequences .now) (a .send-timestamps .now) (l .latencies) (l .marks) (l .latest) in
-    let t = getD (a .return-timestamps .now) (l .i) 0 in
-    let read = readAs (getD (a .returned .now) (l .i) 0) (getD (l .numbers) (l .i) 0) in
+    let arrival : Arrival = arrivalAs (getD (a .return-timestamps .now) (l .i) 0) (getD (a .returned .now) (l .i) 0) (getD (l .numbers) (l .i) 0) in
     let n = c .before .answer-number in
     let s : Step = recorded (r .take-return .result) (a .sequences .now) (a .send-timestamps .now) (r .take-return .last .1 .1 .0) (r .take-return .last .1 .1 .1 .0) in
-    let e : s ≡ recordReturn o t read = r .take-return .ensures ∙ ap (recordReturn o t) (r .before .read-as .ensures) in (
+    let e : s ≡ recordArrival o arrival = r .take-return .ensures in (
       arrival-step o (a .return-timestamps .now) (a .returned .now) (l .numbers) (l .i) (omega arith) (omega arith) (omega arith)
           (inTurn recordArrival (observerOf (a .sequences .now) (a .send-timestamps .now) (a .latencies .now) (a .marks .now) (a .counts)) (arrivalsOf (a .return-timestamps .now) (a .returned .now) (a .numbers .now)))
           s (n .result) e (n .ensures) (l .inv .0),
-      arrival-well o t read s e (l .inv .1),
+      arrival-well o arrival s e (l .inv .1),
       stored-behind (l .numbers) (a .numbers .now) (l .i) (n .result) (omega arith) (omega arith) (l .inv .2),
       omega arith,
       omega arith,
@@ -103,17 +99,19 @@ same-length-3 : tie.Need-same-length-3 Inv-loop μ-loop
 same-length-3 c = c .before .loop .inv .6
 
 returns : tie.Need-returns Inv-loop μ-loop
-unfolding recordReturns
 returns c =
     let l = c .before .loop in
     let n = c .before .before in
-    let a = n .before .before .before .before .before .before .before .before .args in
+    let s = n .before .before .before .before .before .before .before .before in
+    let a = s .args in
     let o = observerOf (a .sequences .now) (a .send-timestamps .now) (l .latencies) (l .marks) (l .latest) in
+    let o₀ = observerOf (a .sequences .now) (a .send-timestamps .now) (a .latencies .now) (a .marks .now) (a .counts) in
     let i-is : l .i ≡ n .returns-in .result = omega arith in
-    ap (λ (k : ℕ). record { returns = k; numbers = l .numbers; observer = o }) (sym i-is)
-    ∙ arrival-last o (a .return-timestamps .now) (a .returned .now) (l .numbers) (a .numbers .now) (l .i)
-    (inTurn recordArrival (observerOf (a .sequences .now) (a .send-timestamps .now) (a .latencies .now) (a .marks .now) (a .counts)) (arrivalsOf (a .return-timestamps .now) (a .returned .now) (a .numbers .now)))
+    ap (λ (k : ℕ). record { outcome = gives k; numbers = l .numbers; observer = o }) (sym i-is)
+    ∙ arrival-last o₀ o (a .return-timestamps .now) (a .returned .now) (l .numbers) (a .numbers .now) (l .i)
+    (inTurn recordArrival o₀ (arrivalsOf (a .return-timestamps .now) (a .returned .now) (a .numbers .now)))
     (omega arith) (omega arith) (l .inv .2) (l .inv .0)
+    ∙ returns-well o₀ (a .return-timestamps .now) (a .returned .now) (a .numbers .now) (s .pre)
 
 pub take-returns-spec : {M : Type 1} → statement M
 take-returns-spec =
@@ -125,10 +123,9 @@ take-returns-spec =
     loop-holds
     mul-take-return
     shared-slice-read-take-return
-    mul-read-as
-    shared-slice-read-read-as
-    slice-read-read-as
-    read-as-requires
+    mul-take-return-2
+    shared-slice-read-take-return-2
+    slice-read-take-return
     take-return-requires
     answer-number-requires
     slice-write-numbers
