@@ -18,15 +18,17 @@ use Rattle.reflector_sessions.specs.Session.{noSession}
 use Rattle.reflector_sessions.specs.Table.{tableOf, usedRows, find}
 use Rattle.reflector_sessions.specs.declared.ReflectorSession.{ReflectorSession}
 use Rattle.reflector_answer.specs.State.{fresh}
-use Rattle.reflector_answer.specs.Answer.{Action, Answer, reflected, gpduOutcome, gpduKnown, gpduUnknown, gpduAnswer, echoRequestOutcome, echoRequest, otherMessage, answer}
+use Rattle.reflector_answer.specs.Answer.{Outbound, Action, noop, send, Answer, reflected, gpduOutcome, gpduKnown, gpduUnknown, gpduAnswer, echoRequestOutcome, echoRequest, otherMessage, answer}
 use Rattle.reflector_answer.specs.Handle.{actionOf, placed, noAddress, handleFound}
 use Rattle.reflector_answer.specs.declared.ReflectorPolicy.{ReflectorPolicy}
 use Rattle.reflector_answer.specs.declared.ReflectorPolicy.the-variants.{Echo, SinkAndCount, Route}
+use Rattle.reflector_answer.specs.declared.ReflectorNoopReason.{ReflectorNoopReason}
+use Rattle.reflector_answer.specs.declared.ReflectorSendReason.the-variants.{EchoResponse, ErrorIndication}
 use Rattle.reflector_answer.specs.declared.SequenceNumber.the-variants.{Absent}
 use Rattle.reflector_answer.proofs.Answers.{handling-passed}
 use Rattle.reflector.specs.Handle.{handleDatagram}
 use Rattle.reflected_legs.specs.Hop.{Reflector, answerTo, gpduSent, sentOn, Forwards}
-use Rattle.reflected_legs.specs.Claims.{Known, Uncopied, RouteCopiesNothing, OnwardUnder, SentByPolicy}
+use Rattle.reflected_legs.specs.Claims.{payloadBytes, PayloadTold, Known, Uncopied, RouteCopiesNothing, OnwardUnder, SentByPolicy}
 
 no-some : {A : Type 0} {x : A} → none ≡ some x → ⊥
 no-some e = let z : _≡_ {A = ℕ} 0 1 = cc in omega arith
@@ -36,22 +38,102 @@ abbrev given : Outcome (List ℕ) → Option (List ℕ)
 given (refused n) = none
 given (gives b) = some b
 
+-- a message that is no G-PDU
+data Other (m : Outbound) : Type 0 where
+  response : m .reason ≡ EchoResponse → m .messageType ≡ 2 → Other m
+  indication : m .reason ≡ ErrorIndication → m .messageType ≡ 26 → Other m
+
+behind-causes : (P : Outcome Action → Type 0) → ((n : ℕ) → P (refused n)) → (rows : List Cause) (o : Outcome Action) → P o → P (firstCause rows o)
+unfolding firstCause
+behind-causes P refusals [] o h = h
+behind-causes P refusals ((true ⇒ n) ∷ rows) o h = refusals n
+behind-causes P refusals ((false ⇒ n) ∷ rows) o h = behind-causes P refusals rows o h
+
 module _ (r : Reflector) (payload : List ℕ) where
+  abbrev session-meant : Option ReflectorSession
+  session-meant = find (r .message .teid) (usedRows (tableOf (r .sessions) (r .used) (r .config .«max_sessions»)))
+
+  -- what holds of every answer: of refusals, of messages that nothing is done with, of G-PDUs of a known session, and of messages that are none
+  module _ (P : Outcome Action → Type 0) (refusals : (n : ℕ) → P (refused n)) (idle : (reason : ReflectorNoopReason) → P (gives (noop reason))) (gpdus : (session : ReflectorSession) → P (gpduOutcome (r .config) session payload)) (others : (m : Outbound) → Other m → P (gives (send m))) where
+    abbrev Of : Answer → Type 0
+    Of a = P (a .outcome)
+
+    either : (t : Bool) (a b : Answer) → Of a → Of b → Of (elim t [ true ↦ a | false ↦ b ])
+    either true a b g h = g
+    either false a b g h = h
+
+    of-other : Of (otherMessage (r .state) (r .message .«message_type»))
+    unfolding otherMessage
+    of-other =
+        let t = r .message .«message_type» in
+        either (eqb t 2) _ _ (idle _) (either (eqb t 26) _ _ (idle _) (either (eqb t 254) _ _ (idle _) (either (eqb t 31) _ _ (idle _) (refusals _))))
+
+    of-request : P (echoRequestOutcome (r .config) (r .source) (r .message))
+    unfolding echoRequestOutcome
+    of-request = behind-causes P refusals _ _ (others _ (response refl refl))
+
+    of-gpdu : (session : Option ReflectorSession) → Of (gpduAnswer (r .config) (r .state) session (r .source) (r .message .teid) payload)
+    unfolding gpduKnown gpduUnknown
+    of-gpdu (some session) = gpdus session
+    of-gpdu none = others _ (indication refl refl)
+
+    of-answer : Of (answer (r .config) (r .state) session-meant (r .source) (r .message) payload)
+    unfolding answer echoRequest
+    of-answer =
+        let t = r .message .«message_type» in
+        either (eqb t 255) _ _ (of-gpdu session-meant) (either (eqb t 1) _ _ of-request of-other)
+
+    every : Of (answerTo r payload)
+    unfolding handleDatagram handleFound
+    every =
+        go (firstCause (tableCauses (length (r .sessions)) (r .used) (r .config .«max_sessions») ++ (ltb (length (r .output)) 72 ⇒ outputTooShort) ∷ []) (gives (tt {0})))
+      where
+        go : (x : Outcome (Unit {0})) → Of (elim x [
+          | refused number ↦ record { outcome = refused number; state = r .state }
+          | gives u ↦ answer (r .config) (r .state) session-meant (r .source) (r .message) payload
+        ])
+        go (refused n) = refusals n
+        go (gives u) = of-answer
+
   abbrev onwardOf : Outcome Action → Option (List ℕ)
   onwardOf o = gpduSent (actionOf o) payload (placed o (r .output))
+
+  -- what the answer tells is its payload
+
+  abbrev Told : Outcome Action → Type 0
+  Told (refused n) = Unit {0}
+  Told (gives (noop reason)) = Unit {0}
+  Told (gives (send m)) = m .messageType ≡ 255 → onwardOf (gives (send m)) ≡ some (payloadBytes (m .payload) payload)
+
+  told-echo : (session : ReflectorSession) (o : Outcome (List ℕ)) → Told (reflected session o)
+  told-echo session (refused n) = tt
+  told-echo session (gives b) = λ h. ap some (take-append-seam b (drop (length b) (r .output)))
+
+  told-gpdu : (session : ReflectorSession) → Told (gpduOutcome (r .config) session payload)
+  unfolding gpduOutcome
+  told-gpdu session = go (r .config .policy) refl
+    where
+      go : (p : ReflectorPolicy) → r .config .policy ≡ p → Told (gpduOutcome (r .config) session payload)
+      go Echo e = rw (e, gpduOutcome) (told-echo session (echoOf payload))
+      go SinkAndCount e = rw (e, gpduOutcome) tt
+      go Route e = rw (e, gpduOutcome) (λ h. refl)
+
+  told-other : (m : Outbound) → Other m → Told (gives (send m))
+  told-other m (response e f) = λ h. absurd (omega arith)
+  told-other m (indication e f) = λ h. absurd (omega arith)
+
+  told : Told (answerTo r payload .outcome)
+  told = every Told (λ n. tt) (λ reason. tt) told-gpdu told-other
+
+  -- what goes on: by the policy, or nothing
 
   abbrev byPolicy : ReflectorPolicy → Option (List ℕ)
   byPolicy Echo = given (echoOf payload)
   byPolicy SinkAndCount = none
   byPolicy Route = some payload
 
-  abbrev Nothing : Answer → Type 0
-  Nothing a = onwardOf (a .outcome) ≡ none
-
-  abbrev Ends : Answer → Type 0
-  Ends a = Nothing a ⊎ (onwardOf (a .outcome) ≡ byPolicy (r .config .policy))
-
-  -- a G-PDU of a known session
+  abbrev Ends : Outcome Action → Type 0
+  Ends o = (onwardOf o ≡ none) ⊎ (onwardOf o ≡ byPolicy (r .config .policy))
 
   echo-onward : (session : ReflectorSession) (o : Outcome (List ℕ)) → onwardOf (reflected session o) ≡ given o
   echo-onward session (refused n) = refl
@@ -66,58 +148,12 @@ module _ (r : Reflector) (payload : List ℕ) where
       go SinkAndCount e = rw (e, gpduOutcome)
       go Route e = rw (e, gpduOutcome)
 
-  -- other messages: nothing goes on
+  other-ends : (m : Outbound) → Other m → Ends (gives (send m))
+  other-ends m (response e f) = inl (rw e)
+  other-ends m (indication e f) = inl (rw e)
 
-  behind-causes : (rows : List Cause) (o : Outcome Action) → onwardOf o ≡ none → onwardOf (firstCause rows o) ≡ none
-  unfolding firstCause
-  behind-causes [] o h = h
-  behind-causes ((true ⇒ n) ∷ rows) o h = refl
-  behind-causes ((false ⇒ n) ∷ rows) o h = behind-causes rows o h
-
-  either : (t : Bool) (a b : Answer) → Nothing a → Nothing b → Nothing (elim t [ true ↦ a | false ↦ b ])
-  either true a b g h = g
-  either false a b g h = h
-
-  other-ends : Nothing (otherMessage (r .state) (r .message .«message_type»))
-  unfolding otherMessage
-  other-ends =
-      let t = r .message .«message_type» in
-      either (eqb t 2) _ _ refl (either (eqb t 26) _ _ refl (either (eqb t 254) _ _ refl (either (eqb t 31) _ _ refl refl)))
-
-  request-ends : onwardOf (echoRequestOutcome (r .config) (r .source) (r .message)) ≡ none
-  unfolding echoRequestOutcome
-  request-ends = behind-causes _ _ refl
-
-  gpdu-ends : (session : Option ReflectorSession) → Ends (gpduAnswer (r .config) (r .state) session (r .source) (r .message .teid) payload)
-  unfolding gpduKnown gpduUnknown
-  gpdu-ends (some session) = inr (gpdu-onward session)
-  gpdu-ends none = inl refl
-
-  -- by the type of the message
-  either-ends : (t : Bool) (a b : Answer) → Ends a → Ends b → Ends (elim t [ true ↦ a | false ↦ b ])
-  either-ends true a b g h = g
-  either-ends false a b g h = h
-
-  answer-ends : (session : Option ReflectorSession) → Ends (answer (r .config) (r .state) session (r .source) (r .message) payload)
-  unfolding answer echoRequest
-  answer-ends session =
-      let t = r .message .«message_type» in
-      either-ends (eqb t 255) _ _ (gpdu-ends session) (either-ends (eqb t 1) _ _ (inl request-ends) (inl other-ends))
-
-  abbrev session-meant : Option ReflectorSession
-  session-meant = find (r .message .teid) (usedRows (tableOf (r .sessions) (r .used) (r .config .«max_sessions»)))
-
-  ends : Ends (answerTo r payload)
-  unfolding handleDatagram handleFound
-  ends =
-      go (firstCause (tableCauses (length (r .sessions)) (r .used) (r .config .«max_sessions») ++ (ltb (length (r .output)) 72 ⇒ outputTooShort) ∷ []) (gives (tt {0})))
-    where
-      go : (x : Outcome (Unit {0})) → Ends (elim x [
-        | refused number ↦ record { outcome = refused number; state = r .state }
-        | gives u ↦ answer (r .config) (r .state) session-meant (r .source) (r .message) payload
-      ])
-      go (refused n) = inl refl
-      go (gives u) = answer-ends session-meant
+  ends : Ends (answerTo r payload .outcome)
+  ends = every Ends (λ n. inl refl) (λ reason. inl refl) (λ session. inr (gpdu-onward session)) other-ends
 
   -- backwards, and forwards
 
@@ -138,7 +174,7 @@ module _ (r : Reflector) (payload : List ℕ) where
   sent-is : (onward : List ℕ) → sentOn r payload ≡ some onward → OnwardUnder (r .config .policy) payload onward
   sent-is onward e = go ends
     where
-      go : Ends (answerTo r payload) → OnwardUnder (r .config .policy) payload onward
+      go : Ends (answerTo r payload .outcome) → OnwardUnder (r .config .policy) payload onward
       go (inl h) = absurd (no-some (sym h ∙ e))
       go (inr h) = under (r .config .policy) onward (sym h ∙ e)
 
@@ -162,6 +198,11 @@ module _ (r : Reflector) (payload : List ℕ) where
       action = ap (λ (a : Answer). actionOf (a .outcome)) (sym known-answer) ∙ rw (p, gpduKnown);
       output = ap (λ (a : Answer). placed (a .outcome) (r .output)) (sym known-answer) ∙ rw (p, gpduKnown);
     }
+
+pub payload-told : PayloadTold
+payload-told r payload m e f =
+    let h : Told r payload (gives (send m)) = rw e at (told r payload) in
+    ap (onwardOf r payload) e ∙ h f
 
 pub route-copies-nothing : RouteCopiesNothing
 route-copies-nothing r session k p payload = uncopied r payload session k p

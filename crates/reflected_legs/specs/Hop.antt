@@ -1,4 +1,4 @@
--- A reflector on a T-PDU's way: what it sends on of a payload that it is handed, by the contract of `handle_datagram`.
+-- A reflector on a T-PDU's way: what it sends on when it is handed a payload, by the contract of `handle_datagram`.
 use Prim.Native.Nat.{ℕ}
 use mathlib.Core.Path.{_≡_}
 use mathlib.Core.List.{List}
@@ -30,7 +30,8 @@ pub record Reflector : Type 0 where
 
 -- What the call answers, and the output as it leaves it: the two equations of its contract (`Answers`).
 abbrev pub answerTo : Reflector → List ℕ → Answer
-answerTo r payload = handleDatagram (r .sessions) (r .used) (r .config) (r .state) (r .source) (r .message) payload (r .output)
+answerTo r payload =
+    handleDatagram (r .sessions) (r .used) (r .config) (r .state) (r .source) (r .message) payload (r .output)
 
 abbrev pub handled : Reflector → List ℕ → Handled
 handled r payload = handledOf (answerTo r payload)
@@ -38,8 +39,9 @@ handled r payload = handledOf (answerTo r payload)
 abbrev pub outputAfter : Reflector → List ℕ → List ℕ
 outputAfter r payload = placed (answerTo r payload .outcome) (r .output)
 
--- The payload of the G-PDU that the caller then sends, as the answer tells it: of a routed one the payload that was lent ("Route hands on the
--- payload uncopied"), of a reflected one as many bytes at the front of the output as the answer says. Else no G-PDU goes out.
+-- The payload of the G-PDU that the caller then sends, as the answer tells it: of a routed one the payload that was
+-- lent ("Route hands on the payload uncopied"), of a reflected one as many bytes at the front of the output as the
+-- answer says. Otherwise no G-PDU goes out.
 abbrev pub gpduSent : ReflectorAction → List ℕ → List ℕ → Option (List ℕ)
 gpduSent (Refused number) lent output = none
 gpduSent (Noop reason) lent output = none

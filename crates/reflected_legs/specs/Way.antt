@@ -1,5 +1,6 @@
--- A T-PDU's way through reflectors that route and echo. Demand 3: bits turn "within one span of at most 16 neighbouring bits on each leg (the
--- whole way from building or echoing to the next echoing or reading, routes included), length kept, and the span not 16 equal bits all turned".
+-- A T-PDU's way through reflectors that route and echo. Demand 3: bits turn "within one span of at most 16 neighbouring
+-- bits on each leg (the whole way from building or echoing to the next echoing or reading, routes included), length
+-- kept, and the span not 16 equal bits all turned".
 use Prim.Native.Nat.{ℕ, suc, _+_, _≤_}
 use mathlib.Core.Path.{_≡_}
 use mathlib.Core.List.{List}
@@ -10,7 +11,7 @@ use Rattle.checksum.specs.Damage.{bits}
 use Rattle.reflector_answer.specs.declared.ReflectorPolicy.the-variants.{Echo, Route}
 use Rattle.reflected_legs.specs.Hop.{Forwards}
 
--- A span: so many neighbouring bits, from a place on. Its bits in a T-PDU.
+-- The bits of a T-PDU in a span: `width` neighbouring bits from bit `from` on.
 abbrev pub bitsIn : ℕ → ℕ → List ℕ → List Bool
 bitsIn from width tpdu = take width (drop from (bits tpdu))
 
@@ -21,12 +22,13 @@ pub record TurnedWithin (from width : ℕ) (sent arrived : List ℕ) : Type 0 wh
   pub kept-before : take from (bits arrived) ≡ take from (bits sent)
   pub kept-behind : drop (from + width) (bits arrived) ≡ drop (from + width) (bits sent)
 
--- The pieces of one leg with so many routes on it: from its start to the first route, from route to route, and from the last to its end. Bits of
--- the leg's span may turn on each piece, and turn again on the next.
+-- The pieces of one leg, by the number of routes on it: from its start to the first route, from route to route, and
+-- from the last to its end. Bits of the leg's span may turn on each piece, and turn again on the next.
 pub data Pieces (from width : ℕ) : ℕ → List ℕ → List ℕ → Type 0 where
   last : {sent arrived : List ℕ} → TurnedWithin from width sent arrived → Pieces from width 0 sent arrived
-  routed : {sent at-route onward arrived : List ℕ} {routes : ℕ} → TurnedWithin from width sent at-route → Forwards Route at-route onward
-      → Pieces from width routes onward arrived → Pieces from width (suc routes) sent arrived
+  routed : {sent at-route onward arrived : List ℕ} {routes : ℕ} → TurnedWithin from width sent at-route
+      → Forwards Route at-route onward → Pieces from width routes onward arrived
+      → Pieces from width (suc routes) sent arrived
 
 -- A leg: one span for all of its pieces.
 pub record Leg (routes : ℕ) (sent arrived : List ℕ) : Type 0 where
@@ -35,10 +37,11 @@ pub record Leg (routes : ℕ) (sent arrived : List ℕ) : Type 0 where
   pub pieces : Pieces from width routes sent arrived
   pub short : width ≤ 16
   -- over the whole leg
-  pub not-all : (b : Bool) → bitsIn from width sent ≡ replicate 16 b → bitsIn from width arrived ≡ replicate 16 (not b) → ⊥
+  pub not-all : (b : Bool) → bitsIn from width sent ≡ replicate 16 b
+      → bitsIn from width arrived ≡ replicate 16 (not b) → ⊥
 
--- A way with so many echoing reflectors on it: leg after leg.
+-- A way, by the number of echoing reflectors on it: leg after leg.
 pub data Way : List ℕ → ℕ → List ℕ → Type 0 where
   arrives : {sent arrived : List ℕ} {routes : ℕ} → Leg routes sent arrived → Way sent 0 arrived
-  echoes : {sent at-echo echo arrived : List ℕ} {routes n : ℕ} → Leg routes sent at-echo → Forwards Echo at-echo echo → Way echo n arrived
-      → Way sent (suc n) arrived
+  echoes : {sent at-echo echo arrived : List ℕ} {routes n : ℕ} → Leg routes sent at-echo → Forwards Echo at-echo echo
+      → Way echo n arrived → Way sent (suc n) arrived

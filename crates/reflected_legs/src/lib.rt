@@ -1,4 +1,5 @@
-// Demand 3's legs, "routes included": a T-PDU's way through reflectors, over the definitions that the contract of `handle_datagram` names.
+// Demand 3's legs, "routes included": a T-PDU's way through reflectors, over the definitions that the contract of
+// `handle_datagram` names.
 ghost use Rattle.reflected_legs.specs.Claims.{RoutesIncluded};
 
 // A route is no end of a leg, and an echo is one: ways through reflectors are those of demand 3.

@@ -75,7 +75,8 @@ pub record Fate : Type 0 where
   pub at-the-end : Bool
   pub refused : Bool
 
--- The packet comes back by this call, with these numbers in a field of it at the end of each leg: there is one echo less than there are numbers.
+-- The packet comes back by this call, with these numbers in a field of it at the end of each leg: there is one echo
+-- less than there are numbers.
 pub record Comes (flow : InnerIpFlow) (call : Call) (part : List ℕ → ℕ) (found : List ℕ) (fate : Fate) : Type 0 where
   pub accepted : Accepted flow examplePlan 1
   pub takes : Takes examplePlan 1 exampleObserver
