@@ -1,5 +1,6 @@
-//! `compare [--seed N] [--rounds N] [--skip N] [--long]`: runs every part of the comparison, or all
-//! but the first N, prints a line for each and a last one of totals.
+//! `compare [--seed N] [--rounds N] [--skip N] [--take N] [--long]`: runs every part of the
+//! comparison, or leaves out the first (skip) and of the rest all but the first (take), prints a line
+//! for each and a last one of totals.
 //!
 //! Exit status: 0 if both sides agree; 1 if they differ, or a part had nothing to compare;
 //! 2 if an argument is bad.
@@ -12,7 +13,7 @@ use driver::{
     answers, batch, cases, checksum, gtpu, measurement, observer, reflector, tally, traffic,
 };
 
-const USAGE: &str = "usage: compare [--seed N] [--rounds N] [--skip N] [--long]";
+const USAGE: &str = "usage: compare [--seed N] [--rounds N] [--skip N] [--take N] [--long]";
 
 /// What the command line may choose.
 struct Options {
@@ -22,6 +23,8 @@ struct Options {
     rounds: u64,
     /// How many parts to leave out, from the first on.
     skip: u64,
+    /// How many parts to run after those.
+    take: u64,
     /// Whether to damage all packets that there are for it, and not only the first.
     long: bool,
 }
@@ -32,6 +35,7 @@ impl Options {
             seed: 1071,
             rounds: 20_000,
             skip: 0,
+            take: u64::MAX,
             long: false,
         };
         while let Some(word) = words.next() {
@@ -39,6 +43,7 @@ impl Options {
                 "--seed" => &mut options.seed,
                 "--rounds" => &mut options.rounds,
                 "--skip" => &mut options.skip,
+                "--take" => &mut options.take,
                 "--long" => {
                     options.long = true;
                     continue;
@@ -59,6 +64,8 @@ impl Options {
 struct Total {
     /// How many parts are still to be left out.
     skip: u64,
+    /// How many are then run.
+    take: u64,
     parts: u64,
     cases: u64,
     differences: u64,
@@ -69,6 +76,9 @@ impl Total {
     fn add(&mut self, part: impl FnOnce() -> Part) {
         if self.skip > 0 {
             self.skip -= 1;
+            return;
+        }
+        if self.parts == self.take {
             return;
         }
         let part = part();
@@ -85,6 +95,7 @@ fn main() -> ExitCode {
         seed,
         rounds,
         skip,
+        take,
         long,
     } = match Options::parse(env::args().skip(1)) {
         Ok(options) => options,
@@ -96,6 +107,7 @@ fn main() -> ExitCode {
 
     let mut total = Total {
         skip,
+        take,
         ..Total::default()
     };
     total.add(cases::worked_cases);
@@ -124,6 +136,8 @@ fn main() -> ExitCode {
     total.add(|| batch::batches(seed, rounds));
     total.add(|| batch::malformed_batches(seed, rounds));
     total.add(|| reflector::runs(seed, rounds));
+    total.add(|| reflector::near_copies(seed, rounds));
+    total.add(|| reflector::full_tables(seed));
     total.add(|| reflector::error_sequences(seed));
     total.add(|| reflector::refused(seed, rounds));
     total.add(|| tally::tallies(seed, rounds));

@@ -45,7 +45,10 @@ pub fn building(seed: u64, rounds: u64) -> Part {
             values.src[4..].copy_from_slice(&random.bytes(12));
             values.dst[4..].copy_from_slice(&random.bytes(12));
         } else if random.below(2) == 0 {
-            values.version = [0, 3, 5, 255][random.below(4)];
+            values.version = match random.any_u8() {
+                4 => 6,
+                version => version,
+            };
         }
         let tpdu = build(probe);
         writes(&mut part, &tpdu, Ok(&tpdu), |out| ours::build(&values, out));

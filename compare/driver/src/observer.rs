@@ -373,10 +373,10 @@ pub(crate) fn any_call(random: &mut Random, rows: &[Row], base: u64, capacity: u
                 row.sequence.wrapping_add(1 + random.length(2) as u64)
             });
             Call::Sent {
-                sequence: if random.below(4) == 0 {
-                    any_sequence
-                } else {
-                    next
+                sequence: match random.below(16) {
+                    0 => near_sequence(random, next),
+                    1..4 => any_sequence,
+                    _ => next,
                 },
                 send_time: time_near(random, last.map_or(0, |row| row.send_time)),
             }
@@ -387,8 +387,11 @@ pub(crate) fn any_call(random: &mut Random, rows: &[Row], base: u64, capacity: u
         },
         7..13 => {
             let mut probe = any_probe(random);
-            if random.below(16) > 0 {
-                probe.sequence = row.map_or(any_sequence, |row| row.sequence);
+            let known = row.map_or(any_sequence, |row| row.sequence);
+            match random.below(16) {
+                0 => (),
+                1 => probe.sequence = near_sequence(random, known),
+                _ => probe.sequence = known,
             }
             let mut tpdu = build(probe);
             if random.below(4) == 0 {
@@ -418,6 +421,14 @@ pub(crate) fn any_call(random: &mut Random, rows: &[Row], base: u64, capacity: u
             }
         }
     }
+}
+
+/// A sequence that differs from another in one byte.
+fn near_sequence(random: &mut Random, sequence: u64) -> u64 {
+    let mut bytes = sequence.to_be_bytes();
+    let at = random.below(8);
+    bytes[at] = random.other_byte(bytes[at]);
+    u64::from_be_bytes(bytes)
 }
 
 /// A time soon after another, as a rule; or just before it, the same, or any.
@@ -496,7 +507,7 @@ fn spoil(random: &mut Random, sheet: &mut RunSheet, way: u64) {
             sheet.marks = vec![0; used + 1];
             sheet.counts.used = used + 1;
         }
-        0 => sheet.counts.used = [used + 1, usize::MAX][random.below(2)],
+        0 => sheet.counts.used = (random.any_u64() as usize).max(used + 1),
         1 => sheet.sequences[at + 1] = sheet.sequences[at],
         2 => sheet.sequences.swap(at, at + 1),
         _ => sheet.marks[at + random.below(2)] = 2 + random.below(254) as u8,

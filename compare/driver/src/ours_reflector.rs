@@ -51,6 +51,40 @@ pub struct Session {
     pub peer_addr: Address,
 }
 
+/// A session in bytes, the numbers big-endian: the local TEID, the peer's, and the peer's version,
+/// address and port. (Not as C has it, which leaves gaps.)
+pub const SESSION_BYTES: usize = 27;
+pub const LOCAL_TEID_AT: usize = 0;
+pub const PEER_TEID_AT: usize = 4;
+pub const VERSION_AT: usize = 8;
+pub const ADDRESS_AT: usize = 9;
+pub const PORT_AT: usize = 25;
+
+impl Session {
+    pub fn to_bytes(self) -> [u8; SESSION_BYTES] {
+        let mut bytes = [0; SESSION_BYTES];
+        bytes[..PEER_TEID_AT].copy_from_slice(&self.local_teid.to_be_bytes());
+        bytes[PEER_TEID_AT..VERSION_AT].copy_from_slice(&self.peer_teid.to_be_bytes());
+        bytes[VERSION_AT] = self.peer_addr.version;
+        bytes[ADDRESS_AT..PORT_AT].copy_from_slice(&self.peer_addr.address);
+        bytes[PORT_AT..].copy_from_slice(&self.peer_addr.port.to_be_bytes());
+        bytes
+    }
+
+    pub fn from_bytes(bytes: [u8; SESSION_BYTES]) -> Self {
+        let teid = |at: usize| u32::from_be_bytes(std::array::from_fn(|k| bytes[at + k]));
+        Self {
+            local_teid: teid(LOCAL_TEID_AT),
+            peer_teid: teid(PEER_TEID_AT),
+            peer_addr: Address {
+                version: bytes[VERSION_AT],
+                address: std::array::from_fn(|k| bytes[ADDRESS_AT + k]),
+                port: u16::from_be_bytes([bytes[PORT_AT], bytes[PORT_AT + 1]]),
+            },
+        }
+    }
+}
+
 /// C's `TestkitRegistered`.
 #[repr(C)]
 #[derive(Debug, Clone, Copy, Default, PartialEq, Eq)]

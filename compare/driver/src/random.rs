@@ -17,6 +17,41 @@ impl Random {
         mixed ^ (mixed >> 31)
     }
 
+    /// A number of so many bits, over the whole range; every fourth is 0, 1 or one of the two at the
+    /// top, or has one byte alone that is not 0.
+    fn of_bits(&mut self, bits: u32) -> u64 {
+        let most = u64::MAX >> (u64::BITS - bits);
+        match self.below(8) {
+            0 => [0, 1, most - 1, most][self.below(4)],
+            1 => (1 + self.below(255) as u64) << (8 * self.below(bits as usize / 8)),
+            _ => self.number() & most,
+        }
+    }
+
+    pub fn any_u8(&mut self) -> u8 {
+        self.of_bits(8) as u8
+    }
+
+    pub fn any_u16(&mut self) -> u16 {
+        self.of_bits(16) as u16
+    }
+
+    pub fn any_u32(&mut self) -> u32 {
+        self.of_bits(32) as u32
+    }
+
+    pub fn any_u64(&mut self) -> u64 {
+        self.of_bits(64)
+    }
+
+    /// Another byte than this: often in one bit alone.
+    pub fn other_byte(&mut self, byte: u8) -> u8 {
+        byte ^ match self.below(2) {
+            0 => 1 << self.below(8),
+            _ => 1 + self.below(255) as u8,
+        }
+    }
+
     /// A number below `bound`. (Not quite evenly spread, which a comparison does not need.)
     pub fn below(&mut self, bound: usize) -> usize {
         (self.number() % bound as u64) as usize

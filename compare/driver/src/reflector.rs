@@ -1,43 +1,67 @@
 //! Our reflector against the Rust's: whole runs of registering, removal and messages on both
 //! sides, the table and the state compared after each call; and the refusals that the Rust has not.
 
-use std::net::{IpAddr, SocketAddr};
-
-use testkit_open::reflector::{
-    OpenReflector, ReflectorPolicy, ReflectorSendReason, ReflectorSession, ReflectorStats,
-    RouteTarget,
-};
+use testkit_open::reflector::{OpenReflector, ReflectorPolicy};
 
 use crate::numbers::SESSION_MAXIMUM;
 use crate::ours_reflector::{
-    Address, Config, Handled, Message as Header, Reflector, Registered, Removed, Session, State,
+    Address, Reflector, Registered, Removed, Session, State, LOCAL_TEID_AT, PEER_TEID_AT, PORT_AT,
+    SESSION_BYTES, VERSION_AT,
 };
 use crate::packet::{part_at, set_word, sum_again};
 use crate::part::Part;
 use crate::random::Random;
+use crate::reflector_due::{
+    handled, not_sent, our_state, plain, rust_reflector, rust_session, socket_addr,
+};
+use crate::reflector_inputs::{
+    any_address, any_config, any_header, any_message, any_policy, any_registered, any_session,
+    any_source, any_state, any_teid, near_copy, ECHO_REQUEST, G_PDU, PLACES,
+};
 use crate::rust_side::gtpu::Message;
 use crate::rust_side::measurement::build;
-use crate::rust_side::reflector::{Action, Reflector as Rust};
-use crate::rust_side::Outcome;
+use crate::rust_side::reflector::Reflector as Rust;
 use crate::seen::Seen;
-use crate::wild::{any_packet, any_probe, any_probe_of};
+use crate::wild::{any_probe, any_probe_of};
 
 /// Numbers that the Rust does not have.
 const OUTPUT_SHORT: u8 = 15;
 const TABLE_MALFORMED: u8 = 31;
 
-const G_PDU: u8 = 255;
-const ECHO_REQUEST: u8 = 1;
-
-/// The least output, and the most of a payload.
+/// The least output.
 pub const LEAST_OUTPUT: usize = 72;
-const MOST_PAYLOAD: usize = 65_535;
 
 /// The most sessions of a table.
 pub const MOST_SESSIONS: usize = 4_096;
 
 /// What an output has in it before a call.
 const DIRT: u8 = 0xa5;
+
+/// The policies: echo, sink and count, route.
+const POLICIES: [u8; 3] = [0, 1, 2];
+
+/// A part under way, and the numbers that were due in it.
+struct Comparison {
+    part: Part,
+    seen: Seen,
+    random: Random,
+}
+
+impl Comparison {
+    fn new(name: &'static str, unit: &'static str, seed: u64) -> Self {
+        Self {
+            part: Part::new(name, unit),
+            seen: Seen::default(),
+            random: Random::new(seed),
+        }
+    }
+
+    /// Each of these numbers must have been due, and no other.
+    fn done(mut self, numbers: impl IntoIterator<Item = u8>) -> Part {
+        self.seen.require(&mut self.part, numbers);
+        self.part
+    }
+}
 
 /// Both sides of a run.
 struct Pair {
@@ -48,56 +72,138 @@ struct Pair {
 /// Runs from fresh tables and from any state, under each policy. Each number of a run must have
 /// been due.
 pub fn runs(seed: u64, rounds: u64) -> Part {
-    let mut part = Part::new("reflector, runs", "calls");
-    let mut seen = Seen::default();
-    let mut random = Random::new(seed);
-    each_damage(&mut part, &mut seen, &mut random);
-    for round in 0..rounds / 16 {
+    let mut run = Comparison::new("reflector, runs", "calls", seed);
+    each_damage(&mut run);
+    for round in 0..rounds / 8 {
         let most = match round % 256 {
             0 => MOST_SESSIONS,
-            _ => 1 + random.below(6),
+            1..16 => 1 + run.random.below(64),
+            _ => 1 + run.random.below(6),
         };
-        let mut pair = Pair::new(&mut random, most);
+        let policy = any_policy(&mut run.random);
+        let mut pair = Pair::new(&mut run.random, most, policy);
         if round % 2 == 1 {
-            pair.set_state(any_state(&mut random));
+            pair.set_state(any_state(&mut run.random));
         }
         for _ in 0..48 {
-            match random.below(8) {
-                0 | 1 => pair.registers(&mut part, &mut seen, &mut random),
-                2 => pair.removes(&mut part, &mut seen, &mut random),
-                _ => {
-                    let mut message = any_message(&mut random);
-                    if pair.ours.used > 0 && random.below(2) == 0 {
-                        let known = pair.ours.sessions[random.below(pair.ours.used)];
-                        message.teid = known.local_teid;
-                    }
-                    pair.handles(&mut part, &mut seen, &mut random, &message);
-                }
-            }
+            pair.any_call(&mut run);
         }
-        if round % 64 < 3 {
-            each_type(&mut part, &mut seen, &mut random, &mut pair);
+        if round % 128 < 3 {
+            each_type(&mut run, &mut pair);
         }
     }
-    seen.require(&mut part, (0..=14).chain(32..=37));
-    part
+    run.done((0..=14).chain(32..=37))
+}
+
+/// Sessions, addresses and TEIDs that differ from a registered one in one place, each place in turn:
+/// registered, removed, and as what a message has and comes from.
+pub fn near_copies(seed: u64, rounds: u64) -> Part {
+    let mut run = Comparison::new("reflector, near copies", "calls", seed);
+    for round in 0..3.max(rounds / 64) {
+        for version in [4, 6] {
+            let mut pair = Pair::new(&mut run.random, 2, POLICIES[round as usize % 3]);
+            let known = pair.registers_one(&mut run, version);
+            each_place(&mut run, &mut pair, known);
+            each_zero(&mut run, &mut pair, known);
+        }
+    }
+    run.done([0, 32, 33, 35, 36])
+}
+
+/// A near copy in each place, before it is registered, beside the session, and in its stead.
+fn each_place(run: &mut Comparison, pair: &mut Pair, known: Session) {
+    for place in 0..PLACES {
+        let near = near_copy(&mut run.random, known, place);
+        let source = near.peer_addr;
+        pair.handles_gpdu(run, source, near.local_teid);
+        if near.local_teid != known.local_teid {
+            pair.removes(run, near.local_teid);
+        }
+        pair.registers(run, near);
+        pair.handles_gpdu(run, source, near.local_teid);
+        pair.handles_gpdu(run, source, known.local_teid);
+
+        pair.removes(run, near.local_teid);
+        pair.registers(run, near);
+        pair.handles_gpdu(run, known.peer_addr, near.local_teid);
+
+        pair.removes(run, near.local_teid);
+        pair.removes(run, known.local_teid);
+        pair.registers(run, known);
+    }
+}
+
+/// Where 0 is judged, 0 and each number of which one byte alone is not 0: TEIDs and the port of a
+/// session, and the TEID of an Echo Request, with and without a sequence.
+fn each_zero(run: &mut Comparison, pair: &mut Pair, known: Session) {
+    let fields = [
+        LOCAL_TEID_AT..PEER_TEID_AT,
+        PEER_TEID_AT..VERSION_AT,
+        PORT_AT..SESSION_BYTES,
+    ];
+    for field in fields {
+        let mut zero = known.to_bytes();
+        zero[field.clone()].fill(0);
+        pair.registers(run, Session::from_bytes(zero));
+        for place in field {
+            let near = near_copy(&mut run.random, Session::from_bytes(zero), place);
+            pair.registers(run, near);
+            if near.local_teid != known.local_teid {
+                pair.removes(run, near.local_teid);
+            }
+        }
+    }
+    let zero = Session::default();
+    let mut teids = vec![0];
+    teids.extend((0..4).map(|byte| near_copy(&mut run.random, zero, byte).local_teid));
+    for teid in teids {
+        for sequence in [None, Some(run.random.any_u16())] {
+            let message = Message {
+                message_type: ECHO_REQUEST,
+                teid,
+                sequence,
+                payload: Vec::new(),
+            };
+            pair.handles(run, known.peer_addr, &message);
+        }
+    }
+}
+
+/// Tables of 4,096 sessions, under each policy: filled, asked for when they are full, a row removed
+/// and registered again at the first, a middle and the last place.
+pub fn full_tables(seed: u64) -> Part {
+    let mut run = Comparison::new("reflector, full tables", "calls", seed);
+    for policy in POLICIES {
+        let mut pair = Pair::new(&mut run.random, MOST_SESSIONS, policy);
+        while pair.ours.used < MOST_SESSIONS {
+            let session = pair.new_session(&mut run);
+            pair.registers(&mut run, session);
+        }
+        let middle = 1 + run.random.below(MOST_SESSIONS - 2);
+        for row in [0, middle, MOST_SESSIONS - 1] {
+            pair.is_full(&mut run, row);
+            pair.loses(&mut run, row);
+        }
+    }
+    run.done([0, 32, 33, 34])
 }
 
 /// Every error sequence from fresh, by messages of an unknown TEID, until after 65,535 comes 1.
 pub fn error_sequences(seed: u64) -> Part {
-    let mut part = Part::new("reflector, error sequence", "messages");
-    let mut seen = Seen::default();
-    let mut random = Random::new(seed);
-    let mut pair = Pair::new(&mut random, 1);
-    let message = Message {
-        message_type: G_PDU,
-        teid: 9,
-        sequence: None,
-        payload: Vec::new(),
-    };
+    let mut run = Comparison::new("reflector, error sequence", "messages", seed);
+    let policy = any_policy(&mut run.random);
+    let mut pair = Pair::new(&mut run.random, 1, policy);
     for _ in 0..=u16::MAX {
-        pair.handles(&mut part, &mut seen, &mut random, &message);
+        let message = Message {
+            message_type: G_PDU,
+            teid: run.random.any_u32(),
+            sequence: None,
+            payload: Vec::new(),
+        };
+        let source = any_address(&mut run.random);
+        pair.handles(&mut run, source, &message);
     }
+    let mut part = run.part;
     part.case(&[], pair.ours.state.next_error_sequence, 2);
     part
 }
@@ -105,33 +211,15 @@ pub fn error_sequences(seed: u64) -> Part {
 /// The refusals by 30, 31 and 15, which change nothing. The Rust refuses by 30 too, when a
 /// reflector is made.
 pub fn refused(seed: u64, rounds: u64) -> Part {
-    let mut part = Part::new("reflector, refused tables and outputs", "calls");
-    let mut seen = Seen::default();
-    let mut random = Random::new(seed);
+    let mut run = Comparison::new("reflector, refused tables and outputs", "calls", seed);
     for round in 0..rounds / 16 {
-        let rows = 1 + random.below(4);
-        let mut ours = Pair::new(&mut random, rows).ours;
-        ours.sessions.truncate(rows);
-        ours.state = ours_state(&any_state(&mut random));
-        let (number, room) = match round % 5 {
-            0 => {
-                ours.config.max_sessions = [0, MOST_SESSIONS + 1, usize::MAX][random.below(3)];
-                let due = Rust::new_multi(ours.config.max_sessions, 0, ReflectorPolicy::Echo);
-                part.case(&[], due.err(), Some(SESSION_MAXIMUM));
-                (SESSION_MAXIMUM, LEAST_OUTPUT)
-            }
-            1 => {
-                ours.used = rows + 1 + random.length(9);
-                (TABLE_MALFORMED, 0)
-            }
-            2 => {
-                ours.config.max_sessions = rows + 1 + random.length(9);
-                (TABLE_MALFORMED, LEAST_OUTPUT)
-            }
-            3 => (OUTPUT_SHORT, LEAST_OUTPUT - 1),
-            _ => (OUTPUT_SHORT, random.length(LEAST_OUTPUT - 1)),
-        };
-        seen.add(number);
+        let (mut ours, number) = any_refused(&mut run.random, round);
+        let random = &mut run.random;
+        if number == SESSION_MAXIMUM {
+            let due = Rust::new_multi(ours.config.max_sessions, 0, ReflectorPolicy::Echo);
+            run.part.case(&[], due.err(), Some(SESSION_MAXIMUM));
+        }
+        run.seen.add(number);
         let before = ours.clone();
         if number != OUTPUT_SHORT {
             let used = before.used;
@@ -140,43 +228,74 @@ pub fn refused(seed: u64, rounds: u64) -> Part {
                 used,
                 ..Registered::default()
             };
-            let session = any_session(&mut random);
-            part.case(&[], ours.register_session(session), due);
+            let session = any_session(random);
+            let answer = (ours.register_session(session), &ours);
+            run.part.case(&[], answer, (due, &before));
             let due = Removed {
                 number,
                 used,
                 ..Removed::default()
             };
-            part.case(&[], ours.remove_session(session.local_teid), due);
+            let answer = (ours.remove_session(session.local_teid), &ours);
+            run.part.case(&[], answer, (due, &before));
         }
-        let message = any_message(&mut random);
+        let room = match number {
+            OUTPUT_SHORT => LEAST_OUTPUT - 1 - random.length(LEAST_OUTPUT - 1),
+            _ => random.below(LEAST_OUTPUT + 9),
+        };
+        let message = any_message(random, &[]);
+        let header = any_header(random, &message);
         let mut out = vec![DIRT; room];
-        let source = any_address(&mut random);
-        let handled = ours.handle_datagram(source, header(&message), &message.payload, &mut out);
+        let answer = ours.handle_datagram(any_address(random), header, &message.payload, &mut out);
         let due = not_sent(number, 0, 0, before.state);
-        part.case(&message.payload, handled, due);
-        part.case(&[], (&ours, &out), (&before, &vec![DIRT; room]));
+        let answer = (answer, &ours, out);
+        run.part
+            .case(&message.payload, answer, (due, &before, vec![DIRT; room]));
     }
-    seen.require(&mut part, [OUTPUT_SHORT, SESSION_MAXIMUM, TABLE_MALFORMED]);
-    part
+    run.done([OUTPUT_SHORT, SESSION_MAXIMUM, TABLE_MALFORMED])
+}
+
+/// A reflector that is refused, or refuses by its output, and the number.
+fn any_refused(random: &mut Random, round: u64) -> (Reflector, u8) {
+    let rows = 1 + random.length(40);
+    let most = 1 + random.below(rows);
+    let policy = any_policy(random);
+    let mut ours = Pair::new(random, most, policy).ours;
+    ours.sessions = (0..rows).map(|_| any_session(random)).collect();
+    ours.used = random.below(most + 1);
+    ours.state = our_state(&any_state(random));
+    let above = |random: &mut Random, bound: usize| match random.below(2) {
+        0 => bound + 1,
+        _ => (random.any_u64() as usize).max(bound + 1),
+    };
+    let number = match round % 5 {
+        0 => {
+            let too_high = above(random, MOST_SESSIONS);
+            ours.config.max_sessions = [0, too_high][random.below(2)];
+            ours.used = random.any_u64() as usize;
+            SESSION_MAXIMUM
+        }
+        1 => {
+            ours.used = above(random, most);
+            TABLE_MALFORMED
+        }
+        2 => {
+            ours.config.max_sessions = rows + 1 + random.below(MOST_SESSIONS - rows);
+            TABLE_MALFORMED
+        }
+        _ => OUTPUT_SHORT,
+    };
+    (ours, number)
 }
 
 impl Pair {
-    /// Fresh sides of so many sessions, with any policy.
-    fn new(random: &mut Random, max_sessions: usize) -> Self {
-        let policy = any_policy(random);
-        Self::with_policy(random, max_sessions, policy)
-    }
-
-    /// Our table has rows to spare, all dirty.
-    fn with_policy(random: &mut Random, max_sessions: usize, policy: u8) -> Self {
+    /// Fresh sides of so many sessions. Our table has rows to spare, all dirty.
+    fn new(random: &mut Random, max_sessions: usize, policy: u8) -> Self {
         let config = any_config(random, max_sessions, policy);
-        let rust = rust_reflector(&config);
-        let spare = random.below(3);
+        let rust = rust_reflector(&config).expect("a maximum of 1 to 4,096");
+        let rows = max_sessions + random.below(3);
         let ours = Reflector {
-            sessions: (0..max_sessions + spare)
-                .map(|_| any_session(random))
-                .collect(),
+            sessions: (0..rows).map(|_| any_session(random)).collect(),
             used: 0,
             config,
             state: State {
@@ -184,33 +303,70 @@ impl Pair {
                 ..State::default()
             },
         };
-        Self {
-            ours,
-            rust: rust.expect("a maximum of 1 to 4,096"),
-        }
+        Self { ours, rust }
     }
 
     fn set_state(&mut self, state: OpenReflector) {
-        self.ours.state = ours_state(&state);
+        self.ours.state = our_state(&state);
         self.rust.set_state(state);
     }
 
-    /// Our used rows and our state must be the Rust's, and all our rows these.
-    fn compare(&self, part: &mut Part, sessions: &[Session]) {
-        let due = self.rust.state();
-        let used = &self.ours.sessions[..self.ours.used];
-        let rows: Vec<ReflectorSession> = used.iter().copied().map(rust_session).collect();
-        part.case(
-            &[],
-            (rows, self.ours.state),
-            (due.sessions.clone(), ours_state(&due)),
-        );
-        part.case(&[], &self.ours.sessions[..], sessions);
+    fn used(&self) -> &[Session] {
+        &self.ours.sessions[..self.ours.used]
     }
 
-    fn registers(&mut self, part: &mut Part, seen: &mut Seen, random: &mut Random) {
-        let session = any_registered(random, &self.ours.sessions[..self.ours.used]);
-        let mut sessions = self.ours.sessions.clone();
+    /// Where our state or our used rows are not the Rust's, or some row, used or not, is not the one
+    /// of these.
+    fn difference(&self, rows: &[Session]) -> Option<String> {
+        let due = self.rust.state();
+        let (ours, state) = (&self.ours, our_state(&due));
+        if ours.state != state {
+            return Some(format!("{:?} instead of {state:?}", ours.state));
+        }
+        if ours.used != due.sessions.len() {
+            let used = due.sessions.len();
+            return Some(format!("{} used instead of {used}", ours.used));
+        }
+        let both = self.used().iter().zip(&due.sessions);
+        for (at, (ours, due)) in both.enumerate() {
+            if rust_session(*ours) != *due {
+                return Some(format!("row {at}: {ours:?} instead of {due:?}"));
+            }
+        }
+        let at = (0..rows.len()).find(|&at| ours.sessions[at] != rows[at])?;
+        let (ours, due) = (ours.sessions[at], rows[at]);
+        Some(format!("row {at}: {ours:?} instead of {due:?}"))
+    }
+
+    /// Ours goes on from what was due, so that both sides stay together after a difference.
+    fn go_on(&mut self, rows: Vec<Session>, used: usize) {
+        self.ours.sessions = rows;
+        self.ours.used = used;
+        self.ours.state = our_state(&self.rust.state());
+    }
+
+    /// Registering, removal or a message, with any session, TEID and source.
+    fn any_call(&mut self, run: &mut Comparison) {
+        let random = &mut run.random;
+        match random.below(8) {
+            0..3 => {
+                let (session, _) = any_registered(random, self.used());
+                self.registers(run, session);
+            }
+            3 => {
+                let (local_teid, _) = any_teid(random, self.used());
+                self.removes(run, local_teid);
+            }
+            _ => {
+                let source = any_source(random, self.used());
+                let message = any_message(random, self.used());
+                self.handles(run, source, &message);
+            }
+        }
+    }
+
+    fn registers(&mut self, run: &mut Comparison, session: Session) {
+        let mut rows = self.ours.sessions.clone();
         let used = self.ours.used;
         let due = match self.rust.register_session(rust_session(session)) {
             Ok(added) => Registered {
@@ -225,23 +381,31 @@ impl Pair {
             },
         };
         if due.added {
-            sessions[used] = session;
+            rows[used] = session;
         }
-        seen.add(due.number);
-        part.case(&[], self.ours.register_session(session), due);
-        self.compare(part, &sessions);
+        run.seen.add(due.number);
+        let answer = self.ours.register_session(session);
+        let answer = (answer, self.difference(&rows));
+        run.part.case(&session.to_bytes(), answer, (due, None));
+        self.go_on(rows, due.used);
     }
 
-    fn removes(&mut self, part: &mut Part, seen: &mut Seen, random: &mut Random) {
-        let local_teid = any_teid(random);
-        let mut sessions = self.ours.sessions.clone();
+    /// Registers a session of this version that is in order, in an empty table.
+    fn registers_one(&mut self, run: &mut Comparison, version: u8) -> Session {
+        while self.ours.used == 0 {
+            let mut session = any_session(&mut run.random);
+            session.peer_addr.version = version;
+            self.registers(run, session);
+        }
+        self.ours.sessions[0]
+    }
+
+    fn removes(&mut self, run: &mut Comparison, local_teid: u32) {
+        let mut rows = self.ours.sessions.clone();
         let used = self.ours.used;
-        let place = sessions[..used]
-            .iter()
-            .position(|session| session.local_teid == local_teid);
+        let place = self.place_of(local_teid);
         let removed = self.rust.remove_session(local_teid);
-        let session = place.map(|place| sessions[place]);
-        part.case(&[], session.map(rust_session), removed);
+        let session = place.map(|place| rows[place]);
         let due = Removed {
             number: 0,
             removed: removed.is_some(),
@@ -249,50 +413,117 @@ impl Pair {
             session: session.unwrap_or_default(),
         };
         if let Some(place) = place {
-            sessions[place] = sessions[used - 1];
+            rows[place] = rows[used - 1];
         }
-        seen.add(0);
-        part.case(&[], self.ours.remove_session(local_teid), due);
-        self.compare(part, &sessions);
+        run.seen.add(0);
+        let answer = self.ours.remove_session(local_teid);
+        let answer = (answer, session.map(rust_session), self.difference(&rows));
+        let input = local_teid.to_be_bytes();
+        run.part.case(&input, answer, (due, removed, None));
+        self.go_on(rows, due.used);
     }
 
-    fn handles(
-        &mut self,
-        part: &mut Part,
-        seen: &mut Seen,
-        random: &mut Random,
-        message: &Message,
-    ) {
-        let sessions = self.ours.sessions.clone();
-        let source = any_address(random);
+    fn place_of(&self, local_teid: u32) -> Option<usize> {
+        let mut used = self.used().iter();
+        used.position(|session| session.local_teid == local_teid)
+    }
+
+    fn handles(&mut self, run: &mut Comparison, source: Address, message: &Message) {
+        let rows = self.ours.sessions.clone();
         let answer = self.rust.handle_datagram(socket_addr(source), message);
-        let state = ours_state(&self.rust.state());
-        let room = LEAST_OUTPUT + random.below(9);
+        let state = our_state(&self.rust.state());
+        let room = LEAST_OUTPUT + run.random.below(9);
         let mut expected = vec![DIRT; room];
         let due = handled(&answer, message, state, &mut expected);
-        seen.add(due.number);
+        run.seen.add(due.number);
 
         let mut out = vec![DIRT; room];
+        let header = any_header(&mut run.random, message);
         let ours = &mut self.ours;
-        let mut answer = ours.handle_datagram(source, header(message), &message.payload, &mut out);
+        let mut answer = ours.handle_datagram(source, header, &message.payload, &mut out);
         answer.destination = plain(answer.destination);
-        part.case(&message.payload, (answer, out), (due, expected));
-        self.compare(part, &sessions);
+        let answer = (answer, out, self.difference(&rows));
+        run.part
+            .case(&message.payload, answer, (due, expected, None));
+        self.go_on(rows, self.ours.used);
+    }
+
+    /// A G-PDU with a built packet.
+    fn handles_gpdu(&mut self, run: &mut Comparison, source: Address, teid: u32) {
+        let message = Message {
+            message_type: G_PDU,
+            teid,
+            sequence: None,
+            payload: build(any_probe(&mut run.random)),
+        };
+        self.handles(run, source, &message);
+    }
+
+    /// Any session, or one whose local TEID differs in one byte from that of the last one.
+    fn new_session(&self, run: &mut Comparison) -> Session {
+        let mut session = any_session(&mut run.random);
+        if let (0, Some(&last)) = (run.random.below(4), self.used().last()) {
+            let place = LOCAL_TEID_AT + run.random.below(4);
+            session.local_teid = near_copy(&mut run.random, last, place).local_teid;
+        }
+        session
+    }
+
+    /// Registers near copies of this row of a full table, and new sessions, which find no room; and
+    /// sends a message to it, to the TEIDs near to it and to any other.
+    fn is_full(&mut self, run: &mut Comparison, row: usize) {
+        let known = self.ours.sessions[row];
+        for place in 0..PLACES {
+            let near = near_copy(&mut run.random, known, place);
+            self.registers(run, near);
+            let session = self.new_session(run);
+            self.registers(run, session);
+            self.handles_gpdu(run, near.peer_addr, near.local_teid);
+        }
+        let unknown = run.random.any_u32();
+        let source = any_address(&mut run.random);
+        self.handles_gpdu(run, source, unknown);
+        self.removes(run, unknown);
+    }
+
+    /// Removes this row, sends messages to it and to the one that was moved into its place, and
+    /// registers sessions until the table is full again, the removed one first.
+    fn loses(&mut self, run: &mut Comparison, row: usize) {
+        let (lost, moved) = (self.ours.sessions[row], *self.used().last().expect("a row"));
+        self.removes(run, lost.local_teid);
+        self.removes(run, lost.local_teid);
+        let source = any_source(&mut run.random, self.used());
+        for session in [lost, moved] {
+            self.handles_gpdu(run, source, session.local_teid);
+        }
+        self.registers(run, lost);
+        while self.ours.used < MOST_SESSIONS {
+            let session = self.new_session(run);
+            self.registers(run, session);
+        }
+        for session in [lost, moved] {
+            self.handles_gpdu(run, source, session.local_teid);
+        }
     }
 }
 
-/// Messages of every type, with each TEID of a few and with and without a sequence.
-fn each_type(part: &mut Part, seen: &mut Seen, random: &mut Random, pair: &mut Pair) {
+/// Messages of every type, with TEID 0, that of a used row, one near to it and any other, each with
+/// and without a sequence.
+fn each_type(run: &mut Comparison, pair: &mut Pair) {
+    let known = pair.used().last().copied().unwrap_or_default();
     for message_type in 0..=255 {
-        for teid in 0..4 {
-            for sequence in [None, Some(random.number() as u16)] {
+        let byte = run.random.below(4);
+        let near = near_copy(&mut run.random, known, byte);
+        for teid in [0, known.local_teid, near.local_teid, run.random.any_u32()] {
+            for sequence in [None, Some(run.random.any_u16())] {
                 let message = Message {
                     message_type,
                     teid,
                     sequence,
-                    payload: build(any_probe(random)),
+                    payload: build(any_probe(&mut run.random)),
                 };
-                pair.handles(part, seen, random, &message);
+                let source = any_source(&mut run.random, pair.used());
+                pair.handles(run, source, &message);
             }
         }
     }
@@ -300,13 +531,11 @@ fn each_type(part: &mut Part, seen: &mut Seen, random: &mut Random, pair: &mut P
 
 /// Packets for the one session of an echo, of both versions: cut at every length, with every bit
 /// turned, the checksums made right and not, and with a short UDP length and a UDP checksum of 0.
-fn each_damage(part: &mut Part, seen: &mut Seen, random: &mut Random) {
-    let mut pair = Pair::with_policy(random, 1, 0);
-    while pair.ours.used == 0 {
-        pair.registers(part, seen, random);
-    }
+fn each_damage(run: &mut Comparison) {
+    let mut pair = Pair::new(&mut run.random, 1, POLICIES[0]);
+    let known = pair.registers_one(run, 4);
     for version in [4, 6] {
-        let packet = build(any_probe_of(random, version));
+        let packet = build(any_probe_of(&mut run.random, version));
         let mut payloads: Vec<Vec<u8>> = (0..=packet.len()).map(|n| packet[..n].to_vec()).collect();
         for bit in 0..8 * packet.len() {
             let mut damaged = packet.clone();
@@ -324,268 +553,12 @@ fn each_damage(part: &mut Part, seen: &mut Seen, random: &mut Random) {
         for payload in payloads {
             let message = Message {
                 message_type: G_PDU,
-                teid: pair.ours.sessions[0].local_teid,
+                teid: known.local_teid,
                 sequence: None,
                 payload,
             };
-            pair.handles(part, seen, random, &message);
+            let source = any_source(&mut run.random, pair.used());
+            pair.handles(run, source, &message);
         }
     }
-}
-
-/// What is due where the Rust answers this, and the output that it leaves.
-pub fn handled(
-    answer: &Outcome<Action>,
-    received: &Message,
-    state: State,
-    expected: &mut [u8],
-) -> Handled {
-    let (destination, message, reason) = match answer {
-        Err(number) => return not_sent(*number, 0, 0, state),
-        Ok(Action::Noop { reason }) => return not_sent(0, 1, noop_number(reason), state),
-        Ok(Action::Send {
-            destination,
-            message,
-            reason,
-        }) => (destination, message, reason),
-    };
-    let (reason, bytes) = match reason {
-        ReflectorSendReason::ReflectedGpdu => (1, message.payload.len()),
-        ReflectorSendReason::RoutedGpdu => {
-            assert_eq!(message.payload, received.payload, "a route changes nothing");
-            (2, 0)
-        }
-        ReflectorSendReason::EchoResponse => (3, message.payload.len()),
-        ReflectorSendReason::ErrorIndication => (4, message.payload.len()),
-    };
-    expected[..bytes].copy_from_slice(&message.payload[..bytes]);
-    Handled {
-        number: 0,
-        kind: 2,
-        reason,
-        bytes,
-        destination: our_address(*destination),
-        teid: message.teid,
-        message_type: message.message_type,
-        has_sequence: message.sequence.is_some(),
-        sequence: message.sequence.unwrap_or(0),
-        state,
-    }
-}
-
-/// An answer with nothing to send: version 4 and zeros for the message.
-pub fn not_sent(number: u8, kind: u8, reason: u8, state: State) -> Handled {
-    Handled {
-        number,
-        kind,
-        reason,
-        destination: Address {
-            version: 4,
-            ..Address::default()
-        },
-        state,
-        ..Handled::default()
-    }
-}
-
-fn noop_number(reason: &str) -> u8 {
-    match reason {
-        "G-PDU sunk" => 1,
-        "echo response observed" => 2,
-        "error indication observed" => 3,
-        "end marker ignored" => 4,
-        "supported extension headers notification ignored" => 5,
-        _ => panic!("the Rust has another reason: {reason}"),
-    }
-}
-
-/// Echo twice as often as the others; any number but 0 and 1 is a route.
-pub fn any_policy(random: &mut Random) -> u8 {
-    [0, 0, 1, 2, random.number() as u8][random.below(5)]
-}
-
-pub fn any_config(random: &mut Random, max_sessions: usize, policy: u8) -> Config {
-    Config {
-        max_sessions,
-        recovery_counter: random.number() as u8,
-        policy,
-        target: any_address(random),
-        target_teid: random.number() as u32,
-    }
-}
-
-/// The Rust's reflector with this configuration, fresh.
-pub fn rust_reflector(config: &Config) -> Outcome<Rust> {
-    let policy = match config.policy {
-        0 => ReflectorPolicy::Echo,
-        1 => ReflectorPolicy::SinkAndCount,
-        _ => ReflectorPolicy::Route(RouteTarget {
-            destination: socket_addr(config.target),
-            teid: config.target_teid,
-        }),
-    };
-    Rust::new_multi(config.max_sessions, config.recovery_counter, policy)
-}
-
-/// Few TEIDs, so that they meet; sometimes any.
-pub fn any_teid(random: &mut Random) -> u32 {
-    match random.below(16) {
-        0 => random.number() as u32,
-        _ => random.below(7) as u32,
-    }
-}
-
-/// An address of few hosts and ports, so that they meet. Of an IPv4 address the rest is dirty, and
-/// an IPv6 address may have any version but 4.
-pub fn any_address(random: &mut Random) -> Address {
-    let mut address = [0; 16];
-    address[3] = random.below(3) as u8;
-    let version = match random.below(8) {
-        0..4 => {
-            address[4..].copy_from_slice(&random.bytes(12));
-            4
-        }
-        4..7 => 6,
-        _ => match random.number() as u8 {
-            4 => 6,
-            version => version,
-        },
-    };
-    let port = random.below(4) as u16;
-    Address {
-        version,
-        address,
-        port,
-    }
-}
-
-pub fn any_session(random: &mut Random) -> Session {
-    Session {
-        local_teid: any_teid(random),
-        peer_teid: any_teid(random),
-        peer_addr: any_address(random),
-    }
-}
-
-/// A session to register: any, or one of these, with other bytes where they do not count.
-pub fn any_registered(random: &mut Random, used: &[Session]) -> Session {
-    match random.below(4) {
-        0 if !used.is_empty() => {
-            let mut same = used[random.below(used.len())];
-            if same.peer_addr.version == 4 {
-                same.peer_addr.address[4..].copy_from_slice(&random.bytes(12));
-            }
-            same
-        }
-        _ => any_session(random),
-    }
-}
-
-/// A message of a type that is answered or of any, its payload a packet, a damaged one, or none.
-pub fn any_message(random: &mut Random) -> Message {
-    let message_type = match random.below(8) {
-        0..5 => G_PDU,
-        5 | 6 => ECHO_REQUEST,
-        _ => random.number() as u8,
-    };
-    let mut payload = match random.below(8) {
-        0 => Vec::new(),
-        1 | 2 => any_packet(random),
-        _ => build(any_probe(random)),
-    };
-    payload.truncate(MOST_PAYLOAD);
-    if random.below(4) == 0 && !payload.is_empty() {
-        let place = random.below(payload.len());
-        payload[place] ^= 1 << random.below(8);
-    }
-    Message {
-        message_type,
-        teid: any_teid(random),
-        sequence: [None, Some(random.number() as u16)][random.below(2)],
-        payload,
-    }
-}
-
-/// No sessions, counts that are or are near their top, and any error sequence.
-pub fn any_state(random: &mut Random) -> OpenReflector {
-    let mut count = || match random.below(3) {
-        0 => random.number(),
-        _ => u64::MAX - random.below(3) as u64,
-    };
-    OpenReflector {
-        sessions: Vec::new(),
-        stats: ReflectorStats {
-            gpdu_received: count(),
-            gpdu_forwarded: count(),
-            gpdu_sunk: count(),
-            echo_requests_answered: count(),
-            error_indications_sent: count(),
-            malformed_rejected: count(),
-        },
-        next_error_sequence: u16::MAX - random.length(u16::MAX as usize) as u16,
-    }
-}
-
-pub fn header(message: &Message) -> Header {
-    Header {
-        message_type: message.message_type,
-        teid: message.teid,
-        has_sequence: u8::from(message.sequence.is_some()),
-        sequence: message.sequence.unwrap_or(0xa5a5), // where there is none, it does not count
-    }
-}
-
-pub fn ours_state(state: &OpenReflector) -> State {
-    State {
-        gpdu_received: state.stats.gpdu_received,
-        gpdu_forwarded: state.stats.gpdu_forwarded,
-        gpdu_sunk: state.stats.gpdu_sunk,
-        echo_requests_answered: state.stats.echo_requests_answered,
-        error_indications_sent: state.stats.error_indications_sent,
-        malformed_rejected: state.stats.malformed_rejected,
-        next_error_sequence: state.next_error_sequence,
-    }
-}
-
-pub fn rust_session(session: Session) -> ReflectorSession {
-    ReflectorSession {
-        local_teid: session.local_teid,
-        peer_teid: session.peer_teid,
-        peer_addr: socket_addr(session.peer_addr),
-    }
-}
-
-pub fn socket_addr(address: Address) -> SocketAddr {
-    let bytes = address.address;
-    match address.version {
-        4 => SocketAddr::from(([bytes[0], bytes[1], bytes[2], bytes[3]], address.port)),
-        _ => SocketAddr::from((bytes, address.port)),
-    }
-}
-
-fn our_address(address: SocketAddr) -> Address {
-    let mut bytes = [0; 16];
-    let version = match address.ip() {
-        IpAddr::V4(ip) => {
-            bytes[..4].copy_from_slice(&ip.octets());
-            4
-        }
-        IpAddr::V6(ip) => {
-            bytes = ip.octets();
-            6
-        }
-    };
-    Address {
-        version,
-        address: bytes,
-        port: address.port(),
-    }
-}
-
-/// The address without the bytes that do not count.
-fn plain(mut address: Address) -> Address {
-    if address.version == 4 {
-        address.address[4..].fill(0);
-    }
-    address
 }

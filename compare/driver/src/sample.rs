@@ -11,6 +11,7 @@ use crate::observer::{any_call, any_contents, Call};
 use crate::ours::{Values, DIRTY_ADDRESS};
 use crate::ours_traffic::{Counts, Noted, Report, RunSheet};
 use crate::random::Random;
+use crate::records::{word, Drawn, DIRT, MOST_BYTES, ROWS};
 use crate::rust_side::gtpu::validate_error_indication_ies;
 use crate::rust_side::measurement::{build, checksum, decode, echo, Probe};
 use crate::rust_side::traffic::{generate, Observer, Sheet};
@@ -33,71 +34,69 @@ const REGISTER_SESSION: u8 = 10;
 const REMOVE_SESSION: u8 = 11;
 const HANDLE_DATAGRAM: u8 = 12;
 
-/// What an output has in it before a call.
-pub const DIRT: u8 = 0xa5;
-
-/// The rows of a run sheet, lent or not, and of a session table in the sample.
-pub const ROWS: usize = 6;
-
-/// The longest packet, payload and element list of the sample.
-pub const MOST_BYTES: usize = 160;
-
 /// How many inputs are drawn, at most, to find what a kind of record is to have.
 const DRAWS: usize = 100_000;
-
-/// What a drawn input came to: the number, or 0; a further distinction; and the record's rest.
-pub type Drawn = (u8, u8, Vec<u8>);
 
 /// The records so far, and how many there are of each kind and outcome.
 #[derive(Default)]
 pub struct Sample {
+    seed: u64,
+    /// The first kind that is drawn.
+    first: u8,
     pub bytes: Vec<u8>,
     seen: BTreeMap<(u8, u8, u8), usize>,
 }
 
-/// The whole sample. It is the same for the same seed.
+/// The sample from this kind of record on; from 0 on, all of it. It is the same for the same seed.
 ///
 /// # Panics
 ///
-/// If a number that the Rust can give is not among the answers.
-pub fn sample(seed: u64) -> Sample {
-    let mut sample = Sample::default();
-    let random = &mut Random::new(seed);
-    sample.draw(CHECKSUM, 0, 100, random, draw_checksum);
-    sample.draw(BUILD, 0, 100, random, draw_build);
-    sample.draw(DECODE, 20, 100, random, draw_decode);
-    sample.draw(ECHO, 10, 60, random, draw_echo);
-    sample.draw(GENERATE, 15, 60, random, draw_generate);
-    sample.draw(ELEMENTS, 40, 60, random, draw_elements);
-    sample.draw(RECORD_SENT, 0, 120, random, |random| {
-        draw_call(random, RECORD_SENT)
-    });
-    sample.draw(RECORD_RECEIVED_TPDU, 8, 90, random, |random| {
+/// If a number that the Rust can give is not among the answers of all of it.
+pub fn sample(seed: u64, first: u8) -> Sample {
+    let mut sample = Sample {
+        seed,
+        first,
+        ..Sample::default()
+    };
+    sample.draw(CHECKSUM, 0, 100, draw_checksum);
+    sample.draw(BUILD, 0, 100, draw_build);
+    sample.draw(DECODE, 20, 100, draw_decode);
+    sample.draw(ECHO, 10, 60, draw_echo);
+    sample.draw(GENERATE, 15, 60, draw_generate);
+    sample.draw(ELEMENTS, 40, 60, draw_elements);
+    sample.draw(RECORD_SENT, 0, 120, |random| draw_call(random, RECORD_SENT));
+    sample.draw(RECORD_RECEIVED_TPDU, 8, 90, |random| {
         draw_call(random, RECORD_RECEIVED_TPDU)
     });
-    sample.draw(RECORD_RETURN_GTPU_DATAGRAM, 6, 30, random, |random| {
+    sample.draw(RECORD_RETURN_GTPU_DATAGRAM, 6, 30, |random| {
         draw_call(random, RECORD_RETURN_GTPU_DATAGRAM)
     });
-    sample.draw(REPORT, 0, 50, random, draw_report);
-    sample.draw(REGISTER_SESSION, 10, 20, random, draw_register);
-    sample.draw(REMOVE_SESSION, 20, 25, random, draw_remove);
-    sample.draw(HANDLE_DATAGRAM, 4, 6, random, draw_handle);
-    let due = (0..=37).filter(|number| !NOT_IN_THE_RUST.contains(number));
-    let numbers: BTreeSet<u8> = sample.seen.keys().map(|&(_, number, _)| number).collect();
-    assert_eq!(numbers, due.collect(), "the numbers of the sample");
+    sample.draw(REPORT, 0, 50, draw_report);
+    sample.draw(REGISTER_SESSION, 3, 3, draw_register);
+    sample.draw(REMOVE_SESSION, 10, 10, draw_remove);
+    sample.draw(HANDLE_DATAGRAM, 4, 6, draw_handle);
+    if first == 0 {
+        let due = (0..=37).filter(|number| !NOT_IN_THE_RUST.contains(number));
+        let numbers: BTreeSet<u8> = sample.seen.keys().map(|&(_, number, _)| number).collect();
+        assert_eq!(numbers, due.collect(), "the numbers of the sample");
+    }
     sample
 }
 
 impl Sample {
     /// Draws inputs, and keeps as many of each refusal and of each other outcome as are asked for.
+    /// Each kind is drawn from a seed of its own, so that none depends on how another is drawn.
     fn draw(
         &mut self,
         kind: u8,
         refusals: usize,
         others: usize,
-        random: &mut Random,
         mut draw: impl FnMut(&mut Random) -> Option<Drawn>,
     ) {
+        if kind < self.first {
+            return;
+        }
+        let random = &mut Random::new(self.seed.wrapping_add(u64::from(kind)));
         for (number, variety, rest) in (0..DRAWS).filter_map(|_| draw(random)) {
             let asked = if number == 0 { others } else { refusals };
             let seen = self.seen.entry((kind, number, variety)).or_insert(0);
@@ -135,11 +134,6 @@ fn probe_bytes(values: &Values) -> Vec<u8> {
     bytes.extend(values.sequence.to_be_bytes());
     bytes.extend(values.send_time.to_be_bytes());
     bytes
-}
-
-/// A length in two bytes.
-pub fn word(length: usize) -> [u8; 2] {
-    u16::try_from(length).expect("two bytes").to_be_bytes()
 }
 
 /// The output after a call that writes these bytes: what lies past them is as it was.

@@ -3,16 +3,18 @@
 
 use testkit_open::reflector::OpenReflector;
 
+use crate::numbers::ECHO_REQUEST_TEID;
 use crate::ours_reflector::{Address, Config, Handled, Message as Header, Session, State};
 use crate::random::Random;
-use crate::reflector::{
-    any_address, any_config, any_message, any_policy, any_registered, any_session, any_state,
-    any_teid, handled, header, ours_state, rust_reflector, rust_session, socket_addr, LEAST_OUTPUT,
-    MOST_SESSIONS,
+use crate::records::{word, Drawn, DIRT, MOST_BYTES, ROWS};
+use crate::reflector::{LEAST_OUTPUT, MOST_SESSIONS};
+use crate::reflector_due::{handled, our_state, rust_reflector, rust_session, socket_addr};
+use crate::reflector_inputs::{
+    any_config, any_header, any_message, any_policy, any_registered, any_session, any_source,
+    any_state, any_teid,
 };
 use crate::rust_side::reflector::Reflector;
 use crate::rust_side::Outcome;
-use crate::sample::{word, Drawn, DIRT, MOST_BYTES, ROWS};
 
 /// A table, and the Rust's reflector whose sessions are its used rows.
 struct Table {
@@ -48,7 +50,7 @@ impl Table {
             state.sessions = rust.state().sessions;
             rust.set_state(state.clone());
         }
-        let state = ours_state(&state);
+        let state = our_state(&state);
         Self {
             sessions,
             used,
@@ -58,12 +60,8 @@ impl Table {
         }
     }
 
-    /// The TEID of a used row, or any.
-    fn any_teid(&self, random: &mut Random) -> u32 {
-        match random.below(2) {
-            0 if self.used > 0 => self.sessions[random.below(self.used)].local_teid,
-            _ => any_teid(random),
-        }
+    fn used(&self) -> &[Session] {
+        &self.sessions[..self.used]
     }
 
     /// Used count, maximum and rows: 165 bytes.
@@ -77,7 +75,7 @@ impl Table {
     /// The used rows must be the Rust's sessions, in their order.
     fn check(&self) {
         if let Ok(rust) = &self.rust {
-            let rows = self.sessions[..self.used].iter();
+            let rows = self.used().iter();
             let OpenReflector { sessions, .. } = rust.state();
             assert!(
                 rows.copied().map(rust_session).eq(sessions),
@@ -95,24 +93,16 @@ fn address_bytes(address: &Address) -> Vec<u8> {
     bytes
 }
 
-/// Both TEIDs and the peer's address: 27 bytes.
-fn session_bytes(session: &Session) -> Vec<u8> {
-    let mut bytes = session.local_teid.to_be_bytes().to_vec();
-    bytes.extend(session.peer_teid.to_be_bytes());
-    bytes.extend(address_bytes(&session.peer_addr));
-    bytes
-}
-
 fn rows_bytes(sessions: &[Session]) -> Vec<u8> {
-    sessions.iter().flat_map(session_bytes).collect()
+    sessions.iter().flat_map(|row| row.to_bytes()).collect()
 }
 
-/// The varieties are whether a row is added, and its version.
+/// The varieties are the place in which the session is near to a used one, or none, and its version.
 pub fn draw_register(random: &mut Random) -> Option<Drawn> {
     let mut table = Table::any(random);
-    let session = any_registered(random, &table.sessions[..table.used]);
+    let (session, place) = any_registered(random, table.used());
     let mut rest = table.bytes();
-    rest.extend(session_bytes(&session));
+    rest.extend(session.to_bytes());
     let answer = match &mut table.rust {
         Ok(rust) => rust.register_session(rust_session(session)),
         Err(number) => Err(*number),
@@ -125,20 +115,20 @@ pub fn draw_register(random: &mut Random) -> Option<Drawn> {
     table.check();
     rest.extend([u8::from(added), table.used as u8]);
     rest.extend(rows_bytes(&table.sessions));
-    let variety = u8::from(added) * 2 + u8::from(session.peer_addr.version == 4);
+    let near = place.map_or(0, |place| 1 + place as u8);
+    let variety = near * 2 + u8::from(session.peer_addr.version == 4);
     Some((answer.err().unwrap_or(0), variety, rest))
 }
 
-/// The varieties are whether a row is removed, and whether another is moved into its place.
+/// The varieties are whether a row is removed, whether another is moved into its place, and the byte
+/// in which the TEID is near to that of a used row, or none.
 pub fn draw_remove(random: &mut Random) -> Option<Drawn> {
     let mut table = Table::any(random);
-    let local_teid = table.any_teid(random);
+    let (local_teid, near) = any_teid(random, table.used());
     let mut rest = table.bytes();
     rest.extend(local_teid.to_be_bytes());
-    let used = table.sessions[..table.used].iter();
-    let place = used
-        .map(|session| session.local_teid)
-        .position(|teid| teid == local_teid);
+    let mut used = table.used().iter();
+    let place = used.position(|session| session.local_teid == local_teid);
     let removed = place.map(|place| table.sessions[place]);
     let number = match &mut table.rust {
         Ok(rust) => {
@@ -154,10 +144,11 @@ pub fn draw_remove(random: &mut Random) -> Option<Drawn> {
     }
     table.check();
     rest.extend([u8::from(removed.is_some()), table.used as u8]);
-    rest.extend(session_bytes(&removed.unwrap_or_default()));
+    rest.extend(removed.unwrap_or_default().to_bytes());
     rest.extend(rows_bytes(&table.sessions));
     let moved = place.is_some_and(|place| place < table.used);
-    let variety = u8::from(removed.is_some()) * 2 + u8::from(moved);
+    let near = near.map_or(0, |byte| 1 + byte as u8);
+    let variety = near * 4 + u8::from(removed.is_some()) * 2 + u8::from(moved);
     Some((number, variety, rest))
 }
 
@@ -208,23 +199,21 @@ fn handled_bytes(handled: &Handled) -> Vec<u8> {
     bytes
 }
 
-/// The varieties are what is done, under which policy, and to which version's address.
+/// The varieties are what is done, under which policy, and to which version's address; of Echo
+/// Requests with a TEID, which of its bytes alone is not 0, if one is.
 pub fn draw_handle(random: &mut Random) -> Option<Drawn> {
     let mut table = Table::any(random);
-    let mut message = any_message(random);
+    let message = any_message(random, table.used());
     if message.payload.len() > MOST_BYTES {
         return None;
     }
-    message.teid = match random.below(2) {
-        0 => table.any_teid(random),
-        _ => message.teid,
-    };
-    let source = any_address(random);
+    let source = any_source(random, table.used());
+    let header = any_header(random, &message);
     let mut out = vec![DIRT; LEAST_OUTPUT + random.below(9)];
     let (answer, state) = match &mut table.rust {
         Ok(rust) => {
             let answer = rust.handle_datagram(socket_addr(source), &message);
-            (answer, ours_state(&rust.state()))
+            (answer, our_state(&rust.state()))
         }
         Err(number) => (Err(*number), table.state),
     };
@@ -233,13 +222,25 @@ pub fn draw_handle(random: &mut Random) -> Option<Drawn> {
     rest.extend(config_bytes(&table.config));
     rest.extend(state_bytes(&table.state));
     rest.extend(address_bytes(&source));
-    rest.extend(message_bytes(&header(&message)));
+    rest.extend(message_bytes(&header));
     rest.extend(handled_bytes(&due));
     rest.extend(word(out.len()));
     rest.extend(out);
     rest.extend(message.payload);
     let done = due.kind * 8 + due.reason;
-    let variety =
-        done * 6 + table.config.policy.min(2) * 2 + u8::from(due.destination.version == 4);
+    let variety = match due.number {
+        ECHO_REQUEST_TEID => lone_byte(message.teid),
+        _ => done * 6 + table.config.policy.min(2) * 2 + u8::from(due.destination.version == 4),
+    };
     Some((due.number, variety, rest))
+}
+
+/// The byte of a TEID that alone is not 0, counted from 1; or 0.
+fn lone_byte(teid: u32) -> u8 {
+    let bytes = teid.to_be_bytes();
+    let mut places = (1..).zip(bytes).filter(|&(_, byte)| byte != 0);
+    match (places.next(), places.next()) {
+        (Some((place, _)), None) => place,
+        _ => 0,
+    }
 }

@@ -107,7 +107,10 @@ pub fn questions(
         outage.outage_budget_ns = outage.outage_budget_ns.saturating_sub(1);
         let any = PacketContinuityBudget {
             max_lost_packets: random.number(),
-            max_consecutive_lost_packets: random.length(MOST_ROWS) as u64,
+            max_consecutive_lost_packets: match random.below(2) {
+                0 => random.any_u64(),
+                _ => random.length(MOST_ROWS) as u64,
+            },
             outage_budget_ns: random.number(),
         };
         questions.extend([zero, kept, lost, run, outage, any].map(|budget| (start, end, budget)));

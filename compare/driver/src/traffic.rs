@@ -51,7 +51,12 @@ pub fn generating(seed: u64, rounds: u64) -> Part {
         }
     }
     for _ in 0..rounds / 4 {
-        let (first, count, rate) = any_plan(&mut random);
+        let (first, mut count, mut rate) = any_plan(&mut random);
+        match random.below(8) {
+            0 => count = random.any_u64(),
+            1 => rate = random.any_u64(),
+            _ => (),
+        }
         generates(&mut part, &mut seen, &mut random, first, count, rate);
     }
     let mut seen_in_runs = Seen::default();

@@ -214,7 +214,7 @@ fn change(random: &mut Random, packet: &mut Vec<u8>) {
             packet[place] = random.number() as u8;
         }
         3 => {
-            let values = [0, 1, 7, 8, 31, 32, 33, 0x7fff, 0x8000, 0xfffe, 0xffff];
+            let values = [7, 8, 31, 32, 33, 0x7fff, 0x8000, random.any_u16()];
             let value = values[random.below(values.len())];
             set_word(packet, random.below(near), value);
         }
