@@ -128,6 +128,7 @@ fn main() -> ExitCode {
     total.add(|| measurement::damaged_packets(if long { 5 } else { 2 }));
     total.add(|| measurement::damaged_random_packets(seed, rounds));
     total.add(|| traffic::generating(seed, rounds));
+    total.add(|| traffic::runs(seed, rounds));
     total.add(|| gtpu::elements(seed, rounds));
     total.add(gtpu::deep_lists);
     total.add(|| observer::runs(seed, rounds));

@@ -24,11 +24,14 @@ const COUNT_TOO_HIGH: u8 = 18;
 const DIRT: u8 = 0xa5;
 const BEYOND: usize = 8;
 
+/// The generator's numbers.
+const EVERY_NUMBER: [u8; 7] = [0, 15, 16, 17, 18, 19, 20];
+
 /// How many plans follow each other on one engine.
 const PLANS_OF_A_RUN: u64 = 12;
 
-/// Plans at the boundaries of count, rate, sequence and time, random plans, and runs of plans on
-/// one engine. Every number of the generator must have been due, in the runs too.
+/// Plans at the boundaries of count, rate, sequence and time, and random plans. Every number of
+/// the generator must have been due.
 pub fn generating(seed: u64, rounds: u64) -> Part {
     let mut part = Part::new("generator", "calls");
     let mut seen = Seen::default();
@@ -59,13 +62,19 @@ pub fn generating(seed: u64, rounds: u64) -> Part {
         }
         generates(&mut part, &mut seen, &mut random, first, count, rate);
     }
-    let mut seen_in_runs = Seen::default();
+    seen.require(&mut part, EVERY_NUMBER);
+    part
+}
+
+/// Runs of plans, each run on one engine. Every number of the generator must have been due.
+pub fn runs(seed: u64, rounds: u64) -> Part {
+    let mut part = Part::new("runs of plans on one engine", "calls");
+    let mut seen = Seen::default();
+    let mut random = Random::new(seed);
     for _ in 0..rounds / (4 * PLANS_OF_A_RUN) {
-        run(&mut part, &mut seen_in_runs, &mut random);
+        run(&mut part, &mut seen, &mut random);
     }
-    for seen in [seen, seen_in_runs] {
-        seen.require(&mut part, [0, 15, 16, 17, 18, 19, 20]);
-    }
+    seen.require(&mut part, EVERY_NUMBER);
     part
 }
 
@@ -198,8 +207,9 @@ fn generates_on(
     let size = if first.version == 4 { 52 } else { 72 };
     let both = out.chunks(size).zip(expected.chunks(size));
     let wrong_packet = both.into_iter().position(|(ours, due)| ours != due);
+    let plan = [before, count, rate, first.send_time].map(u64::to_be_bytes);
     part.case(
-        &before.to_be_bytes(),
+        plan.as_flattened(),
         (written, ours.next_sequence, wrong_packet),
         (Written { number, bytes }, next_sequence, None),
     );

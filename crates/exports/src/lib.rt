@@ -1,5 +1,6 @@
 // The C interface: each public call under the prefix `testkit_`, on numbers and lent buffers, with the call's own contract. A slice
-// passes as a pointer and a length, an address as a pointer to 16 bytes. A refusal is its number, and 0 is none.
+// passes as a pointer and a length, an address as a pointer to 16 bytes, the generator's next sequence as a pointer to it. A refusal
+// is its number, and 0 is none.
 pub mod reflector_calls;
 
 use continuity::GtpuReturnDatagramOutcome;

@@ -49,14 +49,14 @@ fn write_packets(
     }
 }
 
-// What generating answers: how many bytes were written, or why none; and the next sequence.
-pub struct Generated {
-    pub written: Written,
-    pub next_sequence: u64,
+// How many bytes were written, or why none; and the next sequence.
+struct Generated {
+    written: Written,
+    next_sequence: u64,
 }
 
 // The packets of a plan, end to end at the front of `out`. Every cause is judged before the first byte is written.
-pub fn generate_packets(
+fn generate_packets(
     flow: InnerIpFlow,
     plan: TrafficPlan,
     next_sequence: u64,
@@ -89,7 +89,7 @@ pub fn generate_packets(
     }
 }
 
-// `generate_packets` from the next sequence in the caller's record, which is changed there, also by the refusals 19 and 20.
+// The packets of a plan, from the next sequence in the caller's own record, which is changed there, also by 19 and 20 (leaf 5).
 pub fn generate_from(
     next_sequence: &mut u64,
     flow: InnerIpFlow,
@@ -125,7 +125,7 @@ impl TrafficEngine {
         }
     }
 
-    // `generate_from` on the engine's next sequence.
+    // The same, from the engine's next sequence.
     pub fn generate(&mut self, flow: InnerIpFlow, plan: TrafficPlan, out: &mut [u8]) -> Written
         ensures { λ r. ⌜ generated r (now (self .exit) .«next_sequence») (now (out .exit)) ≡ generateOf flow plan (now (self .entry) .«next_sequence») (now (out .entry)) ⌝ }
     {

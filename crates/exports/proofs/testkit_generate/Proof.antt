@@ -1,5 +1,4 @@
 -- `exports::testkit_generate` meets its contract.
--- Assumes nothing.
 use Prim.Native.Nat.{ℕ}
 use mathlib.Core.Path.{ap, _∙_}
 use Rattle.traffic.specs.Generate.{generateOf}

@@ -1,7 +1,6 @@
 -- `traffic::TrafficEngine::generate` meets its contract: a walk of its MIR, by hand. The borrow of the engine is opened, and its number is lent to `generate_from`, for a
 -- lifetime that is made for the call. The number comes back as the call leaves it, and the borrow is closed at the new record.
 -- All that the proof knows of `generate_from` is that it meets its contract.
--- Assumes nothing.
 use mathlib.Core.Path.{_≡_, refl}
 use Prim.Native.Nat.{ℕ, _+_, _<_, _^_}
 use mathlib.Core.List.{[], _∷_, List}
