@@ -1,6 +1,6 @@
 //! Our generator against the Rust's: plans at every boundary, and random ones.
 
-use testkit_open::traffic::TrafficPlan;
+use testkit_open::traffic::{GeneratedPacket, TrafficPlan};
 
 use crate::ours::Values;
 use crate::ours_traffic::{self, Generated};
@@ -144,6 +144,13 @@ fn generates(
 
 /// The packets that are due, end to end, and the next sequence afterwards.
 fn packets(first: Probe, count: u64, rate: u64) -> (Outcome<Vec<u8>>, u64) {
+    let (packets, next_sequence) = due_packets(first, count, rate);
+    let tpdus = packets.map(|packets| packets.into_iter().flat_map(|packet| packet.tpdu).collect());
+    (tpdus, next_sequence)
+}
+
+/// The packets of a plan or the number that is due, and the next sequence afterwards.
+pub fn due_packets(first: Probe, count: u64, rate: u64) -> (Outcome<Vec<GeneratedPacket>>, u64) {
     if interval(rate).is_ok() && count > MOST_PACKETS {
         return (Err(COUNT_TOO_HIGH), first.sequence);
     }
@@ -153,7 +160,5 @@ fn packets(first: Probe, count: u64, rate: u64) -> (Outcome<Vec<u8>>, u64) {
         target_rate_pps: rate,
         first_send_timestamp_ns: first.send_time,
     };
-    let (packets, next_sequence) = generate(first.flow, plan, first.sequence);
-    let tpdus = packets.map(|packets| packets.into_iter().flat_map(|packet| packet.tpdu).collect());
-    (tpdus, next_sequence)
+    generate(first.flow, plan, first.sequence)
 }

@@ -13,7 +13,6 @@ use Rattle.measurement.specs.declared.IpVersion.the-variants.{V4, V6}
 use mathlib.Core.Path.{_≡_}
 use Rattle.observer.specs.Judge.{Step}
 use Rattle.observer.specs.declared.ObserverCounts.{ObserverCounts}
-use Rattle.observer.specs.declared.batch.PlanRecorded.{PlanRecorded}
 use Rattle.observer.specs.declared.batch.ReturnsRecorded.{ReturnsRecorded}
 use Rattle.traffic.specs.Generate.{Generating}
 use Rattle.plan.specs.declared.TrafficPlan.{TrafficPlan}
@@ -31,7 +30,6 @@ use Rattle.exports.specs.declared.TestkitReport.{TestkitReport}
 use Rattle.exports.specs.declared.TestkitCounts.{TestkitCounts}
 use Rattle.exports.specs.declared.TestkitGenerated.{TestkitGenerated}
 use Rattle.exports.specs.declared.TestkitRecorded.{TestkitRecorded}
-use Rattle.exports.specs.declared.TestkitPlanRecorded.{TestkitPlanRecorded}
 use Rattle.exports.specs.declared.TestkitReturnsRecorded.{TestkitReturnsRecorded}
 use Rattle.exports.specs.declared.TestkitTpdu.{TestkitTpdu}
 use Rattle.exports.specs.declared.TestkitWritten.{TestkitWritten}
@@ -79,19 +77,7 @@ recordedNumbers outcome c = record {
   «gtpu_error_indications» = c .«gtpu_error_indications»;
 }
 
--- The batch calls' answers, which C has with the counts as fields of their own.
-abbrev pub planAnswer : TestkitPlanRecorded → PlanRecorded
-planAnswer r = record {
-  entered = r .entered;
-  number = r .number;
-  counts = record {
-    used = r .used;
-    «duplicate_packets» = r .«duplicate_packets»;
-    «out_of_order_packets» = r .«out_of_order_packets»;
-    «gtpu_error_indications» = r .«gtpu_error_indications»;
-  };
-}
-
+-- The answer to a list of returns, which C has with the counts as fields of their own.
 abbrev pub returnsAnswer : TestkitReturnsRecorded → ReturnsRecorded
 returnsAnswer r = record {
   returns = r .returns;

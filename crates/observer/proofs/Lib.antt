@@ -11,3 +11,5 @@ pub mod Arriving
 pub mod Keeping
 pub mod Claims
 pub mod InTurn
+pub mod SendingPlan
+pub mod PlanClaims
