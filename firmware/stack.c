@@ -72,7 +72,10 @@ static void call_generate(void)
 static void call_elements(void) { kept = ENTER(testkit_validate_elements)(in, in_length); }
 static void call_sent(void) { kept = ENTER(testkit_record_sent)(SHEET, sequence, 7).number; }
 static void call_received(void) { kept = ENTER(testkit_record_received_tpdu)(SHEET, 9, in, in_length).number; }
-static void call_plan(void) { kept = ENTER(testkit_record_sent_plan)(SHEET, sequence, 7, 1, ROWS).number; }
+static void call_plan(void)
+{
+    kept = ENTER(testkit_record_sent_plan)(SHEET, plan_count, plan_rate, plan_time, sequence).number;
+}
 static void call_returns(void)
 {
     static const uint64_t at[2] = {9, 9};
@@ -309,6 +312,19 @@ static void set_sheet(size_t used, size_t step)
     counts = (struct testkit_counts){used, 0, 0, 0};
 }
 
+/* Plans that fit, that fit in part, and that are refused for their own sake. */
+static void measure_plans(size_t used)
+{
+    static const uint64_t rate[] = {0, 1, 1000000000, 1000000001};
+    const uint64_t count[] = {0, 1, ROWS - used, ROWS, ROWS + 1};
+    for (int k = 0; k < 40; k++) {
+        plan_count = count[k % 5];
+        plan_rate = rate[k / 5 % 4];
+        plan_time = k / 20 ? UINT64_MAX - 1 : 7;
+        measure(call_plan);
+    }
+}
+
 static void measure_sheet(size_t used, size_t step)
 {
     static const uint64_t new_sequences[] = {0, 1, 2, 2049, 2050, 4095, 4096, 9999};
@@ -316,7 +332,7 @@ static void measure_sheet(size_t used, size_t step)
     for (size_t k = 0; k < sizeof new_sequences / sizeof *new_sequences; k++) {
         sequence = new_sequences[k];
         measure(call_sent);
-        measure(call_plan);
+        measure_plans(used);
         in_length = testkit_build(k % 2 ? 4 : 6, src, dst, 1, 2, sequence, 4, in, sizeof in).bytes;
         measure_packet();
     }

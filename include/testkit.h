@@ -270,31 +270,23 @@ struct testkit_recorded testkit_record_received_tpdu(
     uint64_t return_timestamp_ns,
     const uint8_t *tpdu, size_t tpdu_length);
 
-/* How many packets were entered, 0 or the first refusal's number, and the counts for the next call. */
-struct testkit_plan_recorded {
-    uint64_t entered;
-    uint8_t number;
-    size_t used;
-    uint64_t duplicate_packets;
-    uint64_t out_of_order_packets;
-    uint64_t gtpu_error_indications;
-};
-
 /*
- * Enters the packets of a plan that testkit_generate accepted, as testkit_record_sent would one after the other; the sheet is judged (21)
- * once. `interval_ns` is 1,000,000,000 divided by the rate, rounded down. Past the top of a sequence or a time no packet is entered.
- * A packet that is refused is not entered, and those behind it are tried all the same.
+ * Enters the packets of a plan, all or none: packet k, from 0, with the sequence and the send time that
+ * testkit_generate gives it, as by testkit_record_sent.
+ *   packet_count .. next_sequence as for testkit_generate, whose answer has the sequence for the next plan
+ * Refuses by 21, also where packet_count is 0, then by 16 to 20 as testkit_generate, then by 22, which is due only
+ * where more of the plan's sequences are not on the sheet than rows are free. A refused plan leaves the sheet.
  */
-struct testkit_plan_recorded testkit_record_sent_plan(
+struct testkit_recorded testkit_record_sent_plan(
     uint64_t *sequences, size_t sequences_length,
     uint64_t *send_timestamps, size_t send_timestamps_length,
     uint64_t *latencies, size_t latencies_length,
     uint8_t *marks, size_t marks_length,
     struct testkit_counts counts,
-    uint64_t first_sequence,
+    uint64_t packet_count,
+    uint64_t target_rate_pps,
     uint64_t first_send_timestamp_ns,
-    uint64_t interval_ns,
-    uint64_t packet_count);
+    uint64_t next_sequence);
 
 /* How many returns there were and 0, or 0 and the number of a refusal of the whole list; and the counts for the next call. */
 struct testkit_returns_recorded {

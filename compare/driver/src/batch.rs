@@ -1,5 +1,5 @@
-//! Our batch calls against the Rust's single calls in a loop: the packets of a plan, and lists of
-//! returns. The Rust has no batch calls.
+//! Our batch calls against single calls in a loop, the Rust's and ours: the packets of a plan, all or
+//! none, and lists of returns. The Rust has no batch calls.
 
 use crate::observer::{
     any_call, any_contents, any_rows, malformed_sheet, time_near, Call, Pair, SHEET_MALFORMED,
@@ -7,13 +7,15 @@ use crate::observer::{
 use crate::ours_traffic::RunSheet;
 use crate::part::Part;
 use crate::random::Random;
-use crate::rust_side::measurement::decode;
-use crate::rust_side::traffic::Sheet;
+use crate::rust_side::measurement::{decode, Probe};
+use crate::rust_side::traffic::{Engine, Sheet};
 use crate::seen::Seen;
 use crate::sheets::{difference, fresh};
+use crate::traffic::{due_packets, MOST_PACKETS};
+use crate::wild::any_probe;
 
-/// A plan: its first sequence and time, its interval and how many packets.
-type Plan = (u64, u64, u64, u64);
+/// A plan: what its first packet says, how many packets, and its rate.
+type Plan = (Probe, u64, u64);
 
 /// Plans entered and lists of returns taken, on sheets in any state.
 pub fn batches(seed: u64, rounds: u64) -> Part {
@@ -31,12 +33,13 @@ pub fn batches(seed: u64, rounds: u64) -> Part {
         }
         pair.reports(&mut part, &mut random);
     }
-    seen.require(&mut part, (0..=14).chain(22..=24));
+    seen.require(&mut part, (0..=14).chain(16..=20).chain(22..=24));
     part
 }
 
-/// Malformed sheets: every packet and every list of returns, an empty one too, is refused by 21,
-/// and the sheet and the two columns that are lent for the list are left.
+/// Malformed sheets: every plan, also one of no packets or one that the generator refuses, and every
+/// list of returns, an empty one too, is refused by 21. The sheet is left, and so are the two columns
+/// that are lent for the list.
 pub fn malformed_batches(seed: u64, rounds: u64) -> Part {
     let mut part = Part::new("run sheet, malformed, batches", "batch calls");
     let mut random = Random::new(seed);
@@ -44,12 +47,11 @@ pub fn malformed_batches(seed: u64, rounds: u64) -> Part {
         let (contents, sheet) = malformed_sheet(&mut random, round);
         let rows = contents.rows.len();
 
-        let plan = any_plan(&mut random, 0, rows);
+        let plan = any_plan(&mut random, &contents, rows);
         let mut ours = sheet.clone();
         let answer = send(&mut ours, plan);
-        let number = if plan.3 == 0 { 0 } else { SHEET_MALFORMED };
         let answer = (answer, difference(&ours, &sheet));
-        part.case(&[], answer, ((0, number), None));
+        part.case(&[], answer, (SHEET_MALFORMED, None));
 
         for returns in [vec![], any_returns(&mut random, &contents, rows)] {
             let due = Due::left(&mut random, returns.len());
@@ -59,59 +61,84 @@ pub fn malformed_batches(seed: u64, rounds: u64) -> Part {
     part
 }
 
-fn send(sheet: &mut RunSheet, (sequence, time, interval, count): Plan) -> (u64, u8) {
-    sheet.record_sent_plan(sequence, time, interval, count)
+fn send(sheet: &mut RunSheet, (first, count, rate): Plan) -> u8 {
+    sheet.record_sent_plan(count, rate, first.send_time, first.sequence)
 }
 
-/// A plan near a sequence, near the tops, or anywhere.
-fn any_plan(random: &mut Random, near: u64, rows: usize) -> Plan {
-    let count = random.length(rows + 4) as u64;
-    let sequence = match random.below(4) {
-        0 => u64::MAX - random.length(rows + 4) as u64,
-        1 => random.number(),
-        _ => near.saturating_add(random.below(4) as u64),
+/// A plan near the rows of a sheet, near the tops, or anywhere; now and then with a count or a rate
+/// that no plan may have, the count also so high that the call must not look at each packet.
+fn any_plan(random: &mut Random, contents: &Sheet, rows: usize) -> Plan {
+    let count = match random.below(16) {
+        0 => MOST_PACKETS + 1,
+        1 => u64::MAX,
+        _ => random.length(rows + 4) as u64,
     };
-    let interval = [0, 1, 1_000_000_000, random.number()][random.below(4)];
-    let time = match random.below(4) {
-        0 => u64::MAX.wrapping_sub(interval.wrapping_mul(random.length(rows + 4) as u64)),
+    let rate = match random.below(16) {
+        0 => 0,
+        1 => 1_000_000_001,
+        2 => 1_000_000_000,
+        _ => 1 + random.length(1_000_000_000 - 1) as u64,
+    };
+    let near_top = |random: &mut Random, step: u64| {
+        u64::MAX.wrapping_sub(step.wrapping_mul(random.length(rows + 4) as u64))
+    };
+    let mut first = any_probe(random);
+    first.sequence = match random.below(8) {
+        0 => near_top(random, 1),
+        1 => random.number(),
+        _ if contents.rows.is_empty() => random.length(4) as u64,
+        _ => {
+            let row = &contents.rows[random.below(contents.rows.len())];
+            let before = random.length(rows + 4) as u64;
+            row.sequence.saturating_sub(before) + random.below(3) as u64
+        }
+    };
+    first.send_time = match random.below(8) {
+        0 => near_top(random, 1_000_000_000 / rate.max(1)),
         1 => random.number(),
         _ => random.length(1 << 20) as u64,
     };
-    (sequence, time, interval, count)
+    (first, count, rate)
 }
 
-/// Enters a plan on both sides: the Rust is sent its packets one after the other, up to the first
-/// whose sequence or time does not fit.
+/// Enters a plan on both sides: its packets as the Rust generates them are sent to the Rust, one after
+/// the other, and to a copy of our sheet. Where the copy refuses one, all of the plan is refused.
 fn enter(part: &mut Part, seen: &mut Seen, random: &mut Random, pair: &mut Pair, rows: usize) {
-    let near = pair.contents.rows.last().map_or(0, |row| row.sequence);
-    let plan = any_plan(random, near, rows);
-    let (sequence, time, interval, count) = plan;
-    let (mut entered, mut first) = (0, 0);
-    for k in 0..count {
-        let packet_time = interval
-            .checked_mul(k)
-            .and_then(|since| time.checked_add(since));
-        let (Some(sequence), Some(send_time)) = (sequence.checked_add(k), packet_time) else {
-            break;
-        };
-        let call = Call::Sent {
-            sequence,
-            send_time,
-        };
-        match pair.due_answer(seen, &call).number {
-            0 => entered += 1,
-            number if first == 0 => first = number,
-            _ => {}
+    let plan = any_plan(random, &pair.contents, rows);
+    let (first, count, rate) = plan;
+    let mut singly = pair.ours.clone();
+    let mut engine = Engine::with_first_sequence(first.sequence);
+    let due = due_packets(&mut engine, first, count, rate).and_then(|packets| {
+        for packet in &packets {
+            match singly.record_sent(packet.sequence, packet.send_timestamp_ns) {
+                answer if answer.number == 0 => {}
+                answer => return Err(answer.number),
+            }
         }
-    }
+        Ok(packets)
+    });
+    let number = match due {
+        Err(number) => {
+            singly = pair.ours.clone();
+            number
+        }
+        Ok(packets) => {
+            for packet in packets {
+                let call = Call::Sent {
+                    sequence: packet.sequence,
+                    send_time: packet.send_timestamp_ns,
+                };
+                pair.due_answer(&mut Seen::default(), &call);
+            }
+            0
+        }
+    };
+    seen.add(number);
     let mut ours = pair.ours.clone();
     let answer = send(&mut ours, plan);
     let due = pair.due();
-    part.case(
-        &[],
-        (answer, difference(&ours, &due)),
-        ((entered, first), None),
-    );
+    let differences = (difference(&ours, &due), difference(&ours, &singly));
+    part.case(&[], (answer, differences), (number, (None, None)));
     pair.ours = due;
 }
 

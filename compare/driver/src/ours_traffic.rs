@@ -57,11 +57,11 @@ unsafe extern "C" {
         marks: *mut u8,
         marks_length: usize,
         counts: Counts,
-        first_sequence: u64,
-        first_send_timestamp_ns: u64,
-        interval_ns: u64,
         packet_count: u64,
-    ) -> TestkitPlanRecorded;
+        target_rate_pps: u64,
+        first_send_timestamp_ns: u64,
+        next_sequence: u64,
+    ) -> TestkitRecorded;
     fn testkit_record_received_tpdus(
         sequences: *const u64,
         sequences_length: usize,
@@ -136,14 +136,6 @@ pub struct Counts {
 /// fields of its own, which lie in the same places.
 #[repr(C)]
 struct TestkitRecorded {
-    number: u8,
-    counts: Counts,
-}
-
-/// How many packets of a plan were entered, and 0 or the number of the first that was refused.
-#[repr(C)]
-struct TestkitPlanRecorded {
-    entered: u64,
     number: u8,
     counts: Counts,
 }
@@ -295,27 +287,26 @@ impl RunSheet {
         self.recorded(recorded)
     }
 
-    /// Enters the packets of a plan: how many were entered, and 0 or the first refusal's number.
+    /// Enters the packets of a plan, all or none: 0, or the number of a refusal.
     pub fn record_sent_plan(
         &mut self,
-        first_sequence: u64,
-        first_send_time: u64,
-        interval: u64,
         packet_count: u64,
-    ) -> (u64, u8) {
+        target_rate_pps: u64,
+        first_send_time: u64,
+        next_sequence: u64,
+    ) -> u8 {
         // SAFETY: as in `record_sent`.
         let recorded = unsafe {
             on_sheet!(
                 testkit_record_sent_plan,
                 self,
-                first_sequence,
+                packet_count,
+                target_rate_pps,
                 first_send_time,
-                interval,
-                packet_count
+                next_sequence
             )
         };
-        self.counts = recorded.counts;
-        (recorded.entered, recorded.number)
+        self.recorded(recorded).number
     }
 
     /// Takes a list of T-PDUs that came back, end to end in `tpdus`: how many they were, and the

@@ -76,13 +76,13 @@ fn whole_run() -> Timing {
         .flat_map(|packet| packet.tpdu.to_vec())
         .collect();
     let (mut returned, mut numbers) = (vec![0; MOST_ROWS], vec![0; MOST_ROWS]);
-    let interval = packets[1].send_timestamp_ns;
+    let rate = 1_000_000_000 / packets[1].send_timestamp_ns;
     let budget = PacketContinuityBudget::zero_loss();
     let our_budget = testkit_open::evidence::PacketContinuityBudget::zero_loss();
     let (ours, rust) = take_turns(
         || {
             sheet.counts = Counts::default();
-            let entered = sheet.record_sent_plan(1, 0, interval, MOST_ROWS as u64);
+            let entered = sheet.record_sent_plan(MOST_ROWS as u64, rate, 0, 1);
             let taken =
                 sheet.record_received_tpdus(&times, &lengths, &tpdus, &mut returned, &mut numbers);
             let report = sheet.report(0, black_box(9_000), our_budget);

@@ -1,7 +1,7 @@
 //! Our generator against the Rust's: plans at every boundary, random ones, and runs of plans on one
 //! engine.
 
-use testkit_open::traffic::TrafficPlan;
+use testkit_open::traffic::{GeneratedPacket, TrafficPlan};
 
 use crate::ours::{Values, Written};
 use crate::ours_traffic;
@@ -215,9 +215,20 @@ fn generates_on(
     );
 }
 
-/// The packets that are due, end to end, by the Rust's engine, which moves on. A count above 2,048
-/// (18, added) it does not see.
+/// The packets that are due, end to end, by the Rust's engine, which moves on.
 fn packets(engine: &mut Engine, first: Probe, count: u64, rate: u64) -> Outcome<Vec<u8>> {
+    let packets = due_packets(engine, first, count, rate)?;
+    Ok(packets.into_iter().flat_map(|packet| packet.tpdu).collect())
+}
+
+/// The packets of a plan by the Rust's engine, which moves on, or the number that is due. A count
+/// above 2,048 (18, added) the engine does not see.
+pub fn due_packets(
+    engine: &mut Engine,
+    first: Probe,
+    count: u64,
+    rate: u64,
+) -> Outcome<Vec<GeneratedPacket>> {
     if interval(rate).is_ok() && count > MOST_PACKETS {
         return Err(COUNT_TOO_HIGH);
     }
@@ -227,6 +238,5 @@ fn packets(engine: &mut Engine, first: Probe, count: u64, rate: u64) -> Outcome<
         target_rate_pps: rate,
         first_send_timestamp_ns: first.send_time,
     };
-    let packets = engine.generate(first.flow, plan)?;
-    Ok(packets.into_iter().flat_map(|packet| packet.tpdu).collect())
+    engine.generate(first.flow, plan)
 }

@@ -37,8 +37,7 @@ ghost use Rattle.traffic.specs.Generate.{generateOf};
 ghost use Rattle.gtpu.specs.Element.{elementsOf};
 ghost use Rattle.observer.specs.Sending.{recordSent};
 ghost use Rattle.observer.specs.Answer.{observerOf, recordingMeans};
-ghost use Rattle.observer.specs.InTurn.{recordSentPlan};
-ghost use Rattle.observer.specs.BatchAnswer.{planRecorded};
+ghost use Rattle.observer.specs.SendingPlan.{recordSentPlan};
 ghost use Rattle.observer.specs.Arrivals.{returnsMeans};
 ghost use Rattle.continuity.specs.Returns.{recordReceivedTpdu, recordReturnMessage};
 ghost use Rattle.continuity.specs.Answer.{messageMeans};
@@ -46,7 +45,7 @@ ghost use Rattle.continuity.specs.Batch.{recordReceivedTpdus};
 ghost use Rattle.evidence.specs.Latency.{latencyMeans};
 ghost use Rattle.report.specs.Report.{reporting};
 ghost use Rattle.report.specs.Answer.{reportedMeans};
-ghost use Rattle.exports.specs.Interface.{flowOf, writtenNumbers, testkitTpdu, planOf, GeneratedStep, countsOf, recordedNumbers, RecordedStep, planAnswer, countGiven, returnsNumbers, ReturnsNumbers, kindNumber, ignoredType, messageNumbers, MessageStepNumbers, latencyNumbers, budgetOf, reportNumbers};
+ghost use Rattle.exports.specs.Interface.{flowOf, writtenNumbers, testkitTpdu, planOf, GeneratedStep, countsOf, recordedNumbers, RecordedStep, countGiven, returnsNumbers, ReturnsNumbers, kindNumber, ignoredType, messageNumbers, MessageStepNumbers, latencyNumbers, budgetOf, reportNumbers};
 
 // What a call that writes into a lent buffer answers: 0 and how many bytes it wrote, or a refusal's number and 0 bytes.
 #[repr(C)]
@@ -316,17 +315,6 @@ pub extern "C" fn testkit_record_received_tpdu(
     ))
 }
 
-// What entering a plan answers: how many packets were entered, 0 or the number of the first refusal, and the counts afterwards.
-#[repr(C)]
-pub struct TestkitPlanRecorded {
-    pub entered: u64,
-    pub number: u8,
-    pub used: usize,
-    pub duplicate_packets: u64,
-    pub out_of_order_packets: u64,
-    pub gtpu_error_indications: u64,
-}
-
 // `observer::batch::record_sent_plan`
 #[no_mangle]
 pub extern "C" fn testkit_record_sent_plan(
@@ -335,35 +323,29 @@ pub extern "C" fn testkit_record_sent_plan(
     latencies: &mut [u64],
     marks: &mut [u8],
     counts: TestkitCounts,
-    first_sequence: u64,
-    first_send_timestamp_ns: u64,
-    interval_ns: u64,
     packet_count: u64,
-) -> TestkitPlanRecorded
-    ensures { λ r. ⌜ planRecorded (planAnswer r) (now (sequences .exit)) (now («send_timestamps» .exit)) (now (latencies .exit)) (now (marks .exit))
-        ≡ recordSentPlan (observerOf (now (sequences .entry)) (now («send_timestamps» .entry)) (now (latencies .entry)) (now (marks .entry)) (countsOf counts))
-        «first_sequence» «first_send_timestamp_ns» «interval_ns» «packet_count» ⌝ }
+    target_rate_pps: u64,
+    first_send_timestamp_ns: u64,
+    next_sequence: u64,
+) -> TestkitRecorded
+    ensures { λ r. ⌜ RecordedStep r (now (sequences .exit)) (now («send_timestamps» .exit)) (now (latencies .exit)) (now (marks .exit))
+        (recordSentPlan (observerOf (now (sequences .entry)) (now («send_timestamps» .entry)) (now (latencies .entry)) (now (marks .entry)) (countsOf counts))
+        (planOf «packet_count» «target_rate_pps» «first_send_timestamp_ns») «next_sequence») ⌝ }
 {
-    let recorded = observer::batch::record_sent_plan(
+    let plan = TrafficPlan {
+        packet_count: packet_count,
+        target_rate_pps: target_rate_pps,
+        first_send_timestamp_ns: first_send_timestamp_ns,
+    };
+    recorded_numbers(observer::batch::record_sent_plan(
         sequences,
         send_timestamps,
         latencies,
         marks,
         counts_of(counts),
-        first_sequence,
-        first_send_timestamp_ns,
-        interval_ns,
-        packet_count,
-    );
-    let after = recorded.counts;
-    TestkitPlanRecorded {
-        entered: recorded.entered,
-        number: recorded.number,
-        used: after.used,
-        duplicate_packets: after.duplicate_packets,
-        out_of_order_packets: after.out_of_order_packets,
-        gtpu_error_indications: after.gtpu_error_indications,
-    }
+        plan,
+        next_sequence,
+    ))
 }
 
 // What a list of returns answers: how many returns it had and 0, or 0 and the number of a refusal of the whole list; and the counts afterwards.

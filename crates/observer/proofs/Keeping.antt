@@ -21,11 +21,11 @@ use Rattle.observer.proofs.Rows.{rows-with, capacity-with, counts-with,
 -- ---- rising
 
 -- k is the place of q: what stands before it is below q, and what stands there is not
-record Parts (q : ℕ) (xs : List ℕ) (k : ℕ) : Type 0 where
+pub record Parts (q : ℕ) (xs : List ℕ) (k : ℕ) : Type 0 where
   pub below : (i : ℕ) → i < k → getD xs i 0 < q
   pub above : k < length xs → q ≤ getD xs k 0
 
-place-parts : (q : ℕ) (xs : List ℕ) → Parts q xs (place q xs)
+pub place-parts : (q : ℕ) (xs : List ℕ) → Parts q xs (place q xs)
 place-parts q [] = record { below = λ i h. absurd (omega arith); above = λ h. absurd (omega arith) }
 place-parts q (x ∷ xs) = go (ltb x q) refl (place-parts q xs)
   where

@@ -10,5 +10,6 @@ pub mod Entering
 pub mod Arriving
 pub mod Keeping
 pub mod Claims
-pub mod InTurn
 pub mod Arrivals
+pub mod SendingPlan
+pub mod PlanClaims

@@ -6,8 +6,9 @@ pub mod Place
 pub mod Sending
 pub mod Returning
 pub mod InTurn
+pub mod SendingPlan
 pub mod Answer
-pub mod BatchAnswer
 pub mod Arrivals
 pub mod Columns
 pub mod Claims
+pub mod PlanClaims

@@ -1,31 +1,24 @@
-// Batch calls on the run sheet: many packets sent, many returns, with 21 judged once. The Rust has no such calls: each contract says that the
-// batch comes to what the single calls of leaf 6 come to, one after the other (specs/InTurn.antt).
+// Batch calls on the run sheet: a plan entered, a list of returns taken, with 21 judged once. The Rust has no such
+// calls. A plan is entered whole or not at all (specs/SendingPlan.antt); returns are taken as by the single calls of
+// leaf 6, one after the other (specs/InTurn.antt).
 use crate::ObserverCounts;
 use crate::Recorded;
 use crate::Recording;
+use plan::Interval;
+use plan::TrafficPlan;
 ghost use mathlib.Core.Path.{_≡_};
 ghost use mathlib.Core.Bool.{true};
-ghost use Prim.Native.Nat.{_<_, min};
+ghost use Prim.Native.Nat.{_+_, _≤_, min};
+ghost use lib.ListN.{length, take};
 ghost use Rattle.error.specs.Outcome.{outcomeNumber};
-ghost use Rattle.observer.specs.Judge.{wellFormed};
-ghost use Rattle.observer.specs.InTurn.{recordSentPlan};
+ghost use Rattle.plan.specs.Plan.{top, packetsOf};
+ghost use Rattle.plan.specs.Judge.{Planned};
+ghost use Rattle.observer.specs.Judge.{rising, wellFormed};
+ghost use Rattle.observer.specs.Place.{place};
 ghost use Rattle.observer.specs.Answer.{observerOf, recorded, recordingMeans};
-ghost use Rattle.observer.specs.BatchAnswer.{planRecorded, andThen, Behind};
+ghost use Rattle.observer.specs.SendingPlan.{sendInTurn, enteringStep, recordSentPlan};
+ghost use Rattle.observer.specs.PlanClaims.{AllOrNothing};
 ghost use Rattle.observer.specs.Arrivals.{arrivalAs, recordArrival, recordReturns, returnsRecorded};
-
-// What entering a plan answers: how many packets were entered, the number of the first that was refused or 0, and the counts afterwards.
-pub struct PlanRecorded {
-    pub entered: u64,
-    pub number: u8,
-    pub counts: ObserverCounts,
-}
-
-// The packets of a plan that are still to be entered: the next one, and how many.
-struct PacketsLeft {
-    sequence: u64,
-    time: u64,
-    left: u64,
-}
 
 // The number of an answer: 0 or the refusal's.
 fn answer_number(answer: Recording) -> u8
@@ -37,146 +30,134 @@ fn answer_number(answer: Recording) -> u8
     }
 }
 
-impl PlanRecorded {
-    // The answer after one packet more.
-    fn and_then(self, step: Recorded) -> Self
-        requires { ⌜ self .entered < 18446744073709551615 ⌝ }
-        ensures { λ r. ⌜ r ≡ andThen self step ⌝ }
-    {
-        let answer = step.answer;
-        let counts = step.counts;
-        let number = answer_number(answer);
-        if number == 0 {
-            return Self {
-                entered: self.entered + 1,
-                number: self.number,
-                counts: counts,
-            };
-        }
-        Self {
-            entered: self.entered,
-            number: if self.number == 0 {
-                number
-            } else {
-                self.number
-            },
-            counts: counts,
-        }
-    }
+// How many rows the packets of an accepted plan need. The rows rise, so those with a sequence of the plan stand
+// together, from the place of the first up to the place of the sequence behind the last; these need none.
+fn rows_needed(sequences: &[u64], used: usize, first: u64, count: u64) -> usize
+    requires { ⌜ (used ≤ length (now sequences)) × (rising (take used (now sequences)) ≡ true)
+        × (count ≤ 2048) × (first + count ≤ top) ⌝ }
+    ensures { λ r. ⌜ r + place (first + count) (take used (now (sequences .entry)))
+        ≡ count + place first (take used (now (sequences .entry))) ⌝ }
+{
+    let low = crate::find(sequences, used, first);
+    let high = crate::find(sequences, used, first + count);
+    (count as usize) + low - high
 }
 
-impl PacketsLeft {
-    // What is left behind the next packet: nothing where a sequence or a time would pass its top.
-    fn behind(self, interval_ns: u64) -> Self
-        requires { ⌜ 0 < self .left ⌝ }
-        ensures { λ r. ⌜ Behind «interval_ns» self r ⌝ }
-    {
-        if self.sequence == 18446744073709551615 {
-            return Self {
-                sequence: 0,
-                time: 0,
-                left: 0,
-            };
-        }
-        if 18446744073709551615 - self.time < interval_ns {
-            return Self {
-                sequence: 0,
-                time: 0,
-                left: 0,
-            };
-        }
-        Self {
-            sequence: self.sequence + 1,
-            time: self.time + interval_ns,
-            left: self.left - 1,
-        }
-    }
-}
-
-// The packets of a plan, on an observer that was judged.
+// Enters the packets of an accepted plan one after the other, on an observer that was judged: the counts afterwards.
 fn enter_packets(
     sequences: &mut [u64],
     send_timestamps: &mut [u64],
     latencies: &mut [u64],
     marks: &mut [u8],
     counts: ObserverCounts,
-    first_sequence: u64,
-    first_send_timestamp_ns: u64,
-    interval_ns: u64,
-    packet_count: u64,
-) -> PlanRecorded
-    requires { ⌜ wellFormed (observerOf (now sequences) (now «send_timestamps») (now latencies) (now marks) counts) ≡ true ⌝ }
-    ensures { λ r. ⌜ planRecorded r (now (sequences .exit)) (now («send_timestamps» .exit)) (now (latencies .exit)) (now (marks .exit))
-        ≡ recordSentPlan (observerOf (now (sequences .entry)) (now («send_timestamps» .entry)) (now (latencies .entry)) (now (marks .entry)) counts)
-        «first_sequence» «first_send_timestamp_ns» «interval_ns» «packet_count» ⌝ }
+    plan: TrafficPlan,
+    interval: u64,
+    next_sequence: u64,
+) -> ObserverCounts
+    requires { ⌜ (wellFormed (observerOf (now sequences) (now «send_timestamps») (now latencies) (now marks) counts) ≡ true)
+        × Planned plan interval «next_sequence» ⌝ }
+    ensures { λ r. ⌜ observerOf (now (sequences .exit)) (now («send_timestamps» .exit)) (now (latencies .exit)) (now (marks .exit)) r
+        ≡ sendInTurn (observerOf (now (sequences .entry)) (now («send_timestamps» .entry)) (now (latencies .entry)) (now (marks .entry)) counts)
+        (packetsOf plan «next_sequence») .observer ⌝ }
 {
-    let mut so_far = PlanRecorded {
-        entered: 0,
-        number: 0,
-        counts: counts,
-    };
-    let mut packets = PacketsLeft {
-        sequence: first_sequence,
-        time: first_send_timestamp_ns,
-        left: packet_count,
-    };
-    while 0 < packets.left {
-        let before = so_far.counts;
+    let mut so_far = counts;
+    let mut k = 0;
+    while k < plan.packet_count {
         let step = crate::enter(
             sequences,
             send_timestamps,
             latencies,
             marks,
-            before,
-            packets.sequence,
-            packets.time,
+            so_far,
+            next_sequence + k,
+            plan.first_send_timestamp_ns + k * interval,
         );
-        so_far = so_far.and_then(step);
-        packets = packets.behind(interval_ns);
+        so_far = step.counts;
+        k += 1;
     }
     so_far
 }
 
-// Records the packets of a plan as sent, in plan order: packet k has the sequence first + k and the time first + k × interval. Each is entered
-// or refused as `record_sent` would, by 21 or 22.
+// The packets of an accepted plan, on an observer that was judged: 22, or all of them are entered.
+fn enter_plan(
+    sequences: &mut [u64],
+    send_timestamps: &mut [u64],
+    latencies: &mut [u64],
+    marks: &mut [u8],
+    counts: ObserverCounts,
+    plan: TrafficPlan,
+    interval: u64,
+    next_sequence: u64,
+) -> Recorded
+    requires { ⌜ (wellFormed (observerOf (now sequences) (now «send_timestamps») (now latencies) (now marks) counts) ≡ true)
+        × Planned plan interval «next_sequence» ⌝ }
+    ensures { λ r. ⌜ recorded r (now (sequences .exit)) (now («send_timestamps» .exit)) (now (latencies .exit)) (now (marks .exit))
+        ≡ enteringStep (observerOf (now (sequences .entry)) (now («send_timestamps» .entry)) (now (latencies .entry)) (now (marks .entry)) counts)
+        (packetsOf plan «next_sequence») ⌝ }
+{
+    let used = counts.used;
+    let room = crate::capacity(
+        sequences.len(),
+        send_timestamps.len(),
+        latencies.len(),
+        marks.len(),
+    );
+    if room - used < rows_needed(sequences, used, next_sequence, plan.packet_count) {
+        return counts.refused(error::OBSERVER_FULL);
+    }
+    let after = enter_packets(
+        sequences,
+        send_timestamps,
+        latencies,
+        marks,
+        counts,
+        plan,
+        interval,
+        next_sequence,
+    );
+    after.accepted()
+}
+
+// Records the packets of a plan as sent, all or none, the first with this sequence. Refuses by 21, then as the
+// generator judges the plan (16 to 20), then by 22.
 pub fn record_sent_plan(
     sequences: &mut [u64],
     send_timestamps: &mut [u64],
     latencies: &mut [u64],
     marks: &mut [u8],
     counts: ObserverCounts,
-    first_sequence: u64,
-    first_send_timestamp_ns: u64,
-    interval_ns: u64,
-    packet_count: u64,
-) -> PlanRecorded
-    ensures { λ r. ⌜ planRecorded r (now (sequences .exit)) (now («send_timestamps» .exit)) (now (latencies .exit)) (now (marks .exit))
+    plan: TrafficPlan,
+    next_sequence: u64,
+) -> Recorded
+    ensures { λ r. ⌜ recorded r (now (sequences .exit)) (now («send_timestamps» .exit)) (now (latencies .exit)) (now (marks .exit))
         ≡ recordSentPlan (observerOf (now (sequences .entry)) (now («send_timestamps» .entry)) (now (latencies .entry)) (now (marks .entry)) counts)
-        «first_sequence» «first_send_timestamp_ns» «interval_ns» «packet_count» ⌝ }
+        plan «next_sequence» ⌝ }
 {
-    if !crate::well_formed(sequences, send_timestamps, latencies, marks, counts) {
-        return PlanRecorded {
-            entered: 0,
-            number: if packet_count == 0 {
-                0
-            } else {
-                error::MALFORMED_OBSERVER
-            },
-            counts: counts,
-        };
+    let well_formed = crate::well_formed(sequences, send_timestamps, latencies, marks, counts);
+    if !well_formed {
+        return counts.refused(error::MALFORMED_OBSERVER);
     }
-    enter_packets(
-        sequences,
-        send_timestamps,
-        latencies,
-        marks,
-        counts,
-        first_sequence,
-        first_send_timestamp_ns,
-        interval_ns,
-        packet_count,
-    )
+    let judged = plan::judge_plan(plan, next_sequence);
+    let answer = judged.interval;
+    match answer {
+        Interval::Refused(number) => counts.refused(number),
+        Interval::Nanoseconds(interval) => enter_plan(
+            sequences,
+            send_timestamps,
+            latencies,
+            marks,
+            counts,
+            plan,
+            interval,
+            next_sequence,
+        ),
+    }
 }
+
+// A plan is entered whole or not at all.
+pub fn plan_all_or_nothing()
+    ensures { λ _. ⌜ AllOrNothing ⌝ }
+{}
 
 // Whether a list of returns was taken, and how many returns it had.
 pub enum ReturnsRecording {

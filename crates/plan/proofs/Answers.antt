@@ -1,13 +1,13 @@
 -- What the code's answer to a judgement says of it.
 -- Assumes nothing.
-use Prim.Native.Nat.{ℕ, zero, suc, _+_, _<_, _≤_}
+use Prim.Native.Nat.{ℕ, zero, suc, _+_, _*_, _<_, _≤_}
 use native.Mathlib.Omega.{arith}
 use mathlib.Core.Path.{_≡_, refl, sym, ap, _∙_}
 use mathlib.Core.List.{List}
 use Rattle.error.specs.Outcome.{Outcome, refused, gives}
 use Rattle.measurement.specs.declared.MeasurementHeader.{MeasurementHeader}
-use Rattle.plan.specs.Plan.{top, interval, judgePlan}
-use Rattle.plan.specs.Judge.{intervalAnswer, judgedPlan}
+use Rattle.plan.specs.Plan.{top, interval, timeAt, judgePlan}
+use Rattle.plan.specs.Judge.{intervalAnswer, judgedPlan, Planned}
 use Rattle.plan.specs.Claims.{Acceptable, accepted}
 use Rattle.plan.specs.declared.Interval.the-variants as answer
 use Rattle.plan.specs.declared.JudgedPlan.{JudgedPlan}
@@ -15,7 +15,7 @@ use Rattle.plan.specs.declared.TrafficPlan.{TrafficPlan}
 use Rattle.plan.proofs.Judged.{plan-accepted}
 
 -- the sequence behind the last
-pub behind-last : (n next : ℕ) → next ≤ top → ((k : ℕ) → k < n → next + k < top) → next + n ≤ top
+behind-last : (n next : ℕ) → next ≤ top → ((k : ℕ) → k < n → next + k < top) → next + n ≤ top
 behind-last zero next low all = omega arith
 behind-last (suc n) next low all = omega (arith, all n (omega arith))
 
@@ -57,3 +57,21 @@ module _ (plan : TrafficPlan) (next : ℕ) (r : JudgedPlan) (e : r ≡ judgedPla
           let same : i ≡ interval (plan .«target_rate_pps») = cc in
           let h = plan-accepted plan next p q in
           (same, h .0, h .1)
+
+  pub answer-planned : (i : ℕ) → r .interval ≡ answer.Nanoseconds i → next ≤ top → Planned plan i next
+  answer-planned i a low =
+      let t = answer-accepted i a in
+      record {
+        is = t .0;
+        count = t .1 .count-within;
+        sequences = behind-last (plan .«packet_count») next low (t .1 .sequences);
+        times = t .1 .times;
+      }
+
+-- the time of packet k
+pub planned-time : {plan : TrafficPlan} {i next : ℕ} → Planned plan i next → (k : ℕ) → plan .«first_send_timestamp_ns» + k * i ≡ timeAt plan k
+planned-time {plan} p k = ap (λ (x : ℕ). plan .«first_send_timestamp_ns» + k * x) (p .is)
+
+pub planned-fits : {plan : TrafficPlan} {i next : ℕ} → Planned plan i next → (k : ℕ) → k < plan .«packet_count»
+    → plan .«first_send_timestamp_ns» + k * i ≤ top
+planned-fits p k h = rw (planned-time p k) (p .times k h)

@@ -14,7 +14,7 @@ use Rattle.error.proofs.Causes as causes
 use Rattle.error.proofs.Causes.{refused-gives}
 use Rattle.measurement.specs.declared.MeasurementHeader.{MeasurementHeader}
 use Rattle.plan.specs.Plan.{top, interval, rateCauses, intervalOf, timeAt, packetAt, packetsFrom, packetsOf, PlanCause, _⇒_leaves_, leaving, causesAt, causesFrom, Judged, firstPlanCause, judgePackets, planCauses, judgePlan}
-use Rattle.plan.specs.Claims.{accepted, AcceptedIfAcceptable, AcceptableIfAccepted, SequenceDecides, TimeDecides, Each, Ordered, PacketsOrdered, Intervals, Examples}
+use Rattle.plan.specs.Claims.{accepted, AcceptedIfAcceptable, AcceptableIfAccepted, SequenceDecides, TimeDecides, PlanNumbers, Each, Ordered, PacketsOrdered, Intervals, Examples}
 use Rattle.plan.specs.declared.TrafficPlan.{TrafficPlan}
 use Rattle.plan.proofs.Rows.{passes, leaving-passes}
 use Rattle.plan.proofs.Judged.{judged-19, judged-20, judged-accepted, plan-accepted}
@@ -113,6 +113,33 @@ module _ (next : ℕ) where
   unfolding judgePlan judgePackets
   by-plan plan =
       by-rows (planCauses plan) (judgePackets plan next) (by-packets plan (plan .«packet_count») 0 (accepted plan next) (λ n e. absurd (refused-gives (sym e))))
+
+-- the numbers of the rows
+abbrev OnCard : ℕ → Type 0
+OnCard n = (16 ≤ n) × (n ≤ 20)
+
+data Numbers : List PlanCause → Type 0 where
+  end : Numbers []
+  row : {t : Bool} {n kept : ℕ} {rows : List PlanCause} → OnCard n → Numbers rows → Numbers ((t ⇒ n leaves kept) ∷ rows)
+
+by-number : (rows : List PlanCause) (o : Judged) → Numbers rows → ((n : ℕ) → o .outcome ≡ refused n → OnCard n)
+    → (n : ℕ) → firstPlanCause rows o .outcome ≡ refused n → OnCard n
+unfolding firstPlanCause
+by-number [] o end h n e = h n e
+by-number ((true ⇒ m leaves kept) ∷ rows) o (row k q) h n e = let same : n ≡ m = same-refusal e in rw same k
+by-number ((false ⇒ m leaves kept) ∷ rows) o (row k q) h n e = by-number rows o q h n e
+
+packet-numbers : (plan : TrafficPlan) (next n k : ℕ) → Numbers (causesFrom plan next n k)
+unfolding causesFrom causesAt
+packet-numbers plan next zero k = end
+packet-numbers plan next (suc n) k = row {n = 19} (omega arith, omega arith) (row {n = 20} (omega arith, omega arith) (packet-numbers plan next n (suc k)))
+
+pub plan-numbers : PlanNumbers
+unfolding judgePlan judgePackets planCauses rateCauses leaving
+plan-numbers plan next n e =
+    by-number _ (judgePackets plan next)
+    (row {n = 16} (omega arith, omega arith) (row {n = 17} (omega arith, omega arith) (row {n = 18} (omega arith, omega arith) end)))
+    (by-number _ (accepted plan next) (packet-numbers plan next (plan .«packet_count») 0) (λ m f. absurd (refused-gives (sym f)))) n e
 
 -- examples
 pub intervals : Intervals

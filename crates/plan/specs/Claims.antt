@@ -45,6 +45,10 @@ abbrev pub TimeDecides : Type 0
 TimeDecides = (plan : TrafficPlan) (next k : ℕ) → FirstAt plan next k → next + k < top → top < timeAt plan k
     → judgePlan plan next ≡ record { outcome = refused 20; next = next + k + 1 }
 
+-- A plan is refused by 16 to 20, and by no other number.
+abbrev pub PlanNumbers : Type 0
+PlanNumbers = (plan : TrafficPlan) (next n : ℕ) → judgePlan plan next .outcome ≡ refused n → (16 ≤ n) × (n ≤ 20)
+
 -- What holds of every element.
 abbrev pub Each : {A : Type 0} → (A → Type 0) → List A → Type 0
 Each P [] = Unit {0}

@@ -5,7 +5,7 @@ use mathlib.Core.Path.{_≡_}
 use mathlib.Core.List.{List}
 use Rattle.error.specs.Outcome.{Outcome, refused, gives}
 use Rattle.measurement.specs.declared.MeasurementHeader.{MeasurementHeader}
-use Rattle.plan.specs.Plan.{top, interval, Judged}
+use Rattle.plan.specs.Plan.{top, interval, timeAt, Judged}
 use Rattle.plan.specs.declared.Interval.{Interval}
 use Rattle.plan.specs.declared.Interval.the-variants as answer
 use Rattle.plan.specs.declared.JudgedPlan.{JudgedPlan}
@@ -19,7 +19,15 @@ intervalAnswer i (gives packets) = answer.Nanoseconds i
 abbrev pub judgedPlan : TrafficPlan → Judged → JudgedPlan
 judgedPlan plan judged = record { interval = intervalAnswer (interval (plan .«target_rate_pps»)) (judged .outcome); «next_sequence» = judged .next }
 
--- So many of `count` packets have a time that fits: those before it do, and it does not.
+-- What the judgement of an accepted plan says of its packets: this is their interval, and no sequence and no time
+-- passes its top.
+pub record Planned (plan : TrafficPlan) (i next : ℕ) : Type 0 where
+  pub is : i ≡ interval (plan .«target_rate_pps»)
+  pub count : plan .«packet_count» ≤ 2048
+  pub sequences : next + plan .«packet_count» ≤ top
+  pub times : (k : ℕ) → k < plan .«packet_count» → timeAt plan k ≤ top
+
+-- The first r of `count` packets have a time that fits, and packet r does not.
 pub record InTime (first i count r : ℕ) : Type 0 where
   pub within : r ≤ count
   pub before : (k : ℕ) → k < r → first + k * i ≤ top

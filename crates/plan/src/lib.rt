@@ -1,5 +1,5 @@
-// Traffic plans and how they are judged (leaf 5; `TrafficPlan` of the Rust's traffic.rs). One judge serves every call that is handed a plan.
-// What makes a plan refused, and which packets it asks for, is defined in specs/Plan.antt.
+// Traffic plans and how they are judged (leaf 5; `TrafficPlan` of the Rust's traffic.rs). One judge serves every call
+// that is handed a plan. By what a plan is refused, and which packets it asks for, is defined in specs/Plan.antt.
 ghost use mathlib.Core.Path.{_≡_};
 ghost use Prim.Native.Nat.{_<_};
 ghost use Rattle.plan.specs.Plan.{intervalOf, intervalMeans, judgePackets, judgePlan};

@@ -1,83 +1,94 @@
 -- The claims of specs/Batches.antt, proved.
 -- Assumes nothing.
-use Prim.Native.Nat.{ℕ, zero, suc, _+_, _≤_, _<_}
+use Prim.Native.Nat.{ℕ, zero, suc, _≤_}
 use mathlib.Core.Path.{_≡_, refl, sym, ap, _∙_}
-use mathlib.Core.List.{List, [], _∷_, map}
+use mathlib.Core.List.{List, [], _∷_, map, List·Memᴰ, List·Memᴰ·head, List·Memᴰ·tail}
 use mathlib.Core.Bool.{Bool, true, false}
-use native.Mathlib.Nat.{zero-mul, suc-mul}
 use native.Mathlib.Omega.{arith}
-use lib.ListN.{take}
+use lib.Dec.{eqb, ltb}
+use lib.ListN.{take, replicate}
+use borrow.Author.Tests.{eqb-true, eqb-false, ltb-true, ltb-false}
+use Rattle.error.specs.Number.{malformedObserver, observerFull}
+use Rattle.error.specs.Outcome.{Outcome, refused, gives, outcomeNumber}
 use Rattle.measurement.specs.declared.InnerIpFlow.{InnerIpFlow}
 use Rattle.measurement.specs.declared.MeasurementHeader.{MeasurementHeader}
-use Rattle.plan.specs.Plan.{top, interval, timeAt, packetsOf, Judged}
-use Rattle.plan.specs.Plan as plans
+use Rattle.plan.specs.Plan.{packetsOf, Judged}
 use Rattle.plan.specs.declared.TrafficPlan.{TrafficPlan}
-use Rattle.plan.proofs.Claims.{acceptable-if-accepted}
 use Rattle.traffic.proofs.Claims.{success-is-complete}
-use Rattle.error.specs.Outcome.{Outcome, refused, gives}
-use Rattle.observer.specs.Observer.{Observer}
-use Rattle.observer.specs.Judge.{wellFormed, judged, Step, afterReading}
+use Rattle.observer.specs.Observer.{Observer, capacity, rows}
+use Rattle.observer.specs.Judge.{wellFormed, judged, Step, step, afterReading}
+use Rattle.observer.specs.Place.{wasSent}
 use Rattle.observer.specs.Sending.{recordSent}
 use Rattle.observer.specs.Returning.{recordReturn}
-use Rattle.observer.specs.InTurn.{Steps, Packet, packetsFrom, goesOn, inTurn, sendPacket, recordSentPlan}
+use Rattle.observer.specs.InTurn.{Steps, inTurn}
 use Rattle.observer.specs.Arrivals.{arrivedIn}
-use Rattle.observer.proofs.Calls.{judged-malformed, judged-well, refusing-malformed, return-malformed}
-use Rattle.observer.proofs.InTurn.{on-goes}
+use Rattle.observer.specs.SendingPlan.{sendInTurn, rowsNeeded, freeRows}
+use Rattle.observer.proofs.Calls.{judged-malformed, judged-well, refusing-malformed, return-malformed, sent-malformed, sent-again, sent-full, sent-new}
+use Rattle.observer.proofs.SendingPlan.{one-refused, entering-whole, plan-judged}
+use Rattle.observer.proofs.PlanClaims.{all-or-nothing}
 use Rattle.continuity.specs.Returns.{sequenceRead, recordReceivedTpdu}
 use Rattle.continuity.specs.Batch.{Received, tpdusOf, receivedOf, recordReceived, returnsIn, recordReceivedTpdus}
-use Rattle.tally.specs.Demand.{sendAll, receiveAll}
+use Rattle.tally.specs.Demand.{sendAll, NoneRefused, receiveAll}
 use Rattle.tally.specs.Batches.{PlanEntered, handedTpdu, ReturnsTaken, Batches}
+use Rattle.tally.proofs.Entry.{fresh-ready}
 
-abbrev asPacket : MeasurementHeader → Packet
-asPacket p = record { sequence = p .sequence; time = p .«send_timestamp_ns» }
-
--- the packets of a plan that passes no top
-module _ (plan : TrafficPlan) (next : ℕ) where
-  one-later : (k : ℕ) → timeAt plan k + interval (plan .«target_rate_pps») ≡ timeAt plan (suc k)
-  one-later k = omega (arith, suc-mul k (interval (plan .«target_rate_pps»)))
-
-  same-packets : (n k : ℕ) → ((j : ℕ) → j < n → next + (k + j) < top) → ((j : ℕ) → j < n → timeAt plan (k + j) ≤ top)
-      → packetsFrom (interval (plan .«target_rate_pps»)) (next + k) (timeAt plan k) n ≡ map asPacket (plans.packetsFrom plan next n k)
-  unfolding plans.packetsFrom
-  same-packets zero k s t = refl
-  same-packets (suc zero) k s t = ap (λ (l : List Packet). record { sequence = next + k; time = timeAt plan k } ∷ l) (none (goesOn (interval (plan .«target_rate_pps»)) (next + k) (timeAt plan k)))
-    where
-      none : (b : Bool) → _≡_ {A = List Packet} (elim b [ true ↦ [] | false ↦ [] ]) []
-      none true = refl
-      none false = refl
-  same-packets (suc (suc n)) k s t =
-      let i : ℕ = interval (plan .«target_rate_pps») in
-      let at : k + 1 ≡ suc k = omega arith in
-      let later : timeAt plan (k + 1) ≡ timeAt plan k + i = ap (timeAt plan) at ∙ sym (one-later k) in
-      let on : goesOn i (next + k) (timeAt plan k) ≡ true =
-      on-goes i (next + k) (timeAt plan k) (omega (arith, s 0 (omega arith))) (omega (arith, later, t 1 (omega arith))) in
-      let sum : next + k + 1 ≡ next + suc k = omega arith in
-      ap (λ (l : List Packet). record { sequence = next + k; time = timeAt plan k } ∷ l)
-      (ap (λ (b : Bool). elim b as (λ (x : Bool). List Packet) [ true ↦ packetsFrom i (next + k + 1) (timeAt plan k + i) (suc n) | false ↦ [] ]) on
-      ∙ (λ j. packetsFrom i (sum j) (one-later k j) (suc n))
-      ∙ same-packets (suc n) (suc k)
-      (λ j h. omega (arith, s (suc j) (omega arith)))
-      (λ j h. rw (let e : suc k + j ≡ k + suc j = omega arith in e) (t (suc j) (omega arith))))
-
-sends : (o : Observer) (headers : List MeasurementHeader) → inTurn sendPacket o (map asPacket headers) .observer ≡ sendAll o headers
+sends : (o : Observer) (packets : List MeasurementHeader) → sendInTurn o packets .observer ≡ sendAll o packets
 sends o [] = refl
-sends o (p ∷ headers) = sends (recordSent o (p .sequence) (p .«send_timestamp_ns») .observer) headers
+sends o (p ∷ packets) = sends (recordSent o (p .sequence) (p .«send_timestamp_ns») .observer) packets
+
+-- no number is 22 where none is refused
+none-full : (o : Observer) (packets : List MeasurementHeader) → NoneRefused o packets → List·Memᴰ observerFull (sendInTurn o packets .numbers) → ⊥
+none-full o (p ∷ packets) h (List·Memᴰ·head e) =
+    let z : observerFull ≡ 0 = e ∙ ap (λ (x : Outcome (Unit {0})). outcomeNumber x) (h .0) in
+    omega arith
+none-full o (p ∷ packets) h (List·Memᴰ·tail m) = none-full (recordSent o (p .sequence) (p .«send_timestamp_ns») .observer) packets (h .1) m
+
+-- a call whose number is 0 was taken
+taken : (o : Observer) (q t : ℕ) → outcomeNumber (recordSent o q t .outcome) ≡ 0 → recordSent o q t .outcome ≡ gives tt
+taken o q t z = go (wellFormed o) (wasSent q (rows o)) (eqb (o .counts .used) (capacity o)) refl refl refl
+  where
+    by : (n : ℕ) → step o (refused n) ≡ recordSent o q t → n ≡ 0
+    by n e = ap (λ (s : Step). outcomeNumber (s .outcome)) e ∙ z
+
+    go : (well known full : Bool) → wellFormed o ≡ well → wasSent q (rows o) ≡ known → eqb (o .counts .used) (capacity o) ≡ full
+        → recordSent o q t .outcome ≡ gives tt
+    go false known full w e f = absurd (omega (arith, by malformedObserver (sent-malformed o q t w)))
+    go true true full w e f = sym (ap (λ (s : Step). s .outcome) (sent-again o w q t e))
+    go true false true w e f = absurd (omega (arith, by observerFull (sent-full o w q t e (eqb-true _ _ f))))
+    go true false false w e f = sym (ap (λ (s : Step). s .outcome) (sent-new o w q t e (eqb-false _ _ f)))
+
+head-is : {a b : ℕ} {l m : List ℕ} → a ∷ l ≡ b ∷ m → a ≡ b
+head-is e = cc
+
+tail-is : {a b : ℕ} {l m : List ℕ} → a ∷ l ≡ b ∷ m → l ≡ m
+tail-is e = cc
+
+not-empty : {a : ℕ} {l : List ℕ} → a ∷ l ≡ [] → ⊥
+not-empty e = let z : _≡_ {A = ℕ} 0 1 = cc in omega arith
+
+all-zero : (n : ℕ) (o : Observer) (packets : List MeasurementHeader) → sendInTurn o packets .numbers ≡ replicate n 0 → NoneRefused o packets
+all-zero n o [] e = tt
+all-zero zero o (p ∷ packets) e = absurd (not-empty e)
+all-zero (suc n) o (p ∷ packets) e =
+    (taken o (p .sequence) (p .«send_timestamp_ns») (head-is e), all-zero n (recordSent o (p .sequence) (p .«send_timestamp_ns») .observer) packets (tail-is e))
 
 plan-entered : PlanEntered
-unfolding recordSentPlan packetsOf
-plan-entered flow plan next a o =
+plan-entered flow plan next a o f =
     let c = success-is-complete flow plan next (a .buffer) (a .bytes) (a .generated) in
-    let fits = acceptable-if-accepted plan next (packetsOf plan next) (ap (λ (j : Judged). j .outcome) (c .judged)) .0 in
-    let i : ℕ = interval (plan .«target_rate_pps») in
-    let n : ℕ = plan .«packet_count» in
-    let first : plan .«first_send_timestamp_ns» ≡ timeAt plan 0 = omega (arith, zero-mul i) in
-    let zero-on : next ≡ next + 0 = omega arith in
-    ap (λ (l : List Packet). inTurn sendPacket o l .observer)
-    ((λ j. packetsFrom i (zero-on j) (first j) n)
-    ∙ same-packets plan next n 0
-    (λ j h. omega (arith, fits .sequences j h))
-    (λ j h. rw (let e : 0 + j ≡ j = omega arith in e) (fits .times j h)))
-    ∙ sends o (packetsOf plan next)
+    let w : wellFormed o ≡ true = fresh-ready plan next o f .well in
+    record {
+      all-sent = λ t.
+          sym (ap (λ (x : Observer). step o (gives x)) (sym (sends o (packetsOf plan next)))
+          ∙ ap (step o) (entering-whole o (packetsOf plan next) (room w (t .none-refused) (ltb (freeRows o) (rowsNeeded (rows o) (packetsOf plan next))) refl))
+          ∙ plan-judged o plan next w _ (ap (λ (j : Judged). j .outcome) (c .judged)));
+      only-if-all = λ g.
+          record { is-fresh = f; none-refused = all-zero (plan .«packet_count») o (packetsOf plan next) (all-or-nothing .entered-whole o plan next g .none-refused) };
+    }
+  where
+    room : wellFormed o ≡ true → NoneRefused o (packetsOf plan next) → (b : Bool) → ltb (freeRows o) (rowsNeeded (rows o) (packetsOf plan next)) ≡ b
+        → rowsNeeded (rows o) (packetsOf plan next) ≤ freeRows o
+    room w h true t = absurd (none-full o (packetsOf plan next) h (one-refused plan next o w (ltb-true _ _ t)))
+    room w h false t = ltb-false _ _ t
 
 takes : (o : Observer) (rs : List Received) → inTurn recordReceived o rs .observer ≡ receiveAll o (map handedTpdu rs)
 takes o [] = refl

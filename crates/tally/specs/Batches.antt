@@ -1,23 +1,30 @@
--- Demand 3 speaks of single calls. The batch calls leave the observers that these leave, so it holds of runs that are made with them.
--- proofs/Batches.antt proves it.
+-- Demand 3 speaks of single calls. The batch calls leave the observers that these leave, so it holds of runs that are
+-- made with them. proofs/Batches.antt proves it.
 -- Assumes nothing.
 use Prim.Native.Nat.{ℕ}
 use mathlib.Core.Path.{_≡_}
 use mathlib.Core.List.{List, map}
 use lib.ListN.{take}
+use Rattle.error.specs.Outcome.{gives}
 use Rattle.measurement.specs.declared.InnerIpFlow.{InnerIpFlow}
-use Rattle.plan.specs.Plan.{interval, packetsOf}
+use Rattle.plan.specs.Plan.{packetsOf}
 use Rattle.plan.specs.declared.TrafficPlan.{TrafficPlan}
+use Rattle.observer.specs.Counts.{fresh}
 use Rattle.observer.specs.Observer.{Observer}
-use Rattle.observer.specs.InTurn.{recordSentPlan}
+use Rattle.observer.specs.SendingPlan.{recordSentPlan}
 use Rattle.continuity.specs.Batch.{Received, tpdusOf, receivedOf, returnsIn, recordReceivedTpdus}
-use Rattle.tally.specs.Demand.{Accepted, sendAll, tpduCall, Handed, receiveAll}
+use Rattle.tally.specs.Demand.{Accepted, sendAll, Takes, tpduCall, Handed, receiveAll}
 
--- An accepted plan, entered in one call: all of its packets are sent, in plan order.
+-- An accepted plan, entered in one call on a fresh observer. The call is taken if and only if no single call refuses a
+-- packet, and then all packets are sent, in plan order: what demand 3 begins with is what the one call answers.
+pub record EnteredInOneCall (plan : TrafficPlan) (next : ℕ) (o : Observer) : Type 0 where
+  pub all-sent : Takes plan next o
+      → recordSentPlan o plan next ≡ record { outcome = gives tt; observer = sendAll o (packetsOf plan next) }
+  pub only-if-all : recordSentPlan o plan next .outcome ≡ gives tt → Takes plan next o
+
 abbrev pub PlanEntered : Type 0
-PlanEntered = (flow : InnerIpFlow) (plan : TrafficPlan) (next : ℕ) → Accepted flow plan next → (o : Observer)
-    → recordSentPlan o next (plan .«first_send_timestamp_ns») (interval (plan .«target_rate_pps»)) (plan .«packet_count») .observer
-    ≡ sendAll o (packetsOf plan next)
+PlanEntered = (flow : InnerIpFlow) (plan : TrafficPlan) (next : ℕ) → Accepted flow plan next
+    → (o : Observer) → o .counts ≡ fresh → EnteredInOneCall plan next o
 
 -- A T-PDU of a list, handed to the single call.
 abbrev pub handedTpdu : Received → Handed

@@ -20,7 +20,7 @@ use Rattle.plan.specs.Claims.{Acceptable, accepted}
 use Rattle.plan.specs.declared.Interval.the-variants as answer
 use Rattle.plan.specs.declared.JudgedPlan.{JudgedPlan}
 use Rattle.plan.specs.declared.TrafficPlan.{TrafficPlan}
-use Rattle.plan.proofs.Answers.{behind-last, next-is, answer-refused, answer-accepted}
+use Rattle.plan.proofs.Answers.{next-is, answer-refused, answer-accepted, answer-planned}
 use Rattle.traffic.specs.Generate.{endToEnd, placing, generateOf, generated}
 use Rattle.traffic.specs.Fits.{Fits}
 use Rattle.traffic.proofs.Packets.{size, packets-length}
@@ -89,14 +89,7 @@ module _ (flow : InnerIpFlow) (plan : TrafficPlan) (next : ℕ) (buffer : List �
 
       pub answer-fits : (s : ℕ) → s ≡ size flow → next ≤ top → plan .«packet_count» * s ≤ length buffer → Fits flow plan i next buffer
       answer-fits s es low h =
-          let t = answer-accepted plan next r e i a in
-          record {
-            is = t .0;
-            count = t .1 .count-within;
-            sequences = behind-last (plan .«packet_count») next low (t .1 .sequences);
-            times = t .1 .times;
-            room = omega (arith, ap (λ (x : ℕ). plan .«packet_count» * x) es);
-          }
+          record { planned = answer-planned plan next r e i a low; room = omega (arith, ap (λ (x : ℕ). plan .«packet_count» * x) es) }
 
       pub answer-written : (s : ℕ) (whole : List ℕ) → s ≡ size flow → plan .«packet_count» * s ≤ length buffer
           → whole ≡ bytes-of ++ drop (plan .«packet_count» * size flow) buffer

@@ -16,6 +16,7 @@ use Rattle.measurement.specs.declared.Written.{Written}
 use Rattle.measurement_build.proofs.Whole.{build-length, writing-fits}
 use Rattle.plan.specs.Plan.{top, timeAt, packetAt, packetsFrom, packetsOf}
 use Rattle.plan.specs.declared.TrafficPlan.{TrafficPlan}
+use Rattle.plan.proofs.Answers.{planned-time, planned-fits}
 use Rattle.traffic.specs.Generate.{endToEnd}
 use Rattle.traffic.specs.Fits.{Fits}
 
@@ -65,13 +66,13 @@ module _ (plan : TrafficPlan) (next : ℕ) where
 
     -- the time of packet k, and its place
     pub time-fits : (i k : ℕ) (out : List ℕ) → Fits flow plan i next out → k < plan .«packet_count» → plan .«first_send_timestamp_ns» + k * i ≤ top
-    time-fits i k out f h = rw (f .is) (f .times k h)
+    time-fits i k out f h = planned-fits (f .planned) k h
 
     pub part-fits : (i k at s : ℕ) (out : List ℕ) → Fits flow plan i next out → s ≡ size flow → at ≡ k * s → k < plan .«packet_count» → at + s ≤ length out
     part-fits i k at s out f es ea h = omega (arith, room (plan .«packet_count») k h, f .room, ap (λ (x : ℕ). k * x) es)
 
     pub time-is : (i k : ℕ) (out : List ℕ) → Fits flow plan i next out → plan .«first_send_timestamp_ns» + k * i ≡ timeAt plan k
-    time-is i k out f = ap (λ (x : ℕ). plan .«first_send_timestamp_ns» + k * x) (f .is)
+    time-is i k out f = planned-time (f .planned) k
 
     -- packet k is built behind those before it
     pub turn : (k at s time : ℕ) (out whole part : List ℕ) (r : Written) → time ≡ timeAt plan k → s ≡ size flow → at ≡ k * s → at + s ≤ length out

@@ -1,10 +1,12 @@
 -- `exports::testkit_record_sent_plan` meets its contract.
 -- Assumes nothing.
 use mathlib.Core.Path.{ap, _∙_}
-use borrow.Author.Needs.{needs}
 use Rattle.observer.specs.Answer.{observerOf}
-use Rattle.observer.specs.InTurn.{recordSentPlan}
+use Rattle.observer.specs.SendingPlan.{recordSentPlan}
 use Rattle.observer.specs.declared.ObserverCounts.{ObserverCounts}
+use Rattle.exports.specs.Interface.{planOf}
+use Rattle.exports.proofs.Calls.{stepped}
+use borrow.Author.Needs.{needs}
 use Rattle.exports.proofs.testkit_record_sent_plan.Statement.{statement}
 use Rattle.exports.proofs.testkit_record_sent_plan.Tie as tie
 
@@ -13,6 +15,9 @@ counts-of-requires c κs = search needs
 
 record-sent-plan-requires : tie.Need-record-sent-plan-requires
 record-sent-plan-requires c κs = search needs
+
+recorded-numbers-requires : tie.Need-recorded-numbers-requires
+recorded-numbers-requires c κs = search needs
 
 same-length : tie.Need-same-length
 same-length c = search needs
@@ -31,10 +36,12 @@ returns c =
     let b = c .before .before .before .before .before .before .before .before .before in
     let k = b .before in
     let a = k .before .before .before .before .before .before .before .before .before .args in
-    b .record-sent-plan .ensures
+    let e = b .record-sent-plan .ensures
     ∙ ap (λ (x : ObserverCounts). recordSentPlan (observerOf (a .sequences .now) (a .send-timestamps .now) (a .latencies .now) (a .marks .now) x)
-    (a .first-sequence) (a .first-send-timestamp-ns) (a .interval-ns) (a .packet-count))
-    (k .counts-of .ensures)
+    (planOf (a .packet-count) (a .target-rate-pps) (a .first-send-timestamp-ns)) (a .next-sequence))
+    (k .counts-of .ensures) in
+    stepped (c .recorded-numbers .result) (b .record-sent-plan .result) (b .record-sent-plan .last .0) (b .record-sent-plan .last .1 .0) (b .record-sent-plan .last .1 .1 .0)
+    (b .record-sent-plan .last .1 .1 .1 .0) _ e (c .recorded-numbers .ensures)
 
 pub testkit-record-sent-plan-spec : {M : Type 1} → statement M
 testkit-record-sent-plan-spec =
@@ -42,6 +49,7 @@ testkit-record-sent-plan-spec =
     (tie.spec
     counts-of-requires
     record-sent-plan-requires
+    recorded-numbers-requires
     same-length
     same-length-2
     same-length-3

@@ -1,47 +1,58 @@
--- `observer::batch::enter_packets` meets its contract. The invariant: the answer so far, with what the packets that are left come to, is the
--- whole answer; and the observer is well formed.
--- Assumes nothing.
-use Prim.Native.Nat.{ℕ, _+_, _≤_}
+-- `observer::batch::enter_packets` meets its contract. The invariant: what the packets that are left make of the observer so far is what all of
+-- them make of the first; and the observer is well formed.
+use Prim.Native.Nat.{ℕ, _-_, _≤_}
 use mathlib.Core.Path.{_≡_, refl, sym, ap, _∙_}
-use mathlib.Core.List.{List, [], _∷_}
+use mathlib.Core.List.{List, []}
 use mathlib.Core.Bool.{true}
 use native.Mathlib.Omega.{arith}
 use lib.ListN.{length}
 use borrow.Author.Needs.{needs}
+use Rattle.measurement.specs.declared.MeasurementHeader.{MeasurementHeader}
+use Rattle.plan.specs.Plan.{packetsOf}
+use Rattle.plan.proofs.Answers.{planned-time, planned-fits}
 use Rattle.observer.specs.Observer.{Observer}
 use Rattle.observer.specs.Judge.{wellFormed}
-use Rattle.observer.specs.Answer.{observerOf, recorded}
-use Rattle.observer.specs.InTurn.{Packet, inTurn, sendPacket, packetsFrom, entry, recordSentPlan}
-use Rattle.observer.specs.BatchAnswer.{leftOf, andThen}
-use Rattle.observer.specs.declared.batch.PlanRecorded.{PlanRecorded}
-use Rattle.observer.proofs.InTurn.{resumed, resumed-first, resumed-last, resumed-then, well-then, entered-then}
+use Rattle.observer.specs.Answer.{observerOf}
+use Rattle.observer.specs.SendingPlan.{sendInTurn}
+use Rattle.observer.proofs.SendingPlan.{leftFrom, left-first, left-none, sent-well, sent-on}
 use Rattle.observer.proofs.batch.enter_packets.Statement.{statement}
 use Rattle.observer.proofs.batch.enter_packets.Tie as tie
 
 abbrev Inv-loop : tie.InvT-loop
-Inv-loop sequences₀ send-timestamps₀ latencies₀ marks₀ first-sequence first-send-timestamp-ns interval-ns packet-count so-far₀ packets₀ sequences send-timestamps latencies marks so-far packets =
-    (resumed so-far (inTurn sendPacket (observerOf sequences send-timestamps latencies marks (so-far .counts)) (leftOf interval-ns packets))
-    ≡ entry (inTurn sendPacket (observerOf sequences₀ send-timestamps₀ latencies₀ marks₀ (so-far₀ .counts)) (leftOf interval-ns packets₀)))
-    × (wellFormed (observerOf sequences send-timestamps latencies marks (so-far .counts)) ≡ true)
-    × (so-far .entered + packets .left ≤ packet-count)
+Inv-loop sequences₀ send-timestamps₀ latencies₀ marks₀ plan interval next-sequence so-far₀ k₀ sequences send-timestamps latencies marks so-far k =
+    (sendInTurn (observerOf sequences send-timestamps latencies marks so-far) (leftFrom plan next-sequence k) .observer
+    ≡ sendInTurn (observerOf sequences₀ send-timestamps₀ latencies₀ marks₀ so-far₀) (packetsOf plan next-sequence) .observer)
+    × (wellFormed (observerOf sequences send-timestamps latencies marks so-far) ≡ true)
+    × (k ≤ plan .«packet_count»)
     × (length sequences ≡ length sequences₀)
     × (length send-timestamps ≡ length send-timestamps₀)
     × (length latencies ≡ length latencies₀)
     × (length marks ≡ length marks₀)
 
 abbrev μ-loop : tie.MeasureT-loop
-μ-loop sequences₀ send-timestamps₀ latencies₀ marks₀ first-sequence first-send-timestamp-ns interval-ns packet-count so-far₀ packets₀ sequences send-timestamps latencies marks so-far packets =
-    packets .left
+μ-loop sequences₀ send-timestamps₀ latencies₀ marks₀ plan interval next-sequence so-far₀ k₀ sequences send-timestamps latencies marks so-far k =
+    plan .«packet_count» - k
 
--- the observer as it came in
-abbrev observer : tie.Start Inv-loop μ-loop → Observer
-observer c = observerOf (c .args .sequences .now) (c .args .send-timestamps .now) (c .args .latencies .now) (c .args .marks .now) (c .args .counts)
+-- the places on the way, each from a later one
+abbrev start : tie.At-loop Inv-loop μ-loop → tie.Start Inv-loop μ-loop
+start c = c .before .before .before .before .before
+
+abbrev at-loop : tie.Then1 Inv-loop μ-loop → tie.At-loop Inv-loop μ-loop
+at-loop c = c .before .before
+
+abbrev taken : tie.After-struct-known2 Inv-loop μ-loop → tie.Then1 Inv-loop μ-loop
+taken c = c .before .before .before .before .before
+
+abbrev entered : tie.After-so-far Inv-loop μ-loop → tie.After-enter Inv-loop μ-loop
+entered c = c .before .before .before .before .before .before .before .before .before
 
 loop-holds : tie.Need-loop-holds Inv-loop μ-loop
 loop-holds c =
-    let s = c .before .before .before .before in (
-      resumed-first (s .args .counts) (inTurn sendPacket (observer s) (packetsFrom (s .args .interval-ns) (s .args .first-sequence) (s .args .first-send-timestamp-ns) (s .args .packet-count))),
-      s .pre,
+    let s = c .before .before .before .before in
+    let a = s .args in
+    let o : Observer = observerOf (a .sequences .now) (a .send-timestamps .now) (a .latencies .now) (a .marks .now) (a .counts) in (
+      ap (λ (l : List MeasurementHeader). sendInTurn o l .observer) (left-first (a .plan) (a .next-sequence)),
+      s .pre .0,
       omega arith,
       refl,
       refl,
@@ -49,29 +60,44 @@ loop-holds c =
       refl,
     )
 
+add-enter : tie.Need-add-enter Inv-loop μ-loop
+add-enter c =
+    let t = c .before .before .before .before in
+    omega (arith, t .if1 .taken, start (at-loop t) .pre .1 .sequences)
+
+mul-enter : tie.Need-mul-enter Inv-loop μ-loop
+mul-enter c =
+    let t = c .before .before .before .before in
+    let l = at-loop t in
+    omega (arith, planned-fits (start l .pre .1) (l .loop .k) (t .if1 .taken))
+
+add-enter-2 : tie.Need-add-enter-2 Inv-loop μ-loop
+add-enter-2 c =
+    let l = at-loop (taken c) in
+    omega (arith, planned-fits (start l .pre .1) (l .loop .k) (taken c .if1 .taken))
+
 enter-requires : tie.Need-enter-requires Inv-loop μ-loop
-enter-requires c κs = c .before .before .before .before .before .before .before .loop .inv .1
+enter-requires c κs = at-loop (taken c) .loop .inv .1
 
-and-then-requires : tie.Need-and-then-requires Inv-loop μ-loop
-and-then-requires c κs = omega arith
-
-behind-requires : tie.Need-behind-requires Inv-loop μ-loop
-behind-requires c κs = omega arith
+add-k : tie.Need-add-k Inv-loop μ-loop
+add-k c =
+    let t = taken (entered c .before) in
+    omega (arith, t .if1 .taken, start (at-loop t) .pre .1 .count)
 
 loop-less : tie.Need-loop-less Inv-loop μ-loop
-loop-less c = c .behind .ensures .fewer
+loop-less c = omega (arith, taken (entered c .before) .if1 .taken)
 
 loop-again : tie.Need-loop-again Inv-loop μ-loop
 loop-again c =
-    let e = c .before .before .before .before .before .before .before .before .before .before in
-    let here = e .before .before .before .before .before .before .before .before .loop in
-    let o = observerOf (here .sequences) (here .send-timestamps) (here .latencies) (here .marks) (here .so-far .counts) in
-    let x : Packet = record { sequence = here .packets .sequence; time = here .packets .time } in
-    let and-then = c .before .and-then in (
-      resumed-then (here .so-far) (e .enter .result) o x _ _ _ _ (e .enter .ensures) (and-then .result) (and-then .ensures)
-          _ _ _ (c .behind .ensures .first) (here .inv .0),
-      well-then (here .so-far) (e .enter .result) o x _ _ _ _ (e .enter .ensures) (and-then .result) (and-then .ensures) (here .inv .1),
-      omega (arith, entered-then (here .so-far) (e .enter .result) o x _ _ _ _ (e .enter .ensures) (and-then .result) (and-then .ensures), c .behind .ensures .fewer),
+    let e = entered c in
+    let t = taken (e .before) in
+    let at = at-loop t in
+    let here = at .loop in
+    let a = start at .args in
+    let o = observerOf (here .sequences) (here .send-timestamps) (here .latencies) (here .marks) (here .so-far) in (
+      sent-on (a .plan) (a .next-sequence) (e .enter .result) _ _ _ _ o (here .k) _ (e .enter .ensures) (planned-time (start at .pre .1) (here .k)) (t .if1 .taken) _ (here .inv .0),
+      sent-well (a .plan) (a .next-sequence) (e .enter .result) _ _ _ _ o (here .k) _ (e .enter .ensures) (here .inv .1),
+      omega (arith, t .if1 .taken),
       omega arith,
       omega arith,
       omega arith,
@@ -91,13 +117,11 @@ same-length-4 : tie.Need-same-length-4 Inv-loop μ-loop
 same-length-4 c = c .before .before .loop .inv .6
 
 returns : tie.Need-returns Inv-loop μ-loop
-unfolding recordSentPlan
 returns c =
     let l = c .before .before .loop in
-    let o = observerOf (l .sequences) (l .send-timestamps) (l .latencies) (l .marks) (l .so-far .counts) in
-    sym (resumed-last (l .so-far) o)
-    ∙ ap (λ (n : ℕ). resumed (l .so-far) (inTurn sendPacket o (packetsFrom (c .before .before .before .before .before .before .before .args .interval-ns) (l .packets .sequence) (l .packets .time) n))) (let z : 0 ≡ l .packets .left = omega arith in z)
-    ∙ l .inv .0
+    let a = start (c .before .before) .args in
+    let o = observerOf (l .sequences) (l .send-timestamps) (l .latencies) (l .marks) (l .so-far) in
+    ap (λ (x : List MeasurementHeader). sendInTurn o x .observer) (sym (left-none (a .plan) (a .next-sequence) (l .k) (c .if1 .left))) ∙ l .inv .0
 
 pub enter-packets-spec : {M : Type 1} → statement M
 enter-packets-spec =
@@ -106,9 +130,11 @@ enter-packets-spec =
     Inv-loop
     μ-loop
     loop-holds
+    add-enter
+    mul-enter
+    add-enter-2
     enter-requires
-    and-then-requires
-    behind-requires
+    add-k
     loop-less
     loop-again
     same-length
