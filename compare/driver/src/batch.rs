@@ -2,7 +2,8 @@
 //! none, and lists of returns. The Rust has no batch calls.
 
 use crate::observer::{
-    any_call, any_contents, any_rows, malformed_sheet, time_near, Call, Pair, SHEET_MALFORMED,
+    any_call, any_contents, any_rows, malformed_sheet, time_near, Call, Pair, SHEET_FULL,
+    SHEET_MALFORMED,
 };
 use crate::ours_traffic::RunSheet;
 use crate::part::Part;
@@ -10,7 +11,7 @@ use crate::random::Random;
 use crate::rust_side::measurement::{decode, Probe};
 use crate::rust_side::traffic::{Engine, Sheet};
 use crate::seen::Seen;
-use crate::sheets::{difference, fresh};
+use crate::sheets::{difference, fresh, MOST_ROWS};
 use crate::traffic::{due_packets, MOST_PACKETS};
 use crate::wild::any_probe;
 
@@ -22,13 +23,17 @@ pub fn batches(seed: u64, rounds: u64) -> Part {
     let mut part = Part::new("run sheet, batches", "batch calls and reports");
     let mut seen = Seen::default();
     let mut random = Random::new(seed);
+    for rows in [2, 48, MOST_ROWS] {
+        fit(&mut part, &mut seen, &mut random, rows);
+    }
     for round in 0..rounds / 10 {
         let rows = any_rows(&mut random, round);
         let used = rows - random.length(rows).min(rows);
         let contents = any_contents(&mut random, used);
         let mut pair = Pair::new(fresh(&mut random, rows), contents);
         for _ in 0..3 {
-            enter(&mut part, &mut seen, &mut random, &mut pair, rows);
+            let plan = any_plan(&mut random, &pair.contents, rows);
+            enter(&mut part, &mut seen, &mut pair, plan);
             take(&mut part, &mut seen, &mut random, &mut pair, rows);
         }
         pair.reports(&mut part, &mut random);
@@ -90,7 +95,8 @@ fn any_plan(random: &mut Random, contents: &Sheet, rows: usize) -> Plan {
         _ => {
             let row = &contents.rows[random.below(contents.rows.len())];
             let before = random.length(rows + 4) as u64;
-            row.sequence.saturating_sub(before) + random.below(3) as u64
+            let after = random.below(3) as u64;
+            row.sequence.saturating_sub(before).saturating_add(after)
         }
     };
     first.send_time = match random.below(8) {
@@ -103,8 +109,7 @@ fn any_plan(random: &mut Random, contents: &Sheet, rows: usize) -> Plan {
 
 /// Enters a plan on both sides: its packets as the Rust generates them are sent to the Rust, one after
 /// the other, and to a copy of our sheet. Where the copy refuses one, all of the plan is refused.
-fn enter(part: &mut Part, seen: &mut Seen, random: &mut Random, pair: &mut Pair, rows: usize) {
-    let plan = any_plan(random, &pair.contents, rows);
+fn enter(part: &mut Part, seen: &mut Seen, pair: &mut Pair, plan: Plan) -> u8 {
     let (first, count, rate) = plan;
     let mut singly = pair.ours.clone();
     let mut engine = Engine::with_first_sequence(first.sequence);
@@ -140,6 +145,30 @@ fn enter(part: &mut Part, seen: &mut Seen, random: &mut Random, pair: &mut Pair,
     let differences = (difference(&ours, &due), difference(&ours, &singly));
     part.case(&[], (answer, differences), (number, (None, None)));
     pair.ours = due;
+    answer
+}
+
+/// Plans that just fit and that do not, on a fresh sheet of so many rows: half of it, then all of it,
+/// of which half is there; one sequence further, for which no row is free; all of it once more, which
+/// needs no row; and counts that no plan may have.
+fn fit(part: &mut Part, seen: &mut Seen, random: &mut Random, rows: usize) {
+    let mut pair = Pair::new(fresh(random, rows), Sheet::default());
+    let all = rows as u64;
+    let plans = [
+        (5, all / 2, 0),
+        (5, all, 0),
+        (6, all, SHEET_FULL),
+        (5, all, 0),
+        (5, MOST_PACKETS + 1, 18),
+        (6, u64::MAX, 18),
+    ];
+    for (sequence, count, number) in plans {
+        let mut first = any_probe(random);
+        first.sequence = sequence;
+        first.send_time = random.length(1 << 20) as u64;
+        let answer = enter(part, seen, &mut pair, (first, count, 1_000));
+        part.case(&[], answer, number);
+    }
 }
 
 /// T-PDUs that came back, and their times.

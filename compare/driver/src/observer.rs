@@ -20,7 +20,7 @@ use crate::wild::any_probe;
 
 /// Numbers that the Rust does not have.
 pub(crate) const SHEET_MALFORMED: u8 = 21;
-const SHEET_FULL: u8 = 22;
+pub(crate) const SHEET_FULL: u8 = 22;
 
 const G_PDU: u8 = 255;
 
