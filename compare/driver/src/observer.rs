@@ -507,7 +507,7 @@ fn spoil(random: &mut Random, sheet: &mut RunSheet, way: u64) {
             sheet.marks = vec![0; used + 1];
             sheet.counts.used = used + 1;
         }
-        0 => sheet.counts.used = (random.any_u64() as usize).max(used + 1),
+        0 => sheet.counts.used = random.above(used),
         1 => sheet.sequences[at + 1] = sheet.sequences[at],
         2 => sheet.sequences.swap(at, at + 1),
         _ => sheet.marks[at + random.below(2)] = 2 + random.below(254) as u8,

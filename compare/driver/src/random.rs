@@ -44,6 +44,14 @@ impl Random {
         self.of_bits(64)
     }
 
+    /// A count above this one: the next, or any.
+    pub fn above(&mut self, count: usize) -> usize {
+        match self.below(2) {
+            0 => count + 1,
+            _ => (self.any_u64() as usize).max(count + 1),
+        }
+    }
+
     /// Another byte than this: often in one bit alone.
     pub fn other_byte(&mut self, byte: u8) -> u8 {
         byte ^ match self.below(2) {

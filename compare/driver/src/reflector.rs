@@ -264,19 +264,15 @@ fn any_refused(random: &mut Random, round: u64) -> (Reflector, u8) {
     ours.sessions = (0..rows).map(|_| any_session(random)).collect();
     ours.used = random.below(most + 1);
     ours.state = our_state(&any_state(random));
-    let above = |random: &mut Random, bound: usize| match random.below(2) {
-        0 => bound + 1,
-        _ => (random.any_u64() as usize).max(bound + 1),
-    };
     let number = match round % 5 {
         0 => {
-            let too_high = above(random, MOST_SESSIONS);
+            let too_high = random.above(MOST_SESSIONS);
             ours.config.max_sessions = [0, too_high][random.below(2)];
             ours.used = random.any_u64() as usize;
             SESSION_MAXIMUM
         }
         1 => {
-            ours.used = above(random, most);
+            ours.used = random.above(most);
             TABLE_MALFORMED
         }
         2 => {

@@ -3,7 +3,7 @@
 ghost use mathlib.Core.Path.{_≡_};
 ghost use Prim.Native.Nat.{_<_};
 ghost use Rattle.plan.specs.Plan.{intervalOf, intervalMeans, judgePackets, judgePlan};
-ghost use Rattle.plan.specs.Claims.{AcceptedIfAcceptable, AcceptableIfAccepted, SequenceDecides, TimeDecides, PacketsOrdered, Intervals, Examples};
+ghost use Rattle.plan.specs.Claims.{AcceptedIfAcceptable, AcceptableIfAccepted, SequenceDecides, TimeDecides, PlanNumbers, PacketsOrdered, Intervals, Examples};
 ghost use Rattle.plan.specs.Judge.{InTime, Timed, judgedPlan};
 
 // A plan of packets.
@@ -108,9 +108,9 @@ pub fn accepted_exactly_if_acceptable()
     ensures { λ _. ⌜ AcceptedIfAcceptable × AcceptableIfAccepted × PacketsOrdered ⌝ }
 {}
 
-// Carries that the lowest packet that fails decides, by its sequence before its time.
+// Carries that the lowest packet that fails decides, by its sequence before its time, and that no other number refuses a plan.
 pub fn lowest_failing_packet_decides()
-    ensures { λ _. ⌜ SequenceDecides × TimeDecides ⌝ }
+    ensures { λ _. ⌜ SequenceDecides × TimeDecides × PlanNumbers ⌝ }
 {}
 
 // Carries the worked examples of intervals and plans.
