@@ -32,8 +32,11 @@ use reflector_sessions::SocketAddr;
 use report::Reported;
 use scenario::Scenario;
 use scenario::Taken;
+use traffic::TrafficEngine;
 ghost use mathlib.Core.Path.{_≡_};
 ghost use lib.ListN.{length};
+ghost use Rattle.measurement.specs.Answer.{writtenMeans};
+ghost use Rattle.traffic.specs.Generate.{generateOf};
 
 // What changes from return to return, beside the columns.
 struct Progress {
@@ -543,6 +546,14 @@ fn send(s: Scenario, packets: &[u8]) {
     );
 }
 
+// The plan's packets, by an engine that is lent its own record (leaf 5). The first has sequence 1.
+fn generate(flow: InnerIpFlow, plan: TrafficPlan, out: &mut [u8]) -> Written
+    ensures { λ r. ⌜ (writtenMeans r ≡ generateOf flow plan 1 (now (out .entry)) .outcome) × (now (out .exit) ≡ generateOf flow plan 1 (now (out .entry)) .buffer) ⌝ }
+{
+    let mut engine = TrafficEngine::with_first_sequence(1);
+    engine.generate(flow, plan, out)
+}
+
 // Makes the plan's packets, and sends them.
 fn rehearse(s: Scenario) {
     let mut packets = room();
@@ -551,8 +562,7 @@ fn rehearse(s: Scenario) {
         target_rate_pps: s.rate,
         first_send_timestamp_ns: 0,
     };
-    let generated = traffic::generate_packets(flow(s.ip), plan, 1, &mut packets);
-    let written = generated.written;
+    let written = generate(flow(s.ip), plan, &mut packets);
     match written {
         Written::Refused(number) => print_refusal(number),
         Written::Bytes(_) => send(s, &packets),
