@@ -25,12 +25,13 @@ use Rattle.measurement.proofs.Claims.{reads-back-alone, echo-alone, reversed-in
 use Rattle.plan.specs.Plan.{packetsFrom, packetsOf}
 use Rattle.counter.specs.Counter.{oneMore}
 use Rattle.observer.specs.Observer.{Observer, capacity, rows, withRows}
-use Rattle.observer.specs.Judge.{wellFormed, judged}
+use Rattle.observer.specs.Judge.{wellFormed, judged, Step, refusing, afterReading}
 use Rattle.observer.specs.Place.{holds}
 use Rattle.observer.specs.Sending as sending
 use Rattle.observer.specs.Sending.{sendingCauses, recordSent}
 use Rattle.observer.specs.Returning as returning
 use Rattle.observer.specs.Returning.{arrivalCauses, arrival, recordReturn}
+use Rattle.continuity.specs.Kinds.{messageKind}
 use Rattle.continuity.specs.Returns.{sequenceRead, recordReceivedTpdu, recordReturnMessage, asMessage}
 use Rattle.continuity.specs.declared.GtpuReturnDatagramOutcome.the-variants.{MeasurementTpdu}
 use Rattle.tally.specs.Tally.{isRefused}
@@ -60,15 +61,19 @@ turned-byte a b before after x h p r ahead behind c d =
 abbrev sent : Observer
 sent = sendAll exampleObserver (packetsOf examplePlan 1)
 
+-- the call's step, once the T-PDU is read as this
+abbrev step-of : Outcome ℕ → Step
+step-of x = afterReading sent x (recordReturn sent 5)
+
 answer-of : Call → Outcome ℕ → Bool
-answer-of tpduCall x = isRefused (recordReturn sent 5 x .outcome)
-answer-of messageCall x = isRefused (asMessage MeasurementTpdu (recordReturn sent 5 x) .outcome)
+answer-of tpduCall x = isRefused (step-of x .outcome)
+answer-of messageCall x = isRefused (asMessage MeasurementTpdu (step-of x) .outcome)
 
 answer-is : (call : Call) (tpdu : List ℕ) (x : Outcome ℕ) → sequenceRead tpdu ≡ x
     → receive sent (record { call = call; time = 5; tpdu = tpdu }) .refuses ≡ answer-of call x
-unfolding recordReceivedTpdu recordReturnMessage answer-of
-answer-is tpduCall tpdu x e = ap (λ (y : Outcome ℕ). isRefused (recordReturn sent 5 y .outcome)) e
-answer-is messageCall tpdu x e = ap (λ (y : Outcome ℕ). isRefused (asMessage MeasurementTpdu (recordReturn sent 5 y) .outcome)) e
+unfolding recordReceivedTpdu recordReturnMessage messageKind answer-of
+answer-is tpduCall tpdu x e = ap (λ (y : Outcome ℕ). isRefused (step-of y .outcome)) e
+answer-is messageCall tpdu x e = ap (λ (y : Outcome ℕ). isRefused (asMessage MeasurementTpdu (step-of y) .outcome)) e
 
 takes-1 : (call : Call) → answer-of call (gives 1) ≡ false
 unfolding answer-of firstCause packetsOf packetsFrom capacity rows withRows wellFormed judged holds sending.entered sendingCauses recordSent arrivalCauses returning.arrived arrival recordReturn oneMore
