@@ -126,12 +126,23 @@ fn generates(
     let rooms = match &due {
         Ok(bytes) if bytes.is_empty() => vec![80, 0],
         Ok(bytes) => vec![bytes.len() + 80, bytes.len(), bytes.len() - 1, 0],
-        Err(_) => vec![count.min(MOST_PACKETS) as usize * build(first).len() + 80, 0],
+        Err(_) => vec![
+            count.min(MOST_PACKETS) as usize * build(first).len() + 80,
+            0,
+        ],
     };
     for room in rooms {
         let mut ours = ours_traffic::Engine::with_first_sequence(first.sequence);
         let plan = spoiled(random, first, count, rate);
-        generates_on(part, seen, &mut ours, plan, &due, rust.next_sequence(), room);
+        generates_on(
+            part,
+            seen,
+            &mut ours,
+            plan,
+            &due,
+            rust.next_sequence(),
+            room,
+        );
     }
 }
 
@@ -162,7 +173,15 @@ fn run(part: &mut Part, seen: &mut Seen, random: &mut Random) {
             ..first
         };
         let plan = spoiled(random, first, count, rate);
-        generates_on(part, seen, &mut ours, plan, &due, rust.next_sequence(), room);
+        generates_on(
+            part,
+            seen,
+            &mut ours,
+            plan,
+            &due,
+            rust.next_sequence(),
+            room,
+        );
     }
 }
 
