@@ -49,8 +49,8 @@ same-length-2 c = search needs
 returns-3 : tie.Need-returns-3
 returns-3 c =
     let at-write = c .before .before in
-    let told = at-write .before .before in
-    let otherwise = told .before .before in
+    let six = at-write .before .before in
+    let otherwise = six .before .before in
     let read = otherwise .before .before in
     let a = read .before .before .before .before .before .args in
     let p = a .tpdu .now in
