@@ -333,9 +333,9 @@ pub extern "C" fn testkit_record_sent_plan(
         (planOf «packet_count» «target_rate_pps» «first_send_timestamp_ns») «next_sequence») ⌝ }
 {
     let plan = TrafficPlan {
-        packet_count: packet_count,
-        target_rate_pps: target_rate_pps,
-        first_send_timestamp_ns: first_send_timestamp_ns,
+        packet_count,
+        target_rate_pps,
+        first_send_timestamp_ns,
     };
     recorded_numbers(observer::batch::record_sent_plan(
         sequences,
