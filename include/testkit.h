@@ -11,7 +11,8 @@
  * is lent as a pointer and a length, where the length counts elements. The caller sees to it that
  *   - a pointer is not null, also where the length is 0, and is aligned for its type;
  *   - all the elements that the length counts may be read and, where the pointer is not to const, written, and have a value;
- *   - a buffer that a call may write overlaps no other buffer of that call, and nobody else touches a lent buffer meanwhile.
+ *   - a buffer that a call may write overlaps no other buffer of that call, and nobody else touches a lent buffer meanwhile. A number that
+ *     a call is lent by pointer, as testkit_generate its next sequence, is such a buffer of one element.
  * Everything else is the call's to judge: no value, length or content is forbidden. A call reads and writes only what it is lent.
  *
  * State. A call has no state of its own: what it is to remember stands in the caller's buffers, and in records that go in by value and
@@ -273,7 +274,9 @@ struct testkit_recorded testkit_record_received_tpdu(
 /*
  * Enters the packets of a plan, all or none: packet k, from 0, with the sequence and the send time that
  * testkit_generate gives it, as by testkit_record_sent.
- *   packet_count .. next_sequence as for testkit_generate, whose answer has the sequence for the next plan
+ *   packet_count .. as for testkit_generate
+ *   next_sequence the sequence of the plan's first packet: the value that *next_sequence had before testkit_generate made these packets,
+ *                 and not the value that it has afterwards, which is that of the next plan
  * Refuses by 21, also where packet_count is 0, then by 16 to 20 as testkit_generate, then by 22, which is due only
  * where more of the plan's sequences are not on the sheet than rows are free. A refused plan leaves the sheet.
  */
@@ -301,7 +304,7 @@ struct testkit_returns_recorded {
 /*
  * Enters packets that came back, as testkit_record_received_tpdu would one after the other. The T-PDUs lie end to end in `tpdus`, each as
  * long as `lengths` says; where the lengths pass the end of `tpdus`, the T-PDU there ends with it and those behind are empty, and each is
- * refused as testkit_decode refuses it. There are as many returns as the shortest of `return_timestamps`, `lengths`, `returned` and
+ * judged as testkit_decode judges those bytes. There are as many returns as the shortest of `return_timestamps`, `lengths`, `returned` and
  * `numbers` has elements. `numbers` gets each return's answer, 0 or a refusal's number; `returned` the sequence that its T-PDU reads as,
  * or 0. A return that is refused changes no more than that, and those behind it are tried all the same.
  * Refuses the whole list by 21, an empty one too, and then writes nothing, `returned` and `numbers` included.

@@ -11,7 +11,7 @@ use Rattle.observer.specs.declared.batch.ReturnsRecorded.{ReturnsRecorded}
 use Rattle.continuity.specs.Returns.{sequenceRead, recordReceivedTpdu}
 use Rattle.continuity.specs.Answer.{sequenceNumbers}
 
--- T-PDUs of these lengths, end to end. Where the bytes end first, the last ones are cut, and the reader refuses them as it does cut packets.
+-- T-PDUs of these lengths, end to end. Where the bytes end first, the last ones are shorter, and the reader judges them as they are.
 abbrev pub tpdusOf : List ℕ → List ℕ → List (List ℕ)
 tpdusOf [] bytes = []
 tpdusOf (n ∷ lengths) bytes = take n bytes ∷ tpdusOf lengths (drop n bytes)

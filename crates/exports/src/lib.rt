@@ -54,7 +54,7 @@ pub struct TestkitWritten {
     pub bytes: usize,
 }
 
-// What reading answers: 0 and the values, or a refusal's number and zeros. `version` is 4 or 6.
+// What reading answers: 0 and the values, or a refusal's number and zeros beside version 4. `version` is 4 or 6.
 #[repr(C)]
 pub struct TestkitTpdu {
     pub number: u8,

@@ -1,6 +1,6 @@
-// Batch calls on the run sheet: a plan entered, a list of returns taken, with 21 judged once. The Rust has no such
-// calls. A plan is entered whole or not at all (specs/SendingPlan.antt); returns are taken as by the single calls of
-// leaf 6, one after the other (specs/InTurn.antt).
+// Batch calls on the run sheet: a plan entered, a list of returns taken. Each judges 21 once, for all of it. The Rust
+// has no such calls. A plan is entered whole or not at all (specs/SendingPlan.antt); returns are taken as by the single
+// calls of leaf 6, one after the other (specs/Arrivals.antt).
 use crate::ObserverCounts;
 use crate::Recorded;
 use crate::Recording;

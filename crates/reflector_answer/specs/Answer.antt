@@ -36,7 +36,7 @@ pub data Payload : Type 0 where
   written : List ℕ → Payload
   handedOn : Payload
 
--- A message to send: "destination, TEID, type, sequence", and its payload. "Header bytes are not written here."
+-- A message to send: destination, TEID, type, sequence and payload. "Header bytes are not written here."
 pub record Outbound : Type 0 where
   pub reason : ReflectorSendReason
   pub destination : SocketAddr

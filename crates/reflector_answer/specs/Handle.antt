@@ -39,7 +39,7 @@ abbrev pub writtenLength : Payload → ℕ
 writtenLength (written bytes) = length bytes
 writtenLength handedOn = 0
 
--- What each case of the code's answer means.
+-- The code's answer to each outcome.
 abbrev pub actionOf : Outcome Action → ReflectorAction
 actionOf (refused number) = Refused number
 actionOf (gives (noop reason)) = Noop reason

@@ -38,7 +38,7 @@ abbrev pub RemovedIsNotFound : Type 0
 RemovedIsNotFound = (t : Table) (teid : ℕ) (session : ReflectorSession) → Unique (usedRows t) → removeSession t teid .outcome ≡ gives (some session)
     → find teid (usedRows (removeSession t teid .table)) ≡ none
 
--- "the table never holds two used rows of one TEID if it did not before"
+-- No call leaves two used rows of one TEID where there were none before.
 abbrev pub StaysUnique : Type 0
 StaysUnique = (t : Table) → Unique (usedRows t)
     → ((session : ReflectorSession) → Unique (usedRows (registerSession t session .table))) × ((teid : ℕ) → Unique (usedRows (removeSession t teid .table)))

@@ -53,7 +53,7 @@ registerSession t session =
     let outcome = registerOutcome (length (t .sessions)) (t .used) (t .maximum) (find (session .«local_teid») (usedRows t)) session in
     record { outcome = outcome; table = registeredTable outcome session t }
 
--- What each case of the code's answer means.
+-- The code's answer to each outcome.
 abbrev pub registrationOf : Outcome Bool → Registration
 registrationOf (refused number) = Refused number
 registrationOf (gives false) = Unchanged

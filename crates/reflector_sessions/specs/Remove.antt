@@ -33,7 +33,7 @@ removeSession t teid =
     let outcome = removeOutcome (length (t .sessions)) (t .used) (t .maximum) (find teid (usedRows t)) in
     record { outcome = outcome; table = removedTable outcome (placeOf teid (usedRows t)) t }
 
--- What each case of the code's answer means; beside a refusal and beside none stands no session.
+-- The code's answer to each outcome; beside a refusal and beside none stands no session.
 abbrev pub removalOf : Outcome (Option ReflectorSession) → Removal
 removalOf (refused number) = Refused number
 removalOf (gives none) = NotFound

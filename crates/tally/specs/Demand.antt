@@ -126,7 +126,7 @@ module _ {flow : InnerIpFlow} {plan : TrafficPlan} {next : ℕ} where
   abbrev pub fed : Return flow plan next → Fed
   fed r = record { packet = r .packet-index; time = r .time; arrived = r .arrived }
 
-  -- What is a damaged return: one with a bit turned on some leg; or, for who would say so, one whose bytes do not arrive whole.
+  -- "Damaged" can be read in two ways: a bit was turned on some leg; or the bytes that arrive are not the whole ones.
   abbrev pub damagedOnALeg : Return flow plan next → Bool
   damagedOnALeg r = someLegTurned (r .travelled)
 
