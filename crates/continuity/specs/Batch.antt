@@ -33,7 +33,7 @@ recordReceived o r = recordReceivedTpdu o (r .time) (r .tpdu)
 abbrev pub returnsIn : List ℕ → List ℕ → List ℕ → List ℕ → ℕ
 returnsIn times lengths returned numbers = min (length times) (min (length lengths) (min (length returned) (length numbers)))
 
--- What taking a list comes to: the lent column of the sequences that its T-PDUs read as, and the rest as the observer has it.
+-- What taking a list gives: the lent column of the sequences that its T-PDUs read as, and the rest as the observer has it.
 pub record ReceivedAll : Type 0 where
   pub returned : List ℕ
   pub arrived : Arrived

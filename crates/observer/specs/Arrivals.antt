@@ -36,7 +36,7 @@ arrivalsOf (t ∷ ts) [] ns = []
 arrivalsOf (t ∷ ts) (q ∷ qs) [] = []
 arrivalsOf (t ∷ ts) (q ∷ qs) (n ∷ ns) = arrivalAs t q n ∷ arrivalsOf ts qs ns
 
--- What a list of returns comes to: how many there were, or a refusal of the whole list; and the lent column of numbers and the observer as the
+-- What a list of returns gives: how many there were, or a refusal of the whole list; and the lent column of numbers and the observer as the
 -- call leaves them.
 pub record Arrived : Type 0 where
   pub outcome : Outcome ℕ
