@@ -36,7 +36,7 @@ pub fn refusals() -> Part {
         part.case(&[], answer, Some(number));
         seen.insert(number);
     }
-    let numbers = (1..=37).filter(|number| !NOT_IN_THE_RUST.contains(number));
+    let numbers = CARD.filter(|number| !NOT_IN_THE_RUST.contains(number));
     part.case(&[], seen, numbers.collect());
     part
 }
@@ -53,26 +53,26 @@ fn reading_refuses() -> Vec<Refusal> {
     };
     let unverified = with(&ipv4, &[(26, 0), (27, 0)]); // its UDP checksum is 0
     let refused = [
-        (vec![], TPDU_EMPTY),
-        (vec![0x50], IP_VERSION),
-        (ipv4[..19].to_vec(), IPV4_HEADER_CUT),
-        (ipv4[..27].to_vec(), IPV4_IHL),
-        (with(&ipv4, &[(0, 0x44)]), IPV4_IHL),
-        (with(&ipv4, &[(3, 27)]), IPV4_TOTAL_LENGTH),
-        (with(&ipv4, &[(3, 53)]), IPV4_TOTAL_LENGTH),
-        (with(&ipv4, &[(9, 6)]), NOT_UDP),
-        (with(&ipv6, &[(6, 6)]), NOT_UDP),
-        (with(&ipv4, &[(8, 63)]), IPV4_HEADER_CHECKSUM),
-        (ipv6[..47].to_vec(), IPV6_CUT),
-        (with(&ipv6, &[(5, 7)]), IPV6_PAYLOAD_LENGTH),
-        (with(&ipv6, &[(5, 33)]), IPV6_PAYLOAD_LENGTH),
-        (with(&ipv4, &[(25, 7)]), UDP_LENGTH),
-        (with(&ipv4, &[(25, 33)]), UDP_LENGTH),
-        (with(&ipv6, &[(46, 0), (47, 0)]), IPV6_UDP_CHECKSUM_ZERO),
-        (with(&ipv4, &[(51, 1)]), UDP_CHECKSUM),
-        (with(&ipv6, &[(71, 1)]), UDP_CHECKSUM),
-        (with(&unverified, &[(25, 31)]), PROBE_CUT),
-        (with(&unverified, &[(28, 0)]), PROBE_MAGIC),
+        (vec![], TRUNCATED_IP_HEADER),
+        (vec![0x50], UNSUPPORTED_IP_VERSION),
+        (ipv4[..19].to_vec(), TRUNCATED_IPV4_HEADER),
+        (ipv4[..27].to_vec(), INVALID_IPV4_IHL),
+        (with(&ipv4, &[(0, 0x44)]), INVALID_IPV4_IHL),
+        (with(&ipv4, &[(3, 27)]), INVALID_IPV4_TOTAL_LENGTH),
+        (with(&ipv4, &[(3, 53)]), INVALID_IPV4_TOTAL_LENGTH),
+        (with(&ipv4, &[(9, 6)]), PAYLOAD_IS_NOT_UDP),
+        (with(&ipv6, &[(6, 6)]), PAYLOAD_IS_NOT_UDP),
+        (with(&ipv4, &[(8, 63)]), INVALID_IPV4_HEADER_CHECKSUM),
+        (ipv6[..47].to_vec(), TRUNCATED_IPV6_UDP_PACKET),
+        (with(&ipv6, &[(5, 7)]), INVALID_IPV6_PAYLOAD_LENGTH),
+        (with(&ipv6, &[(5, 33)]), INVALID_IPV6_PAYLOAD_LENGTH),
+        (with(&ipv4, &[(25, 7)]), INVALID_UDP_LENGTH),
+        (with(&ipv4, &[(25, 33)]), INVALID_UDP_LENGTH),
+        (with(&ipv6, &[(46, 0), (47, 0)]), IPV6_UDP_CHECKSUM_IS_ZERO),
+        (with(&ipv4, &[(51, 1)]), INVALID_UDP_CHECKSUM),
+        (with(&ipv6, &[(71, 1)]), INVALID_UDP_CHECKSUM),
+        (with(&unverified, &[(25, 31)]), TRUNCATED_MEASUREMENT_HEADER),
+        (with(&unverified, &[(28, 0)]), MEASUREMENT_MAGIC_MISMATCH),
     ];
     refused
         .iter()
@@ -90,27 +90,36 @@ fn traffic_refuses() -> Vec<Refusal> {
     let too_early = observer.record_received_tpdu(9, &tpdu);
     let other_type = observer.record_return_gtpu_datagram(0, &message(1, 0, Some(1), &[]));
     vec![
-        (interval(0).err(), RATE_ZERO),
-        (interval(1_000_000_001).err(), RATE_TOO_HIGH),
-        (generate(flow, plan(1, 0), u64::MAX).0.err(), SEQUENCE_TOP),
-        (generate(flow, plan(2, u64::MAX), 7).0.err(), TIME_TOP),
-        (not_sent.err(), NOT_SENT),
-        (too_early.err(), RETURNED_BEFORE_SENT),
-        (other_type.err(), MESSAGE_TYPE),
+        (interval(0).err(), TARGET_RATE_IS_ZERO),
+        (
+            interval(1_000_000_001).err(),
+            TARGET_RATE_EXCEEDS_RESOLUTION,
+        ),
+        (
+            generate(flow, plan(1, 0), u64::MAX).0.err(),
+            SEQUENCE_OVERFLOW,
+        ),
+        (
+            generate(flow, plan(2, u64::MAX), 7).0.err(),
+            SEND_TIMESTAMP_OVERFLOW,
+        ),
+        (not_sent.err(), SEQUENCE_WAS_NOT_SENT),
+        (too_early.err(), TIMESTAMP_REVERSED),
+        (other_type.err(), UNSUPPORTED_MESSAGE_TYPE),
     ]
 }
 
 fn walk_refuses() -> Vec<Refusal> {
     let refused = [
-        (&[16, 0, 0, 0][..], ELEMENT_CUT),
-        (&[133, 0], ELEMENT_CUT),
-        (&[133, 0, 4, 0, 0, 0], ELEMENT_CUT),
-        (&[128, 0], ELEMENT_CUT),
-        (&[128, 0, 1], ELEMENT_CUT),
-        (&[133, 0, 5], PEER_ADDRESS_LENGTH),
-        (&[127], ELEMENT_TYPE),
-        (&[128, 0, 0], NO_TEID_ELEMENT),
-        (&[16, 0, 0, 0, 0], NO_PEER_ADDRESS),
+        (&[16, 0, 0, 0][..], TRUNCATED_ELEMENT),
+        (&[133, 0], TRUNCATED_ELEMENT),
+        (&[133, 0, 4, 0, 0, 0], TRUNCATED_ELEMENT),
+        (&[128, 0], TRUNCATED_ELEMENT),
+        (&[128, 0, 1], TRUNCATED_ELEMENT),
+        (&[133, 0, 5], INVALID_PEER_ADDRESS_LENGTH),
+        (&[127], UNSUPPORTED_FIXED_LENGTH_ELEMENT),
+        (&[128, 0, 0], MISSING_TEID_DATA_I),
+        (&[16, 0, 0, 0, 0], MISSING_PEER_ADDRESS),
     ];
     refused
         .iter()
@@ -130,19 +139,19 @@ fn reflector_refuses() -> Vec<Refusal> {
         })
     };
     let mut rows = vec![
-        (new(0).err(), SESSION_MAXIMUM),
-        (new(4097).err(), SESSION_MAXIMUM),
-        (register(0, 1, 1).err(), SESSION_INVALID),
-        (register(1, 0, 1).err(), SESSION_INVALID),
-        (register(1, 1, 0).err(), SESSION_INVALID),
-        (register(100, 1, 1).err(), SESSION_CONFLICT),
-        (register(1, 1, 1).err(), SESSIONS_FULL),
+        (new(0).err(), INVALID_REFLECTOR_CAPACITY),
+        (new(4097).err(), INVALID_REFLECTOR_CAPACITY),
+        (register(0, 1, 1).err(), INVALID_REFLECTOR_SESSION),
+        (register(1, 0, 1).err(), INVALID_REFLECTOR_SESSION),
+        (register(1, 1, 0).err(), INVALID_REFLECTOR_SESSION),
+        (register(100, 1, 1).err(), REFLECTOR_SESSION_CONFLICT),
+        (register(1, 1, 1).err(), REFLECTOR_SESSION_CAPACITY_EXCEEDED),
     ];
     for (message, number) in [
-        (message(1, 1, Some(1), &[]), ECHO_REQUEST_TEID),
-        (message(1, 0, None, &[]), ECHO_REQUEST_UNNUMBERED),
-        (message(3, 0, None, &[]), MESSAGE_TYPE),
-        (message(G_PDU, 100, None, &[]), TPDU_EMPTY),
+        (message(1, 1, Some(1), &[]), ECHO_REQUEST_TEID_NOT_ZERO),
+        (message(1, 0, None, &[]), ECHO_REQUEST_MISSING_SEQUENCE),
+        (message(3, 0, None, &[]), UNSUPPORTED_MESSAGE_TYPE),
+        (message(G_PDU, 100, None, &[]), TRUNCATED_IP_HEADER),
     ] {
         let answer = reflector.handle_datagram(sender(4), &message);
         rows.push((answer.err(), number));

@@ -1,10 +1,10 @@
 //! Our batch calls against single calls in a loop, the Rust's and ours: the packets of a plan, all or
 //! none, and lists of returns. The Rust has no batch calls.
 
-use crate::observer::{
-    any_call, any_contents, any_rows, malformed_sheet, time_near, Call, Pair, SHEET_FULL,
-    SHEET_MALFORMED,
-};
+use std::iter;
+
+use crate::numbers::*;
+use crate::observer::{any_call, any_contents, any_rows, malformed_sheet, time_near, Call, Pair};
 use crate::ours_traffic::RunSheet;
 use crate::part::Part;
 use crate::random::Random;
@@ -38,7 +38,13 @@ pub fn batches(seed: u64, rounds: u64) -> Part {
         }
         pair.reports(&mut part, &mut random);
     }
-    seen.require(&mut part, (0..=14).chain(16..=20).chain(22..=24));
+    seen.require(
+        &mut part,
+        iter::once(0)
+            .chain(READING)
+            .chain(TARGET_RATE_IS_ZERO..=SEND_TIMESTAMP_OVERFLOW)
+            .chain(OBSERVER_FULL..=TIMESTAMP_REVERSED),
+    );
     part
 }
 
@@ -56,7 +62,7 @@ pub fn malformed_batches(seed: u64, rounds: u64) -> Part {
         let mut ours = sheet.clone();
         let answer = send(&mut ours, plan);
         let answer = (answer, difference(&ours, &sheet));
-        part.case(&[], answer, (SHEET_MALFORMED, None));
+        part.case(&[], answer, (MALFORMED_OBSERVER, None));
 
         for returns in [vec![], any_returns(&mut random, &contents, rows)] {
             let due = Due::left(&mut random, returns.len());
@@ -157,10 +163,10 @@ fn fit(part: &mut Part, seen: &mut Seen, random: &mut Random, rows: usize) {
     let plans = [
         (5, all / 2, 0),
         (5, all, 0),
-        (6, all, SHEET_FULL),
+        (6, all, OBSERVER_FULL),
         (5, all, 0),
-        (5, MOST_PACKETS + 1, 18),
-        (6, u64::MAX, 18),
+        (5, MOST_PACKETS + 1, TOO_MANY_PACKETS),
+        (6, u64::MAX, TOO_MANY_PACKETS),
     ];
     for (sequence, count, number) in plans {
         let mut first = any_probe(random);
@@ -214,7 +220,7 @@ impl Due {
             numbers,
             before,
             returns: 0,
-            number: SHEET_MALFORMED,
+            number: MALFORMED_OBSERVER,
         }
     }
 

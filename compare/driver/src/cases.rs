@@ -6,7 +6,7 @@ use std::net::{Ipv4Addr, Ipv6Addr};
 use testkit_open::evidence::PacketContinuityBudget;
 use testkit_open::traffic::TrafficPlan;
 
-use crate::numbers::{NO_TEID_ELEMENT, RATE_TOO_HIGH};
+use crate::numbers::{MISSING_TEID_DATA_I, TARGET_RATE_EXCEEDS_RESOLUTION};
 use crate::packet::{self, IPV4_HEADER_CHECKSUM_AT, IPV4_UDP_CHECKSUM_AT, IPV6_UDP_CHECKSUM_AT};
 use crate::part::{Part, Word};
 use crate::rust_side::gtpu::validate_error_indication_ies;
@@ -42,7 +42,11 @@ pub fn worked_cases() -> Part {
 
     // 4. Intervals, one of them refused.
     let intervals = [1_000_000_000, 1_000_000_001, 3].map(interval);
-    part.case(&[], intervals, [Ok(1), Err(RATE_TOO_HIGH), Ok(333_333_333)]);
+    part.case(
+        &[],
+        intervals,
+        [Ok(1), Err(TARGET_RATE_EXCEEDS_RESOLUTION), Ok(333_333_333)],
+    );
 
     // 5. The last packet has returned, so the window's end does not count.
     let observer = five_sent(&[2, 5]);
@@ -64,7 +68,7 @@ pub fn worked_cases() -> Part {
 
     // 8. No element at all.
     let empty = validate_error_indication_ies(&[]);
-    part.case(&[], empty, Err(NO_TEID_ELEMENT));
+    part.case(&[], empty, Err(MISSING_TEID_DATA_I));
 
     part
 }

@@ -6,6 +6,7 @@ use std::net::SocketAddr;
 
 use crate::cases::{ipv4_probe, ipv6_probe};
 use crate::damage::{each_damage, excluded, turn, window_starts};
+use crate::numbers::OUTPUT_TOO_SHORT;
 use crate::ours::{self, Values, Written};
 use crate::packet::{part_at, version, word, IPV4_HEADER_CHECKSUM_AT};
 use crate::part::{grouped, Bytes, Part, Word};
@@ -13,9 +14,6 @@ use crate::random::Random;
 use crate::rust_side::measurement::{build, decode, echo, Flow, Probe};
 use crate::rust_side::Outcome;
 use crate::wild::{any_probe, each_wild};
-
-/// The number of an output that is too short, which the Rust does not have.
-const OUTPUT_SHORT: u8 = 15;
 
 /// The orders in which the readers of IPv4 and IPv6 judge. Numbers 1 and 2 come before both.
 const IPV4_ORDER: [u8; 9] = [3, 4, 5, 6, 7, 10, 12, 13, 14];
@@ -194,7 +192,7 @@ fn writes(
         let mut expected = [DIRT; LONG];
         let answer = match due {
             Err(number) => Err(number),
-            Ok(bytes) if room < bytes.len() => Err(OUTPUT_SHORT),
+            Ok(bytes) if room < bytes.len() => Err(OUTPUT_TOO_SHORT),
             Ok(bytes) => {
                 expected[..bytes.len()].copy_from_slice(bytes);
                 Ok(bytes.len())

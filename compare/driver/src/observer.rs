@@ -2,11 +2,13 @@
 //! sheets, which the Rust cannot have.
 
 use std::collections::BTreeMap;
+use std::iter;
 
 use testkit_open::evidence::PacketContinuityBudget;
 use testkit_open::traffic::GtpuReturnDatagramOutcome;
 
 use crate::gtpu::any_elements;
+use crate::numbers::*;
 use crate::ours_traffic::{Noted, Report, RunSheet};
 use crate::packet::{part_at, set_word, sum_again};
 use crate::part::Part;
@@ -17,10 +19,6 @@ use crate::rust_side::traffic::{Observer, Row, Sheet};
 use crate::seen::Seen;
 use crate::sheets::{capacity, difference, fresh, holding, questions, MOST_ROWS};
 use crate::wild::any_probe;
-
-/// Numbers that the Rust does not have.
-pub(crate) const SHEET_MALFORMED: u8 = 21;
-pub(crate) const SHEET_FULL: u8 = 22;
 
 const G_PDU: u8 = 255;
 
@@ -88,7 +86,11 @@ pub(crate) fn any_rows(random: &mut Random, round: u64) -> usize {
 
 /// The numbers that the calls of runs on well-formed sheets answer.
 fn due() -> impl Iterator<Item = u8> {
-    (0..=14).chain([SHEET_FULL]).chain(23..=29).chain([37])
+    iter::once(0)
+        .chain(READING)
+        .chain([OBSERVER_FULL])
+        .chain(SEQUENCE_WAS_NOT_SENT..=MISSING_PEER_ADDRESS)
+        .chain([UNSUPPORTED_MESSAGE_TYPE])
 }
 
 /// A sheet that was spoiled in one of four ways, and what it held before; every 128th time of each way
@@ -123,7 +125,7 @@ pub fn malformed(seed: u64, rounds: u64) -> Part {
             }),
         );
         let due = Noted {
-            number: SHEET_MALFORMED,
+            number: MALFORMED_OBSERVER,
             ..Noted::default()
         };
         for call in calls {
@@ -133,7 +135,7 @@ pub fn malformed(seed: u64, rounds: u64) -> Part {
             part.case(call.input(), answer, (due, None));
         }
         let due = Report {
-            number: SHEET_MALFORMED,
+            number: MALFORMED_OBSERVER,
             ..Report::default()
         };
         let budget = PacketContinuityBudget::zero_loss();
@@ -273,7 +275,7 @@ impl Pair {
     pub(crate) fn due_answer(&mut self, seen: &mut Seen, call: &Call) -> Noted {
         let due_answer = if self.full_for(call) {
             Noted {
-                number: SHEET_FULL,
+                number: OBSERVER_FULL,
                 ..Noted::default()
             }
         } else {

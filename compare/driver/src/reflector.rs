@@ -1,9 +1,11 @@
 //! Our reflector against the Rust's: whole runs of registering, removal and messages on both
 //! sides, the table and the state compared after each call; and the refusals that the Rust has not.
 
+use std::iter;
+
 use testkit_open::reflector::{OpenReflector, ReflectorPolicy};
 
-use crate::numbers::SESSION_MAXIMUM;
+use crate::numbers::*;
 use crate::ours_reflector::{
     Address, Reflector, Registered, Removed, Session, State, LOCAL_TEID_AT, PEER_TEID_AT, PORT_AT,
     SESSION_BYTES, VERSION_AT,
@@ -23,10 +25,6 @@ use crate::rust_side::measurement::build;
 use crate::rust_side::reflector::Reflector as Rust;
 use crate::seen::Seen;
 use crate::wild::{any_probe, any_probe_of};
-
-/// Numbers that the Rust does not have.
-const OUTPUT_SHORT: u8 = 15;
-const TABLE_MALFORMED: u8 = 31;
 
 /// The least output.
 pub const LEAST_OUTPUT: usize = 72;
@@ -92,7 +90,11 @@ pub fn runs(seed: u64, rounds: u64) -> Part {
             each_type(&mut run, &mut pair);
         }
     }
-    run.done((0..=14).chain(32..=37))
+    run.done(
+        iter::once(0)
+            .chain(READING)
+            .chain(INVALID_REFLECTOR_SESSION..=UNSUPPORTED_MESSAGE_TYPE),
+    )
 }
 
 /// Sessions, addresses and TEIDs that differ from a registered one in one place, each place in turn:
@@ -215,13 +217,14 @@ pub fn refused(seed: u64, rounds: u64) -> Part {
     for round in 0..rounds / 16 {
         let (mut ours, number) = any_refused(&mut run.random, round);
         let random = &mut run.random;
-        if number == SESSION_MAXIMUM {
+        if number == INVALID_REFLECTOR_CAPACITY {
             let due = Rust::new_multi(ours.config.max_sessions, 0, ReflectorPolicy::Echo);
-            run.part.case(&[], due.err(), Some(SESSION_MAXIMUM));
+            run.part
+                .case(&[], due.err(), Some(INVALID_REFLECTOR_CAPACITY));
         }
         run.seen.add(number);
         let before = ours.clone();
-        if number != OUTPUT_SHORT {
+        if number != OUTPUT_TOO_SHORT {
             let used = before.used;
             let due = Registered {
                 number,
@@ -240,7 +243,7 @@ pub fn refused(seed: u64, rounds: u64) -> Part {
             run.part.case(&[], answer, (due, &before));
         }
         let room = match number {
-            OUTPUT_SHORT => LEAST_OUTPUT - 1 - random.length(LEAST_OUTPUT - 1),
+            OUTPUT_TOO_SHORT => LEAST_OUTPUT - 1 - random.length(LEAST_OUTPUT - 1),
             _ => random.below(LEAST_OUTPUT + 9),
         };
         let message = any_message(random, &[]);
@@ -252,7 +255,11 @@ pub fn refused(seed: u64, rounds: u64) -> Part {
         run.part
             .case(&message.payload, answer, (due, &before, vec![DIRT; room]));
     }
-    run.done([OUTPUT_SHORT, SESSION_MAXIMUM, TABLE_MALFORMED])
+    run.done([
+        OUTPUT_TOO_SHORT,
+        INVALID_REFLECTOR_CAPACITY,
+        MALFORMED_REFLECTOR_TABLE,
+    ])
 }
 
 /// A reflector that is refused, or refuses by its output, and the number.
@@ -269,17 +276,17 @@ fn any_refused(random: &mut Random, round: u64) -> (Reflector, u8) {
             let too_high = random.above(MOST_SESSIONS);
             ours.config.max_sessions = [0, too_high][random.below(2)];
             ours.used = random.any_u64() as usize;
-            SESSION_MAXIMUM
+            INVALID_REFLECTOR_CAPACITY
         }
         1 => {
             ours.used = random.above(most);
-            TABLE_MALFORMED
+            MALFORMED_REFLECTOR_TABLE
         }
         2 => {
             ours.config.max_sessions = rows + 1 + random.below(MOST_SESSIONS - rows);
-            TABLE_MALFORMED
+            MALFORMED_REFLECTOR_TABLE
         }
-        _ => OUTPUT_SHORT,
+        _ => OUTPUT_TOO_SHORT,
     };
     (ours, number)
 }

@@ -2,11 +2,12 @@
 //! is in them. Nothing here, or in `sample_reflector.rs`, calls our library.
 
 use std::collections::{BTreeMap, BTreeSet};
+use std::iter;
 
 use testkit_open::traffic::TrafficPlan;
 
 use crate::gtpu::any_elements;
-use crate::numbers::NOT_IN_THE_RUST;
+use crate::numbers::{CARD, NOT_IN_THE_RUST};
 use crate::observer::{any_call, any_contents, Call};
 use crate::ours::{Values, DIRTY_ADDRESS};
 use crate::ours_traffic::{Counts, Noted, Report, RunSheet};
@@ -76,7 +77,9 @@ pub fn sample(seed: u64, first: u8) -> Sample {
     sample.draw(REMOVE_SESSION, 10, 10, draw_remove);
     sample.draw(HANDLE_DATAGRAM, 4, 6, draw_handle);
     if first == 0 {
-        let due = (0..=37).filter(|number| !NOT_IN_THE_RUST.contains(number));
+        let due = iter::once(0)
+            .chain(CARD)
+            .filter(|number| !NOT_IN_THE_RUST.contains(number));
         let numbers: BTreeSet<u8> = sample.seen.keys().map(|&(_, number, _)| number).collect();
         assert_eq!(numbers, due.collect(), "the numbers of the sample");
     }

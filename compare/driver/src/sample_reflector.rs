@@ -3,7 +3,7 @@
 
 use testkit_open::reflector::OpenReflector;
 
-use crate::numbers::ECHO_REQUEST_TEID;
+use crate::numbers::ECHO_REQUEST_TEID_NOT_ZERO;
 use crate::ours_reflector::{Address, Config, Handled, Message as Header, Session, State};
 use crate::random::Random;
 use crate::records::{word, Drawn, DIRT, MOST_BYTES, ROWS};
@@ -229,7 +229,7 @@ pub fn draw_handle(random: &mut Random) -> Option<Drawn> {
     rest.extend(message.payload);
     let done = due.kind * 8 + due.reason;
     let variety = match due.number {
-        ECHO_REQUEST_TEID => lone_byte(message.teid),
+        ECHO_REQUEST_TEID_NOT_ZERO => lone_byte(message.teid),
         _ => done * 6 + table.config.policy.min(2) * 2 + u8::from(due.destination.version == 4),
     };
     Some((due.number, variety, rest))

@@ -3,6 +3,7 @@
 
 use testkit_open::traffic::{GeneratedPacket, TrafficPlan};
 
+use crate::numbers::*;
 use crate::ours::{Values, Written};
 use crate::ours_traffic;
 use crate::part::Part;
@@ -16,16 +17,20 @@ use crate::wild::{any_probe, any_probe_of};
 /// The most packets of a plan.
 pub const MOST_PACKETS: u64 = 2_048;
 
-/// Numbers that the Rust does not have.
-const OUTPUT_SHORT: u8 = 15;
-const COUNT_TOO_HIGH: u8 = 18;
-
 /// What an output has in it before a call, and how much of it lies past what is lent.
 const DIRT: u8 = 0xa5;
 const BEYOND: usize = 8;
 
 /// The generator's numbers.
-const EVERY_NUMBER: [u8; 7] = [0, 15, 16, 17, 18, 19, 20];
+const EVERY_NUMBER: [u8; 7] = [
+    0,
+    OUTPUT_TOO_SHORT,
+    TARGET_RATE_IS_ZERO,
+    TARGET_RATE_EXCEEDS_RESOLUTION,
+    TOO_MANY_PACKETS,
+    SEQUENCE_OVERFLOW,
+    SEND_TIMESTAMP_OVERFLOW,
+];
 
 /// How many plans follow each other on one engine.
 const PLANS_OF_A_RUN: u64 = 12;
@@ -216,7 +221,7 @@ fn generates_on(
     let mut expected = vec![DIRT; room + BEYOND];
     let (number, bytes, next_sequence) = match due {
         Err(number) => (*number, 0, next_sequence),
-        Ok(bytes) if room < bytes.len() => (OUTPUT_SHORT, 0, before),
+        Ok(bytes) if room < bytes.len() => (OUTPUT_TOO_SHORT, 0, before),
         Ok(bytes) => {
             expected[..bytes.len()].copy_from_slice(bytes);
             (0, bytes.len(), next_sequence)
@@ -249,7 +254,7 @@ pub fn due_packets(
     rate: u64,
 ) -> Outcome<Vec<GeneratedPacket>> {
     if interval(rate).is_ok() && count > MOST_PACKETS {
-        return Err(COUNT_TOO_HIGH);
+        return Err(TOO_MANY_PACKETS);
     }
     let plan = TrafficPlan {
         // A rate is judged before a count, which the Rust does not limit.
