@@ -10,7 +10,7 @@ within-budget-requires : tie.Need-within-budget-requires
 within-budget-requires c κs = search needs
 
 returns : tie.Need-returns
-returns c = rw (c .before .latency-given .ensures, c .within-budget .ensures)
+returns c = rw (c .before .before .latency-given .ensures, c .within-budget .ensures)
 
 pub held-to-spec : {M : Type 1} → statement M
 held-to-spec = tie.close (tie.spec latency-given-requires within-budget-requires returns)
