@@ -1,0 +1,2 @@
+-- The laws of the calls on a run sheet.
+pub mod Calls

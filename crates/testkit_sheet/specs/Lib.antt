@@ -1,0 +1,3 @@
+-- How the C interface puts what the calls on a run sheet answer, and the verdict on a report.
+pub mod Interface
+pub mod Verdict
