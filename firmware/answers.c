@@ -1,9 +1,10 @@
 /*
- * Every field of every answer, and every field that is handed in, with a value of its own: so that a field which the archive
- * has at another place than the header is seen. fields.h is made from the proved source (layout.awk): for each struct it has a
- * function that compares all fields, and notes which of them were told apart; in the end every two fields of one width must have
- * been, and none may always have been 0. Each call over a sheet or a table is run beside the call with single arguments, and each
- * buffer is also lent as null with length 0. The first argument says how buffers are placed (lend.h).
+ * Every field of every answer, and every field that is handed in, with a value of its own: so that a field which the
+ * archive has at another place than the header is seen. fields.h is made from the proved source (layout.awk): for each
+ * struct it has a function that compares all fields, and notes which of them were told apart; in the end every two
+ * fields of one width must have been, and none may always have been 0. Each call over a sheet or a table is run beside
+ * the call with single arguments, and each buffer is also lent as null with length 0. The first argument says how
+ * buffers are placed (lend.h).
  */
 #include "testkit.h"
 
@@ -30,12 +31,13 @@ static unsigned compared;
 
 /* Compares the fields, and notes which differ from each other; on the diagonal, which are not 0. */
 static void compare(
-    const char *what, const char *name, const struct leaf *leaves, int count, const uint64_t *found, const uint64_t *due,
-    unsigned char *apart)
+    const char *what, const char *name, const struct leaf *leaves, int count, const uint64_t *found,
+    const uint64_t *due, unsigned char *apart)
 {
     for (int k = 0; k < count; k++) {
         if (found[k] != due[k]) {
-            printf("surprise: %s: %s.%s is %" PRIu64 ", not %" PRIu64 "\n", what, name, leaves[k].name, found[k], due[k]);
+            printf(
+                "surprise: %s: %s.%s is %" PRIu64 ", not %" PRIu64 "\n", what, name, leaves[k].name, found[k], due[k]);
             fflush(stdout);
             exit(EXIT_FAILURE);
         }
@@ -66,7 +68,9 @@ static void expect_told_apart(void)
             for (int other = k; other < t->count; other++) {
                 if (t->leaves[k].width == t->leaves[other].width && !t->apart[k * t->count + other] &&
                     !never_apart(t->name, t->leaves[k].name, t->leaves[other].name)) {
-                    printf("surprise: %s: %s and %s were not told apart\n", t->name, t->leaves[k].name, t->leaves[other].name);
+                    printf(
+                        "surprise: %s: %s and %s were not told apart\n", t->name, t->leaves[k].name,
+                        t->leaves[other].name);
                     all = false;
                 }
             }
@@ -91,10 +95,7 @@ enum { ROWS = 8, PACKET = TESTKIT_IPV6_TPDU_BYTES };
 static uint8_t *src, *dst, *read_src, *read_dst, *packet, *out;
 static uint64_t *next_sequence;
 
-static const uint8_t *copy(const uint8_t *bytes, size_t length)
-{
-    return lend_copy(bytes, length);
-}
+static const uint8_t *copy(const uint8_t *bytes, size_t length) { return lend_copy(bytes, length); }
 
 /* A T-PDU in `packet`: its length. */
 static size_t make(uint8_t version, uint64_t sequence)
@@ -169,10 +170,12 @@ static void packets(uint8_t version)
     static const uint8_t zeros[16] = {0};
     struct testkit_tpdu due;
     memset(packet, 0xA5, PACKET);
-    compare_testkit_written("build", testkit_build(version, src, dst, 1001, 2002, 5, 3003, packet, PACKET), written_as(0, length));
+    compare_testkit_written(
+        "build", testkit_build(version, src, dst, 1001, 2002, 5, 3003, packet, PACKET), written_as(0, length));
     expect("that the rest stays", length == PACKET || packet[length] == 0xA5, true);
-    compare_testkit_written("build, short", testkit_build(version, src, dst, 1001, 2002, 5, 3003, packet, length - 1),
-                            written_as(TESTKIT_OUTPUT_TOO_SHORT, 0));
+    compare_testkit_written(
+        "build, short", testkit_build(version, src, dst, 1001, 2002, 5, 3003, packet, length - 1),
+        written_as(TESTKIT_OUTPUT_TOO_SHORT, 0));
 
     memset(&due, 0, sizeof due);
     due.version = version;
@@ -194,8 +197,9 @@ static void packets(uint8_t version)
     due.dst_port = 1001;
     compare_testkit_tpdu("the echo", testkit_decode(out, length, read_src, read_dst), due);
     expect_bytes("the echo's source", read_src, dst, counted);
-    compare_testkit_written("echo, short", testkit_echo(copy(packet, length), length, out, length - 1),
-                            written_as(TESTKIT_OUTPUT_TOO_SHORT, 0));
+    compare_testkit_written(
+        "echo, short", testkit_echo(copy(packet, length), length, out, length - 1),
+        written_as(TESTKIT_OUTPUT_TOO_SHORT, 0));
 
     memset(&due, 0, sizeof due);
     due.version = 4;
@@ -204,14 +208,16 @@ static void packets(uint8_t version)
     memset(read_src, 0xA5, 16);
     compare_testkit_tpdu("decode, damaged", testkit_decode(copy(packet, length), length, read_src, read_dst), due);
     expect("that the source stays", read_src[0], 0xA5);
-    compare_testkit_written("echo, damaged", testkit_echo(copy(packet, length), length, out, PACKET),
-                            written_as(TESTKIT_INVALID_UDP_CHECKSUM, 0));
+    compare_testkit_written(
+        "echo, damaged", testkit_echo(copy(packet, length), length, out, PACKET),
+        written_as(TESTKIT_INVALID_UDP_CHECKSUM, 0));
     due.number = TESTKIT_TRUNCATED_IP_HEADER;
     compare_testkit_tpdu("decode, empty", testkit_decode(copy(packet, 0), 0, read_src, read_dst), due);
     compare_testkit_tpdu("decode, null", testkit_decode(NULL, 0, read_src, read_dst), due);
     compare_testkit_written("echo, null", testkit_echo(NULL, 0, NULL, 0), written_as(TESTKIT_TRUNCATED_IP_HEADER, 0));
-    compare_testkit_written("build, null", testkit_build(version, src, dst, 1001, 2002, 5, 3003, NULL, 0),
-                            written_as(TESTKIT_OUTPUT_TOO_SHORT, 0));
+    compare_testkit_written(
+        "build, null", testkit_build(version, src, dst, 1001, 2002, 5, 3003, NULL, 0),
+        written_as(TESTKIT_OUTPUT_TOO_SHORT, 0));
 }
 
 static void generator(void)
@@ -232,31 +238,34 @@ static void generator(void)
         due.send_timestamp_ns = 17 + k * 4000000;
         compare_testkit_tpdu("a generated packet", testkit_decode(bytes + 52 * k, 52, read_src, read_dst), due);
     }
-    compare_testkit_written("generate, short",
-                            testkit_generate(4, src, dst, 1, 2, plan_of(3, 250, 17), next_sequence, bytes, 3 * 52 - 1),
-                            written_as(TESTKIT_OUTPUT_TOO_SHORT, 0));
-    compare_testkit_written("generate, no rate",
-                            testkit_generate(4, src, dst, 1, 2, plan_of(3, 0, 17), next_sequence, bytes, 3 * 52),
-                            written_as(TESTKIT_TARGET_RATE_IS_ZERO, 0));
-    compare_testkit_written("generate, high rate",
-                            testkit_generate(4, src, dst, 1, 2, plan_of(3, 1000000001, 17), next_sequence, bytes, 3 * 52),
-                            written_as(TESTKIT_TARGET_RATE_EXCEEDS_RESOLUTION, 0));
-    compare_testkit_written("generate, too many",
-                            testkit_generate(4, src, dst, 1, 2, plan_of(2049, 250, 17), next_sequence, bytes, 3 * 52),
-                            written_as(TESTKIT_TOO_MANY_PACKETS, 0));
+    compare_testkit_written(
+        "generate, short", testkit_generate(4, src, dst, 1, 2, plan_of(3, 250, 17), next_sequence, bytes, 3 * 52 - 1),
+        written_as(TESTKIT_OUTPUT_TOO_SHORT, 0));
+    compare_testkit_written(
+        "generate, no rate", testkit_generate(4, src, dst, 1, 2, plan_of(3, 0, 17), next_sequence, bytes, 3 * 52),
+        written_as(TESTKIT_TARGET_RATE_IS_ZERO, 0));
+    compare_testkit_written(
+        "generate, high rate",
+        testkit_generate(4, src, dst, 1, 2, plan_of(3, 1000000001, 17), next_sequence, bytes, 3 * 52),
+        written_as(TESTKIT_TARGET_RATE_EXCEEDS_RESOLUTION, 0));
+    compare_testkit_written(
+        "generate, too many", testkit_generate(4, src, dst, 1, 2, plan_of(2049, 250, 17), next_sequence, bytes, 3 * 52),
+        written_as(TESTKIT_TOO_MANY_PACKETS, 0));
     expect("the next sequence", *next_sequence, 73);
-    compare_testkit_written("generate, late",
-                            testkit_generate(4, src, dst, 1, 2, plan_of(3, 250, UINT64_MAX), next_sequence, bytes, 3 * 52),
-                            written_as(TESTKIT_SEND_TIMESTAMP_OVERFLOW, 0));
+    compare_testkit_written(
+        "generate, late",
+        testkit_generate(4, src, dst, 1, 2, plan_of(3, 250, UINT64_MAX), next_sequence, bytes, 3 * 52),
+        written_as(TESTKIT_SEND_TIMESTAMP_OVERFLOW, 0));
     expect("the next sequence after 20", *next_sequence, 75);
     *next_sequence = UINT64_MAX - 2;
-    compare_testkit_written("generate, at the top",
-                            testkit_generate(4, src, dst, 1, 2, plan_of(3, 250, 17), next_sequence, bytes, 3 * 52),
-                            written_as(TESTKIT_SEQUENCE_OVERFLOW, 0));
+    compare_testkit_written(
+        "generate, at the top", testkit_generate(4, src, dst, 1, 2, plan_of(3, 250, 17), next_sequence, bytes, 3 * 52),
+        written_as(TESTKIT_SEQUENCE_OVERFLOW, 0));
     expect("the next sequence after 19", *next_sequence, UINT64_MAX);
     *next_sequence = 75;
-    compare_testkit_written("generate, nothing, null",
-                            testkit_generate(6, src, dst, 1, 2, plan_of(0, 250, 17), next_sequence, NULL, 0), written_as(0, 0));
+    compare_testkit_written(
+        "generate, nothing, null", testkit_generate(6, src, dst, 1, 2, plan_of(0, 250, 17), next_sequence, NULL, 0),
+        written_as(0, 0));
     expect("the next sequence", *next_sequence, 75);
 }
 
@@ -323,21 +332,25 @@ static void check_recorded(
 
 static void sent(const char *what, uint64_t sequence, uint64_t time, uint8_t number, struct testkit_counts counts)
 {
-    check_recorded(what, testkit_sheet_record_sent(&one, sequence, time), testkit_record_sent(COLUMNS, sequence, time),
-                   number, counts);
+    check_recorded(
+        what, testkit_sheet_record_sent(&one, sequence, time), testkit_record_sent(COLUMNS, sequence, time), number,
+        counts);
 }
 
-static void sent_plan(const char *what, struct testkit_plan plan, uint64_t first, uint8_t number, struct testkit_counts counts)
+static void sent_plan(
+    const char *what, struct testkit_plan plan, uint64_t first, uint8_t number, struct testkit_counts counts)
 {
-    check_recorded(what, testkit_sheet_record_sent_plan(&one, plan, first), testkit_record_sent_plan(COLUMNS, plan, first),
-                   number, counts);
+    check_recorded(
+        what, testkit_sheet_record_sent_plan(&one, plan, first), testkit_record_sent_plan(COLUMNS, plan, first), number,
+        counts);
 }
 
 static void received(const char *what, uint64_t time, size_t length, uint8_t number, struct testkit_counts counts)
 {
     const uint8_t *tpdu = copy(packet, length);
-    check_recorded(what, testkit_sheet_record_received_tpdu(&one, time, tpdu, length),
-                   testkit_record_received_tpdu(COLUMNS, time, tpdu, length), number, counts);
+    check_recorded(
+        what, testkit_sheet_record_received_tpdu(&one, time, tpdu, length),
+        testkit_record_received_tpdu(COLUMNS, time, tpdu, length), number, counts);
 }
 
 static void message(
@@ -405,23 +418,30 @@ static void returning(void)
     length = make(4, 14);
     received("too early", 7999, length, TESTKIT_TIMESTAMP_REVERSED, counts_of(8, 102, 203, 303));
 
-    message("a message with a T-PDU", 8200, 255, packet, length, 0, TESTKIT_OUTCOME_MEASUREMENT_TPDU, 0,
-            counts_of(8, 102, 203, 303));
+    message(
+        "a message with a T-PDU", 8200, 255, packet, length, 0, TESTKIT_OUTCOME_MEASUREMENT_TPDU, 0,
+        counts_of(8, 102, 203, 303));
     row("row 3", 3, 14, 8000, 200, 1);
-    message("an Error Indication", 1, 26, elements, 12, 0, TESTKIT_OUTCOME_ERROR_INDICATION, 0, counts_of(8, 102, 203, 304));
+    message(
+        "an Error Indication", 1, 26, elements, 12, 0, TESTKIT_OUTCOME_ERROR_INDICATION, 0,
+        counts_of(8, 102, 203, 304));
     message("an Echo Response", 1, 2, elements, 12, 0, TESTKIT_OUTCOME_ECHO_RESPONSE, 0, counts_of(8, 102, 203, 304));
     message("an End Marker", 1, 254, elements, 12, 0, TESTKIT_OUTCOME_IGNORED, 254, counts_of(8, 102, 203, 304));
     message("a notification", 1, 31, elements, 12, 0, TESTKIT_OUTCOME_IGNORED, 31, counts_of(8, 102, 203, 304));
-    message("an unknown type", 1, 77, elements, 12, TESTKIT_UNSUPPORTED_MESSAGE_TYPE, TESTKIT_OUTCOME_REFUSED, 0,
-            counts_of(8, 102, 203, 304));
-    message("a cut element", 1, 26, elements, 11, TESTKIT_TRUNCATED_ELEMENT, TESTKIT_OUTCOME_REFUSED, 0,
-            counts_of(8, 102, 203, 304));
+    message(
+        "an unknown type", 1, 77, elements, 12, TESTKIT_UNSUPPORTED_MESSAGE_TYPE, TESTKIT_OUTCOME_REFUSED, 0,
+        counts_of(8, 102, 203, 304));
+    message(
+        "a cut element", 1, 26, elements, 11, TESTKIT_TRUNCATED_ELEMENT, TESTKIT_OUTCOME_REFUSED, 0,
+        counts_of(8, 102, 203, 304));
     message("an Echo Response, null", 1, 2, NULL, 0, 0, TESTKIT_OUTCOME_ECHO_RESPONSE, 0, counts_of(8, 102, 203, 304));
-    message("a T-PDU, null", 1, 255, NULL, 0, TESTKIT_TRUNCATED_IP_HEADER, TESTKIT_OUTCOME_REFUSED, 0,
-            counts_of(8, 102, 203, 304));
+    message(
+        "a T-PDU, null", 1, 255, NULL, 0, TESTKIT_TRUNCATED_IP_HEADER, TESTKIT_OUTCOME_REFUSED, 0,
+        counts_of(8, 102, 203, 304));
 }
 
-/* A list of five: a whole packet, a damaged one, one that was not sent, one that the bytes end within, and one behind their end. */
+/* A list of five: a whole packet, a damaged one, one that was not sent, one that the bytes end within, and one behind
+ * their end. */
 static void returning_in_lists(void)
 {
     enum { RETURNS = 5, BYTES = 3 * 52 + 30 };
@@ -449,8 +469,10 @@ static void returning_in_lists(void)
     due.returns = RETURNS;
     due.counts = counts_of(8, 102, 203, 304);
     compare_testkit_returns_recorded(
-        "a list", testkit_sheet_record_received_tpdus(&one, times, RETURNS, lengths, RETURNS, tpdus, BYTES, returned, RETURNS + 1,
-                                                      answered, RETURNS + 2), due);
+        "a list",
+        testkit_sheet_record_received_tpdus(
+            &one, times, RETURNS, lengths, RETURNS, tpdus, BYTES, returned, RETURNS + 1, answered, RETURNS + 2),
+        due);
     expect("the first", answered[0], TESTKIT_ACCEPTED);
     expect("the first's sequence", returned[0], 22);
     expect("the second", answered[1], TESTKIT_INVALID_UDP_CHECKSUM);
@@ -461,8 +483,8 @@ static void returning_in_lists(void)
     expect("the fifth", answered[4], TESTKIT_TRUNCATED_IP_HEADER);
     expect("that the rest stays", answered[5], 0xA5);
     expect("that the rest stays", returned[5], 0xA5A5A5A5A5A5A5A5);
-    single = testkit_record_received_tpdus(COLUMNS, times, RETURNS, lengths, RETURNS, tpdus, BYTES, returned, RETURNS + 1,
-                                           answered, RETURNS + 2);
+    single = testkit_record_received_tpdus(
+        COLUMNS, times, RETURNS, lengths, RETURNS, tpdus, BYTES, returned, RETURNS + 1, answered, RETURNS + 2);
     compare_testkit_returns_recorded("a list", single, due);
     two.counts = single.counts;
     expect_alike("a list");
@@ -474,8 +496,10 @@ static void returning_in_lists(void)
         due.counts.duplicate_packets++;
         compare_testkit_returns_recorded(
             "a short list",
-            testkit_sheet_record_received_tpdus(&one, times, shortest == 0 ? 1 : 5, lengths, shortest == 1 ? 1 : 5, tpdus, BYTES,
-                                                returned, shortest == 2 ? 1 : 6, answered, shortest == 3 ? 1 : 7), due);
+            testkit_sheet_record_received_tpdus(
+                &one, times, shortest == 0 ? 1 : 5, lengths, shortest == 1 ? 1 : 5, tpdus, BYTES, returned,
+                shortest == 2 ? 1 : 6, answered, shortest == 3 ? 1 : 7),
+            due);
     }
     two.counts = one.counts;
     due.returns = 0;
@@ -483,7 +507,8 @@ static void returning_in_lists(void)
         "no list, null", testkit_sheet_record_received_tpdus(&one, NULL, 0, NULL, 0, NULL, 0, NULL, 0, NULL, 0), due);
     due.returns = 1;
     compare_testkit_returns_recorded(
-        "no bytes, null", testkit_sheet_record_received_tpdus(&one, times, 1, lengths, 1, NULL, 0, returned, 1, answered, 1), due);
+        "no bytes, null",
+        testkit_sheet_record_received_tpdus(&one, times, 1, lengths, 1, NULL, 0, returned, 1, answered, 1), due);
     expect("the number of no bytes", answered[0], TESTKIT_TRUNCATED_IP_HEADER);
 
     /* refused whole: nothing is written */
@@ -507,7 +532,8 @@ static void check_report(struct testkit_budget budget, struct testkit_continuity
 }
 
 static void check_verdict(
-    struct testkit_continuity_report report, struct testkit_budget budget, uint8_t reason, uint64_t measured, uint64_t allowed)
+    struct testkit_continuity_report report, struct testkit_budget budget, uint8_t reason, uint64_t measured,
+    uint64_t allowed)
 {
     struct testkit_verdict due;
     due.reason = reason;
@@ -582,8 +608,9 @@ static void reporting(void)
     sent("a malformed sheet", 1, 2, TESTKIT_MALFORMED_OBSERVER, counts_of(99, 101, 202, 303));
     sent_plan("a malformed sheet", plan_of(0, 1, 2), 3, TESTKIT_MALFORMED_OBSERVER, counts_of(99, 101, 202, 303));
     received("a malformed sheet", 1, 0, TESTKIT_MALFORMED_OBSERVER, counts_of(99, 101, 202, 303));
-    message("a malformed sheet", 1, 77, elements, 12, TESTKIT_MALFORMED_OBSERVER, TESTKIT_OUTCOME_REFUSED, 0,
-            counts_of(99, 101, 202, 303));
+    message(
+        "a malformed sheet", 1, 77, elements, 12, TESTKIT_MALFORMED_OBSERVER, TESTKIT_OUTCOME_REFUSED, 0,
+        counts_of(99, 101, 202, 303));
 }
 
 /* Columns of length 0, by null. */
@@ -592,14 +619,18 @@ static void no_columns(void)
     struct testkit_sheet none;
     struct testkit_continuity_report due;
     memset(&none, 0, sizeof none);
-    compare_testkit_recorded("no columns", testkit_sheet_record_sent(&none, 1, 2),
-                             recorded_as(TESTKIT_OBSERVER_FULL, counts_of(0, 0, 0, 0)));
-    compare_testkit_recorded("no columns", testkit_sheet_record_sent_plan(&none, plan_of(1, 2, 3), 4),
-                             recorded_as(TESTKIT_OBSERVER_FULL, counts_of(0, 0, 0, 0)));
-    compare_testkit_recorded("no columns", testkit_sheet_record_received_tpdu(&none, 1, NULL, 0),
-                             recorded_as(TESTKIT_TRUNCATED_IP_HEADER, counts_of(0, 0, 0, 0)));
-    expect("no columns", testkit_sheet_record_return_gtpu_datagram(&none, 1, 26, elements, 12).outcome,
-           TESTKIT_OUTCOME_ERROR_INDICATION);
+    compare_testkit_recorded(
+        "no columns", testkit_sheet_record_sent(&none, 1, 2),
+        recorded_as(TESTKIT_OBSERVER_FULL, counts_of(0, 0, 0, 0)));
+    compare_testkit_recorded(
+        "no columns", testkit_sheet_record_sent_plan(&none, plan_of(1, 2, 3), 4),
+        recorded_as(TESTKIT_OBSERVER_FULL, counts_of(0, 0, 0, 0)));
+    compare_testkit_recorded(
+        "no columns", testkit_sheet_record_received_tpdu(&none, 1, NULL, 0),
+        recorded_as(TESTKIT_TRUNCATED_IP_HEADER, counts_of(0, 0, 0, 0)));
+    expect(
+        "no columns", testkit_sheet_record_return_gtpu_datagram(&none, 1, 26, elements, 12).outcome,
+        TESTKIT_OUTCOME_ERROR_INDICATION);
     none.counts = counts_of(0, 0, 0, 0);
     memset(&due, 0, sizeof due);
     due.window_start_ns = 1;
@@ -628,7 +659,8 @@ static struct testkit_socket_addr address_of(uint8_t version, uint8_t first, uin
     return made;
 }
 
-static struct testkit_reflector_session session_of(uint32_t local_teid, uint32_t peer_teid, struct testkit_socket_addr peer)
+static struct testkit_reflector_session session_of(
+    uint32_t local_teid, uint32_t peer_teid, struct testkit_socket_addr peer)
 {
     struct testkit_reflector_session made;
     made.local_teid = local_teid;
@@ -638,7 +670,8 @@ static struct testkit_reflector_session session_of(uint32_t local_teid, uint32_t
     return made;
 }
 
-static void registered(const char *what, struct testkit_reflector_session session, uint8_t number, bool added, size_t used)
+static void registered(
+    const char *what, struct testkit_reflector_session session, uint8_t number, bool added, size_t used)
 {
     struct testkit_registered due;
     due.number = number;
@@ -646,14 +679,16 @@ static void registered(const char *what, struct testkit_reflector_session sessio
     due.used = used;
     compare_testkit_registered(what, testkit_table_register_session(&table, session), due);
     compare_testkit_registered(
-        what, testkit_register_session(twin.sessions, twin.capacity, twin.used, twin.config.max_sessions, session), due);
+        what, testkit_register_session(twin.sessions, twin.capacity, twin.used, twin.config.max_sessions, session),
+        due);
     twin.used = due.used;
     expect(what, table.used, used);
     expect_bytes(what, table.sessions, twin.sessions, table.capacity * sizeof *table.sessions);
 }
 
-static void removed(const char *what, uint32_t local_teid, uint8_t number, bool was, size_t used,
-                    struct testkit_reflector_session session)
+static void removed(
+    const char *what, uint32_t local_teid, uint8_t number, bool was, size_t used,
+    struct testkit_reflector_session session)
 {
     struct testkit_removed due;
     due.number = number;
@@ -662,7 +697,8 @@ static void removed(const char *what, uint32_t local_teid, uint8_t number, bool 
     due.session = session;
     compare_testkit_removed(what, testkit_table_remove_session(&table, local_teid), due);
     compare_testkit_removed(
-        what, testkit_remove_session(twin.sessions, twin.capacity, twin.used, twin.config.max_sessions, local_teid), due);
+        what, testkit_remove_session(twin.sessions, twin.capacity, twin.used, twin.config.max_sessions, local_teid),
+        due);
     twin.used = due.used;
     expect(what, table.used, used);
     expect_bytes(what, table.sessions, twin.sessions, table.capacity * sizeof *table.sessions);
@@ -706,8 +742,9 @@ static void session_table(void)
     registered("a second session", second, 0, true, 2);
     compare_testkit_reflector_session("the first row", table.sessions[0], first);
     compare_testkit_reflector_session("the second row", table.sessions[1], second);
-    registered("a third session", session_of(0x31, 0x32, address_of(4, 1, 1)), TESTKIT_REFLECTOR_SESSION_CAPACITY_EXCEEDED,
-               false, 2);
+    registered(
+        "a third session", session_of(0x31, 0x32, address_of(4, 1, 1)), TESTKIT_REFLECTOR_SESSION_CAPACITY_EXCEEDED,
+        false, 2);
     removed("no session", 0x31, 0, false, 2, no_session);
     removed("the first session", 0x11, 0, true, 1, first);
     compare_testkit_reflector_session("the last row moved", table.sessions[0], second);
@@ -759,8 +796,8 @@ static struct testkit_handled sends(
 
 /* A message on both tables; `state` is the state that is due afterwards. */
 static void handle(
-    const char *what, struct testkit_gtpu_message header, const uint8_t *bytes, size_t length, struct testkit_handled due,
-    struct testkit_reflector_state state)
+    const char *what, struct testkit_gtpu_message header, const uint8_t *bytes, size_t length,
+    struct testkit_handled due, struct testkit_reflector_state state)
 {
     struct testkit_socket_addr source = address_of(7, 80, 8080);
     const uint8_t *payload = bytes == NULL ? NULL : copy(bytes, length);
@@ -771,8 +808,11 @@ static void handle(
         what, testkit_table_handle_datagram(&table, source, header, payload, length, out, PACKET), due);
     compare_testkit_reflector_state(what, table.state, state);
     compare_testkit_handled(
-        what, testkit_handle_datagram(twin.sessions, twin.capacity, twin.used, twin.config, twin.state, source, header, payload,
-                                      length, out, PACKET), due);
+        what,
+        testkit_handle_datagram(
+            twin.sessions, twin.capacity, twin.used, twin.config, twin.state, source, header, payload, length, out,
+            PACKET),
+        due);
     twin.state = due.state;
     expect("that the rest stays", due.bytes == PACKET || out[due.bytes] == 0xA5, true);
 }
@@ -787,85 +827,109 @@ static void handling(void)
 
     s.gpdu_received++;
     s.gpdu_forwarded++;
-    handle("echo", message_of(255, 0x11, 9, 77), packet, length,
-           sends(TESTKIT_SEND_REFLECTED_GPDU, 52, address_of(4, 20, 2020), message_of(255, 0x12, 0, 0)), s);
+    handle(
+        "echo", message_of(255, 0x11, 9, 77), packet, length,
+        sends(TESTKIT_SEND_REFLECTED_GPDU, 52, address_of(4, 20, 2020), message_of(255, 0x12, 0, 0)), s);
     expect("the echo's number", testkit_decode(out, 52, read_src, read_dst).number, TESTKIT_ACCEPTED);
     expect_bytes("the echo's source", read_src, dst, 4);
     s.gpdu_received++;
-    handle("echo, refused", message_of(255, 0x21, 0, 0), packet, length - 1,
-           nothing(TESTKIT_INVALID_IPV4_TOTAL_LENGTH, TESTKIT_ACTION_REFUSED, 0), s);
+    handle(
+        "echo, refused", message_of(255, 0x21, 0, 0), packet, length - 1,
+        nothing(TESTKIT_INVALID_IPV4_TOTAL_LENGTH, TESTKIT_ACTION_REFUSED, 0), s);
     s.gpdu_received++;
-    handle("echo, null", message_of(255, 0x21, 0, 0), NULL, 0, nothing(TESTKIT_TRUNCATED_IP_HEADER, TESTKIT_ACTION_REFUSED, 0), s);
+    handle(
+        "echo, null", message_of(255, 0x21, 0, 0), NULL, 0,
+        nothing(TESTKIT_TRUNCATED_IP_HEADER, TESTKIT_ACTION_REFUSED, 0), s);
 
     s.error_indications_sent++;
     s.next_error_sequence = 1;
-    handle("unknown", message_of(255, 0x01020304, 0, 0), packet, length,
-           sends(TESTKIT_SEND_ERROR_INDICATION, 24, source, message_of(26, 0, 1, 65535)), s);
+    handle(
+        "unknown", message_of(255, 0x01020304, 0, 0), packet, length,
+        sends(TESTKIT_SEND_ERROR_INDICATION, 24, source, message_of(26, 0, 1, 65535)), s);
     expect("its elements", testkit_validate_elements(out, 24), TESTKIT_ACCEPTED);
     expect_bytes("its TEID", out + 1, "\1\2\3\4", 4);
     expect_bytes("its address", out + 8, source.address, 16);
     s.error_indications_sent++;
     s.next_error_sequence = 2;
-    handle("unknown, again", message_of(255, 0x31, 0, 0), packet, length,
-           sends(TESTKIT_SEND_ERROR_INDICATION, 24, source, message_of(26, 0, 1, 1)), s);
+    handle(
+        "unknown, again", message_of(255, 0x31, 0, 0), packet, length,
+        sends(TESTKIT_SEND_ERROR_INDICATION, 24, source, message_of(26, 0, 1, 1)), s);
 
     s.echo_requests_answered++;
-    handle("an Echo Request", message_of(1, 0, 200, 777), packet, 0,
-           sends(TESTKIT_SEND_ECHO_RESPONSE, 2, source, message_of(2, 0, 1, 777)), s);
+    handle(
+        "an Echo Request", message_of(1, 0, 200, 777), packet, 0,
+        sends(TESTKIT_SEND_ECHO_RESPONSE, 2, source, message_of(2, 0, 1, 777)), s);
     expect("its recovery", out[0], 14);
     expect("its recovery counter", out[1], 44);
     s.malformed_rejected++;
-    handle("an Echo Request with a TEID", message_of(1, 5, 1, 777), packet, 0,
-           nothing(TESTKIT_ECHO_REQUEST_TEID_NOT_ZERO, TESTKIT_ACTION_REFUSED, 0), s);
+    handle(
+        "an Echo Request with a TEID", message_of(1, 5, 1, 777), packet, 0,
+        nothing(TESTKIT_ECHO_REQUEST_TEID_NOT_ZERO, TESTKIT_ACTION_REFUSED, 0), s);
     s.malformed_rejected++;
-    handle("an Echo Request without sequence", message_of(1, 0, 0, 777), packet, 0,
-           nothing(TESTKIT_ECHO_REQUEST_MISSING_SEQUENCE, TESTKIT_ACTION_REFUSED, 0), s);
+    handle(
+        "an Echo Request without sequence", message_of(1, 0, 0, 777), packet, 0,
+        nothing(TESTKIT_ECHO_REQUEST_MISSING_SEQUENCE, TESTKIT_ACTION_REFUSED, 0), s);
     s.malformed_rejected++;
-    handle("an unknown type", message_of(77, 0, 0, 0), packet, 0,
-           nothing(TESTKIT_UNSUPPORTED_MESSAGE_TYPE, TESTKIT_ACTION_REFUSED, 0), s);
-    handle("an Echo Response", message_of(2, 0, 0, 0), packet, 0,
-           nothing(0, TESTKIT_ACTION_NOOP, TESTKIT_NOOP_ECHO_RESPONSE_OBSERVED), s);
-    handle("an Error Indication", message_of(26, 0, 0, 0), packet, 0,
-           nothing(0, TESTKIT_ACTION_NOOP, TESTKIT_NOOP_ERROR_INDICATION_OBSERVED), s);
-    handle("an End Marker", message_of(254, 0, 0, 0), packet, 0,
-           nothing(0, TESTKIT_ACTION_NOOP, TESTKIT_NOOP_END_MARKER_IGNORED), s);
-    handle("a notification", message_of(31, 0, 0, 0), packet, 0,
-           nothing(0, TESTKIT_ACTION_NOOP, TESTKIT_NOOP_SUPPORTED_EXTENSION_HEADERS_NOTIFICATION_IGNORED), s);
+    handle(
+        "an unknown type", message_of(77, 0, 0, 0), packet, 0,
+        nothing(TESTKIT_UNSUPPORTED_MESSAGE_TYPE, TESTKIT_ACTION_REFUSED, 0), s);
+    handle(
+        "an Echo Response", message_of(2, 0, 0, 0), packet, 0,
+        nothing(0, TESTKIT_ACTION_NOOP, TESTKIT_NOOP_ECHO_RESPONSE_OBSERVED), s);
+    handle(
+        "an Error Indication", message_of(26, 0, 0, 0), packet, 0,
+        nothing(0, TESTKIT_ACTION_NOOP, TESTKIT_NOOP_ERROR_INDICATION_OBSERVED), s);
+    handle(
+        "an End Marker", message_of(254, 0, 0, 0), packet, 0,
+        nothing(0, TESTKIT_ACTION_NOOP, TESTKIT_NOOP_END_MARKER_IGNORED), s);
+    handle(
+        "a notification", message_of(31, 0, 0, 0), packet, 0,
+        nothing(0, TESTKIT_ACTION_NOOP, TESTKIT_NOOP_SUPPORTED_EXTENSION_HEADERS_NOTIFICATION_IGNORED), s);
 
     table.config.policy = twin.config.policy = TESTKIT_POLICY_SINK_AND_COUNT;
     s.gpdu_received++;
     s.gpdu_sunk++;
-    handle("sink", message_of(255, 0x21, 0, 0), packet, length, nothing(0, TESTKIT_ACTION_NOOP, TESTKIT_NOOP_GPDU_SUNK), s);
+    handle(
+        "sink", message_of(255, 0x21, 0, 0), packet, length, nothing(0, TESTKIT_ACTION_NOOP, TESTKIT_NOOP_GPDU_SUNK),
+        s);
     table.config.policy = twin.config.policy = TESTKIT_POLICY_ROUTE;
     s.gpdu_received++;
     s.gpdu_forwarded++;
-    handle("route", message_of(255, 0x21, 0, 0), packet, length,
-           sends(TESTKIT_SEND_ROUTED_GPDU, 0, target, message_of(255, 0x66, 0, 0)), s);
+    handle(
+        "route", message_of(255, 0x21, 0, 0), packet, length,
+        sends(TESTKIT_SEND_ROUTED_GPDU, 0, target, message_of(255, 0x66, 0, 0)), s);
     table.config.policy = twin.config.policy = 200;
     s.gpdu_received++;
     s.gpdu_forwarded++;
-    handle("route, by another number", message_of(255, 0x21, 0, 0), packet, length,
-           sends(TESTKIT_SEND_ROUTED_GPDU, 0, target, message_of(255, 0x66, 0, 0)), s);
+    handle(
+        "route, by another number", message_of(255, 0x21, 0, 0), packet, length,
+        sends(TESTKIT_SEND_ROUTED_GPDU, 0, target, message_of(255, 0x66, 0, 0)), s);
 
     due = nothing(TESTKIT_OUTPUT_TOO_SHORT, TESTKIT_ACTION_REFUSED, 0);
     due.state = s;
     compare_testkit_handled(
         "a short output",
-        testkit_table_handle_datagram(&table, source, message_of(1, 0, 1, 2), packet, 0, out, TESTKIT_REFLECTOR_BYTES - 1), due);
-    compare_testkit_handled("no output, null",
-                            testkit_table_handle_datagram(&table, source, message_of(1, 0, 1, 2), NULL, 0, NULL, 0), due);
+        testkit_table_handle_datagram(
+            &table, source, message_of(1, 0, 1, 2), packet, 0, out, TESTKIT_REFLECTOR_BYTES - 1),
+        due);
+    compare_testkit_handled(
+        "no output, null", testkit_table_handle_datagram(&table, source, message_of(1, 0, 1, 2), NULL, 0, NULL, 0),
+        due);
     table.sessions = NULL;
     table.capacity = 0;
     table.used = 0;
     due.number = TESTKIT_MALFORMED_REFLECTOR_TABLE;
-    compare_testkit_handled("no table, null",
-                            testkit_table_handle_datagram(&table, source, message_of(1, 0, 1, 2), NULL, 0, NULL, 0), due);
-    expect("no table, null", testkit_table_register_session(&table, twin.sessions[0]).number, TESTKIT_MALFORMED_REFLECTOR_TABLE);
+    compare_testkit_handled(
+        "no table, null", testkit_table_handle_datagram(&table, source, message_of(1, 0, 1, 2), NULL, 0, NULL, 0), due);
+    expect(
+        "no table, null", testkit_table_register_session(&table, twin.sessions[0]).number,
+        TESTKIT_MALFORMED_REFLECTOR_TABLE);
     expect("no table, null", testkit_table_remove_session(&table, 1).number, TESTKIT_MALFORMED_REFLECTOR_TABLE);
     table.config.max_sessions = 4097;
     due.number = TESTKIT_INVALID_REFLECTOR_CAPACITY;
-    compare_testkit_handled("too large a maximum",
-                            testkit_table_handle_datagram(&table, source, message_of(1, 0, 1, 2), NULL, 0, NULL, 0), due);
+    compare_testkit_handled(
+        "too large a maximum", testkit_table_handle_datagram(&table, source, message_of(1, 0, 1, 2), NULL, 0, NULL, 0),
+        due);
 }
 
 int main(int argc, char **argv)

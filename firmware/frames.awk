@@ -1,7 +1,7 @@
 # How much stack each exported call can use, from its compiled code alone: reads `objdump -dr --no-show-raw-insn` of the archive and prints
 #     bound NAME BYTES       the return address, and below it the deepest frames of the call and of all that it calls
 #     below NAME BYTES       how far a function writes below its own stack pointer (the red zone of the x86-64 ABI), where it does
-#     registers LETTER..     the vector registers that are named: x, y or z for %xmm, %ymm or %zmm, and others by their names
+#     registers LETTER..     the registers besides the general ones that are named: x, y or z for %xmm, %ymm or %zmm, others by their names
 # Every path through a function is followed, and the stack pointer must have one value at each instruction. What cannot be followed (another
 # change of the stack pointer, an unknown callee, an indirect call, functions that call each other in a circle) ends the run with status 1.
 #   -v memory=BYTES          what memcpy, memmove, memset and memcmp are taken to use each, their return address included
@@ -22,6 +22,12 @@ function hex(text,    k, value, negative) {
     return negative ? -value : value
 }
 
+# What `and` with this mask makes the stack pointer a multiple of: 64 for 0xffffffffffffffc0.
+function alignment_of(mask,    value) {
+    value = hex(substr(mask, length(mask) - 2))
+    return 4096 - value
+}
+
 # The function that a call or a jump out of its function leads to: by its relocation, else by the symbol that objdump puts behind it.
 function target(f, k,    name) {
     name = relocation[f, k]
@@ -39,9 +45,9 @@ function target(f, k,    name) {
 
 # Notes that instruction k of f runs with so many bytes of stack in use.
 function reach(f, k, depth) {
-    if (!((f, k) in op)) fail(f " runs out of its code")
+    if (!((f, k) in op)) fail(name_of[f] " runs out of its code")
     if ((f, k) in at_depth) {
-        if (at_depth[f, k] != depth) fail(f ": two depths at " address[f, k])
+        if (at_depth[f, k] != depth) fail(name_of[f] ": two depths at " address[f, k])
         return
     }
     at_depth[f, k] = depth
@@ -74,28 +80,34 @@ function follow(f,    k, depth, name, rest, displacement, callee, next_k, indire
             else if (name == "sub" && rest ~ /^\$0x[0-9a-f]+,%rsp$/) depth += hex(substr(rest, 2, index(rest, ",") - 2))
             else if (name == "add" && rest ~ /^\$0x[0-9a-f]+,%rsp$/) depth -= hex(substr(rest, 2, index(rest, ",") - 2))
             else if (name == "lea" && rest ~ /^-?0x[0-9a-f]+\(%rsp\),%rsp$/) depth -= hex(substr(rest, 1, index(rest, "(") - 1))
-            else if (name !~ /^(cmp|test)/ && rest ~ /(^|,)%[re]?sp$/ || name ~ /^(leave|enter|popf|pushf|xchg)/ && rest ~ /sp|^$/)
-                fail(f ": cannot follow '" name " " rest "'")
+            else if (name == "and" && rest ~ /^\$0xf+[0-9a-f]*0,%rsp$/) depth += alignment_of(substr(rest, 2, index(rest, ",") - 2)) - 1
+            else if (name == "mov" && rest == "%rsp,%rbp") frame_depth[f] = depth
+            else if (name == "mov" && rest == "%rbp,%rsp" && f in frame_depth) depth = frame_depth[f]
+            else if (name == "lea" && rest ~ /^-?0x[0-9a-f]+\(%rbp\),%rsp$/ && f in frame_depth)
+                depth = frame_depth[f] - hex(substr(rest, 1, index(rest, "(") - 1))
+            else if (name == "leave" && f in frame_depth) depth = frame_depth[f] - 8
+            else if (name !~ /^(cmp|test)/ && rest ~ /(^|,)%[re]?sp$/ || name ~ /^(leave|enter|popf|pushf)/)
+                fail(name_of[f] ": cannot follow '" name " " rest "'")
             deeper(f, depth)
             next_k = k + 1
             if (name == "ret") {
-                if (depth != 8) fail(f ": returns with " depth " bytes of stack")
+                if (depth != 8) fail(name_of[f] ": returns with " depth " bytes of stack")
                 continue
             }
             if (name == "ud2" || name == "hlt") continue
             if (name ~ /^call/) {
-                if (rest ~ /\*/) fail(f ": an indirect call")
+                if (rest ~ /\*/) fail(name_of[f] ": an indirect call")
                 callee = target(f, k)
                 calls[f, ++call_count[f]] = callee
                 call_depth[f, call_count[f]] = depth
             } else if (name ~ /^(notrack )?jmp/ && rest ~ /\*/) {
-                if (indirect >= 0 && indirect != depth) fail(f ": indirect jumps at two depths")
+                if (indirect >= 0 && indirect != depth) fail(name_of[f] ": indirect jumps at two depths")
                 indirect = depth
                 continue
             } else if (name ~ /^j/) {
                 callee = relocation[f, k] == "" && target(f, k) == f ? "" : target(f, k)
                 if (callee == "") {
-                    if (!((f, hex(rest_word(rest))) in by_address)) fail(f ": a jump to nowhere: " rest)
+                    if (!((f, hex(rest_word(rest))) in by_address)) fail(name_of[f] ": a jump to nowhere: " rest)
                     reach(f, by_address[f, hex(rest_word(rest))], depth)
                 } else {
                     calls[f, ++call_count[f]] = callee
@@ -185,7 +197,7 @@ BEGIN {
     sub(/^ +/, "", rest)
     sub(/ +#.*$/, "", rest)
     words[f, instruction] = rest
-    while (match(line, /%([xyz]?mm[0-9]+|k[0-7]|st)/)) {
+    while (match(line, /%([xyz]?mm[0-9]+|k[0-7]|st|[fg]s:)/)) {
         register = substr(line, RSTART + 1, RLENGTH - 1)
         sub(/mm[0-9]+$/, "", register)
         named[register == "" ? "mm" : register] = 1

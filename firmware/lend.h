@@ -6,15 +6,16 @@
 #include <stdint.h>
 
 /*
- * How buffers are placed: "before" an unreadable page, so that a byte behind the buffer's end stops the program; "behind" one,
- * so that a byte before its beginning does; or "plain", from malloc, which a sanitizer watches.
+ * How buffers are placed: "before" an unreadable page, so that a byte behind the buffer's end stops the program;
+ * "behind" one, so that a byte before its beginning does; or "plain", from malloc, which a sanitizer watches.
  */
 void lend_as(const char *way);
 
 /* A buffer of so many bytes, which hold 0xA5. It is never given back. */
 void *lend(size_t bytes);
 
-/* A copy of these bytes to lend for reading: read-only where pages are used. It lasts until the next one is asked for. */
+/* A copy of these bytes to lend for reading: read-only where pages are used. It lasts until the next one is asked for.
+ */
 const uint8_t *lend_copy(const uint8_t *bytes, size_t length);
 
 /* Ends the program with a message where two numbers differ. */

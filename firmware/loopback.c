@@ -1,6 +1,6 @@
 /*
- * The probe and three reflectors, joined by a wire in memory that loses, repeats, delays and damages. Prints what they log, and
- * ends with status 1 on any surprise. The first argument says how buffers are placed (lend.h).
+ * The probe and three reflectors, joined by a wire in memory that loses, repeats, delays and damages. Prints what they
+ * log, and ends with status 1 on any surprise. The first argument says how buffers are placed (lend.h).
  */
 #include "loopback.h"
 
@@ -25,6 +25,7 @@ static struct reflector reflector, gateway, sink;
 /* What goes wrong, by the number that a G-PDU has on its way out of the probe or back to it in this run, from 0. */
 static struct {
     int lost_from, lost_count, repeated, damaged; /* on the way out */
+    int slow;                                     /* takes so long to send that the next one leaves late */
     int wrong_teid;
     int delayed, damaged_back; /* on the way back */
     int out, back;
@@ -32,18 +33,17 @@ static struct {
 
 static void quiet(void)
 {
-    path.lost_from = path.repeated = path.damaged = path.wrong_teid = path.delayed = path.damaged_back = NONE;
+    path.lost_from = path.repeated = path.damaged = path.slow = path.wrong_teid = path.delayed = path.damaged_back =
+        NONE;
     path.lost_count = path.out = path.back = 0;
 }
 
-uint64_t wire_now(void)
-{
-    return now_ns;
-}
+uint64_t wire_now(void) { return now_ns; }
 
 static bool same(const struct testkit_socket_addr *a, const struct testkit_socket_addr *b)
 {
-    return a->version == b->version && a->port == b->port && memcmp(a->address, b->address, a->version == 4 ? 4 : 16) == 0;
+    return a->version == b->version && a->port == b->port &&
+           memcmp(a->address, b->address, a->version == 4 ? 4 : 16) == 0;
 }
 
 static void put(const struct datagram *datagram)
@@ -53,11 +53,8 @@ static void put(const struct datagram *datagram)
 }
 
 void wire_send(
-    struct testkit_socket_addr source,
-    struct testkit_socket_addr destination,
-    struct testkit_gtpu_message message,
-    const uint8_t *payload,
-    size_t payload_length)
+    struct testkit_socket_addr source, struct testkit_socket_addr destination, struct testkit_gtpu_message message,
+    const uint8_t *payload, size_t payload_length)
 {
     struct datagram datagram;
     memset(&datagram, 0, sizeof datagram);
@@ -70,6 +67,7 @@ void wire_send(
     datagram.time = now_ns + LATENCY_NS;
     if (message.message_type == TESTKIT_GTPU_MSG_GPDU && same(&source, &probe_address)) {
         int k = path.out++;
+        now_ns += k == path.slow ? 1250000 : 0;
         if (path.lost_from != NONE && k >= path.lost_from && k < path.lost_from + path.lost_count) {
             return;
         }
@@ -86,7 +84,8 @@ void wire_send(
     put(&datagram);
 }
 
-/* The earliest message for an address, or for any but the probe's, that arrives by a time; QUEUE where there is none. */
+/* The earliest message for an address, or for any but the probe's, that arrives by a time; QUEUE where there is none.
+ */
 static size_t earliest(const struct testkit_socket_addr *destination, uint64_t until)
 {
     size_t found = QUEUE;
@@ -159,7 +158,9 @@ static struct testkit_continuity_report verdict(struct testkit_budget allowed, u
 {
     struct testkit_continuity_report report = probe_report(&probe, allowed);
     expect("the verdict", probe_judge(report, allowed), reason);
-    expect("the report's own", report.forwarding_proven && report.packet_continuity_proven, reason == TESTKIT_VERDICT_PASS);
+    expect(
+        "the report's own", report.forwarding_proven && report.packet_continuity_proven,
+        reason == TESTKIT_VERDICT_PASS);
     return report;
 }
 
@@ -170,12 +171,10 @@ static void towards(struct testkit_socket_addr peer, uint32_t teid)
     probe_start(&probe);
 }
 
-static void settle(void)
-{
-    wire_wait_until(now_ns + 10000000);
-}
+static void settle(void) { wire_wait_until(now_ns + 10000000); }
 
-static void send(struct testkit_socket_addr from, struct testkit_socket_addr to, uint8_t type, uint32_t teid, uint8_t numbered)
+static void send(
+    struct testkit_socket_addr from, struct testkit_socket_addr to, uint8_t type, uint32_t teid, uint8_t numbered)
 {
     static const uint8_t indication[12] = {16, 0, 0, 1, 0, 133, 0, 4, 192, 0, 0, 2};
     struct testkit_gtpu_message message;
@@ -195,11 +194,14 @@ static void sessions(void)
     reflector_open(&sink, sink_address, 1, TESTKIT_POLICY_SINK_AND_COUNT);
     expect("a session", reflector_add(&reflector, 0x100, 0x900, probe_address), TESTKIT_ACCEPTED);
     expect("the same session", reflector_add(&reflector, 0x100, 0x900, probe_address), TESTKIT_ACCEPTED);
-    expect("another of its TEID", reflector_add(&reflector, 0x100, 0x901, probe_address), TESTKIT_REFLECTOR_SESSION_CONFLICT);
+    expect(
+        "another of its TEID", reflector_add(&reflector, 0x100, 0x901, probe_address),
+        TESTKIT_REFLECTOR_SESSION_CONFLICT);
     expect("no TEID", reflector_add(&reflector, 0, 0x901, probe_address), TESTKIT_INVALID_REFLECTOR_SESSION);
     expect("a second session", reflector_add(&reflector, 0x101, 0x901, probe_address), TESTKIT_ACCEPTED);
-    expect("one too many", reflector_add(&reflector, 0x102, 0x902, probe_address),
-           TESTKIT_REFLECTOR_SESSION_CAPACITY_EXCEEDED);
+    expect(
+        "one too many", reflector_add(&reflector, 0x102, 0x902, probe_address),
+        TESTKIT_REFLECTOR_SESSION_CAPACITY_EXCEEDED);
     expect("no such session", reflector_drop(&reflector, 0x102), false);
     expect("a session dropped", reflector_drop(&reflector, 0x101), true);
     expect("the gateway's", reflector_add(&gateway, 0x200, 0x900, probe_address), TESTKIT_ACCEPTED);
@@ -231,6 +233,7 @@ int main(int argc, char **argv)
     path.lost_count = 4;
     path.repeated = 20;
     path.damaged = 40;
+    path.slow = 60;
     path.delayed = 30;
     path.damaged_back = 50;
     towards(reflector_address, 0x100);

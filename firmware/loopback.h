@@ -20,11 +20,8 @@ void wire_wait_until(uint64_t time);
 
 /* Puts a message on the wire. */
 void wire_send(
-    struct testkit_socket_addr source,
-    struct testkit_socket_addr destination,
-    struct testkit_gtpu_message message,
-    const uint8_t *payload,
-    size_t payload_length);
+    struct testkit_socket_addr source, struct testkit_socket_addr destination, struct testkit_gtpu_message message,
+    const uint8_t *payload, size_t payload_length);
 
 /* The next message that has arrived at an address. False where there is none. */
 bool wire_receive(struct testkit_socket_addr destination, struct datagram *datagram);
@@ -67,7 +64,8 @@ struct reflector {
 };
 
 void reflector_open(struct reflector *reflector, struct testkit_socket_addr self, size_t sessions, uint8_t policy);
-uint8_t reflector_add(struct reflector *reflector, uint32_t local_teid, uint32_t peer_teid, struct testkit_socket_addr peer);
+uint8_t reflector_add(
+    struct reflector *reflector, uint32_t local_teid, uint32_t peer_teid, struct testkit_socket_addr peer);
 bool reflector_drop(struct reflector *reflector, uint32_t local_teid);
 void reflector_serve(struct reflector *reflector);
 void reflector_log(const struct reflector *reflector, const char *name);

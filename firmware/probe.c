@@ -1,6 +1,6 @@
 /*
- * The probe, as firmware has it: a plan is made, entered on the run sheet and sent; what comes back is entered, each number
- * is acted on; the report decides.
+ * The probe, as firmware has it: a plan is made, entered on the run sheet and sent; what comes back is entered, each
+ * number is acted on; the report decides.
  */
 #include "loopback.h"
 
@@ -51,7 +51,8 @@ static void send_message(const struct probe *probe, uint8_t type, uint32_t teid,
     wire_send(probe->self, probe->peer, message, payload, length);
 }
 
-/* Makes a plan's packets, enters them, and sends each at its time; before them an Echo Request, to see that the peer is there. */
+/* Makes a plan's packets, enters them, and sends each at its time; before them an Echo Request, to see that the peer is
+ * there. */
 void probe_send_plan(struct probe *probe, uint8_t version, uint64_t packets, uint64_t rate)
 {
     static const uint8_t near_end[16] = {10, 0, 0, 1}, far_end[16] = {10, 0, 0, 2};
@@ -150,7 +151,8 @@ void probe_receive_list(struct probe *probe)
         size_t rows = 0, bytes = 0;
         struct testkit_returns_recorded recorded;
         while (rows < LIST_ROWS && (more = wire_receive(probe->self, &datagram))) {
-            if (datagram.message.message_type != TESTKIT_GTPU_MSG_GPDU || datagram.payload_length > LIST_BYTES - bytes) {
+            if (datagram.message.message_type != TESTKIT_GTPU_MSG_GPDU ||
+                datagram.payload_length > LIST_BYTES - bytes) {
                 probe->ignored++;
                 continue;
             }
@@ -180,14 +182,18 @@ struct testkit_continuity_report probe_report(const struct probe *probe, struct 
     struct testkit_continuity_report report;
     wire_wait_until(wire_now() + WAIT_NS); /* what is still on its way would count as lost */
     report = testkit_sheet_report(&probe->sheet, probe->started, wire_now(), budget);
-    printf("  sent %" PRIu64 ", received %" PRIu64 ", lost %" PRIu64 ", duplicate %" PRIu64 ", out of order %" PRIu64
-           ", Error Indications %" PRIu64 "\n",
-           report.sent_packets, report.received_packets, report.lost_packets, report.duplicate_packets,
-           report.out_of_order_packets, report.gtpu_error_indications);
-    printf("  longest run %" PRIu64 ", longest outage %" PRIu64 " ns\n",
-           report.max_consecutive_lost_packets, report.max_gap_duration_ns);
+    printf(
+        "  sent %" PRIu64 ", received %" PRIu64 ", lost %" PRIu64 ", duplicate %" PRIu64 ", out of order %" PRIu64
+        ", Error Indications %" PRIu64 "\n",
+        report.sent_packets, report.received_packets, report.lost_packets, report.duplicate_packets,
+        report.out_of_order_packets, report.gtpu_error_indications);
+    printf(
+        "  longest run %" PRIu64 ", longest outage %" PRIu64 " ns\n", report.max_consecutive_lost_packets,
+        report.max_gap_duration_ns);
     if (report.has_latency) {
-        printf("  latency %" PRIu64 " to %" PRIu64 " ns, mean %" PRIu64 " ns\n", report.min_ns, report.max_ns, report.avg_ns);
+        printf(
+            "  latency %" PRIu64 " to %" PRIu64 " ns, mean %" PRIu64 " ns\n", report.min_ns, report.max_ns,
+            report.avg_ns);
     }
     printf("  Echo Responses %u, ignored %u\n", probe->echo_responses, probe->ignored);
     for (unsigned number = 0; number < 256; number++) {

@@ -1,6 +1,6 @@
 /*
- * The reflector, as firmware has it: sessions are registered, each parsed message is handled, and what the answer asks for is
- * done.
+ * The reflector, as firmware has it: sessions are registered, each parsed message is handled, and what the answer asks
+ * for is done.
  */
 #include "loopback.h"
 
@@ -14,8 +14,7 @@
 void reflector_open(struct reflector *reflector, struct testkit_socket_addr self, size_t sessions, uint8_t policy)
 {
     memset(reflector, 0, sizeof *reflector);
-    reflector->table.sessions =
-        (struct testkit_reflector_session *)lend(sessions * sizeof *reflector->table.sessions);
+    reflector->table.sessions = (struct testkit_reflector_session *)lend(sessions * sizeof *reflector->table.sessions);
     reflector->table.capacity = sessions;
     reflector->table.config.max_sessions = sessions;
     reflector->table.config.recovery_counter = 3;
@@ -25,7 +24,8 @@ void reflector_open(struct reflector *reflector, struct testkit_socket_addr self
     reflector->self = self;
 }
 
-uint8_t reflector_add(struct reflector *reflector, uint32_t local_teid, uint32_t peer_teid, struct testkit_socket_addr peer)
+uint8_t reflector_add(
+    struct reflector *reflector, uint32_t local_teid, uint32_t peer_teid, struct testkit_socket_addr peer)
 {
     size_t used = reflector->table.used;
     struct testkit_reflector_session session;
@@ -82,20 +82,24 @@ void reflector_log(const struct reflector *reflector, const char *name)
 {
     const struct testkit_reflector_state *state = &reflector->table.state;
     printf("%s: sessions %zu\n", name, reflector->table.used);
-    printf("  G-PDUs received %" PRIu64 ", forwarded %" PRIu64 ", sunk %" PRIu64 "; Echo Requests answered %" PRIu64
-           "; Error Indications %" PRIu64 ", next %u; malformed %" PRIu64 "\n",
-           state->gpdu_received, state->gpdu_forwarded, state->gpdu_sunk, state->echo_requests_answered,
-           state->error_indications_sent, (unsigned)state->next_error_sequence, state->malformed_rejected);
-    printf("  sent: reflected %u, routed %u, Echo Responses %u, Error Indications %u\n",
-           reflector->sent[TESTKIT_SEND_REFLECTED_GPDU], reflector->sent[TESTKIT_SEND_ROUTED_GPDU],
-           reflector->sent[TESTKIT_SEND_ECHO_RESPONSE], reflector->sent[TESTKIT_SEND_ERROR_INDICATION]);
-    printf("  nothing: sunk %u, Echo Responses %u, Error Indications %u, End Markers %u, notifications %u\n",
-           reflector->nothing[TESTKIT_NOOP_GPDU_SUNK], reflector->nothing[TESTKIT_NOOP_ECHO_RESPONSE_OBSERVED],
-           reflector->nothing[TESTKIT_NOOP_ERROR_INDICATION_OBSERVED], reflector->nothing[TESTKIT_NOOP_END_MARKER_IGNORED],
-           reflector->nothing[TESTKIT_NOOP_SUPPORTED_EXTENSION_HEADERS_NOTIFICATION_IGNORED]);
+    printf(
+        "  G-PDUs received %" PRIu64 ", forwarded %" PRIu64 ", sunk %" PRIu64 "; Echo Requests answered %" PRIu64
+        "; Error Indications %" PRIu64 ", next %u; malformed %" PRIu64 "\n",
+        state->gpdu_received, state->gpdu_forwarded, state->gpdu_sunk, state->echo_requests_answered,
+        state->error_indications_sent, (unsigned)state->next_error_sequence, state->malformed_rejected);
+    printf(
+        "  sent: reflected %u, routed %u, Echo Responses %u, Error Indications %u\n",
+        reflector->sent[TESTKIT_SEND_REFLECTED_GPDU], reflector->sent[TESTKIT_SEND_ROUTED_GPDU],
+        reflector->sent[TESTKIT_SEND_ECHO_RESPONSE], reflector->sent[TESTKIT_SEND_ERROR_INDICATION]);
+    printf(
+        "  nothing: sunk %u, Echo Responses %u, Error Indications %u, End Markers %u, notifications %u\n",
+        reflector->nothing[TESTKIT_NOOP_GPDU_SUNK], reflector->nothing[TESTKIT_NOOP_ECHO_RESPONSE_OBSERVED],
+        reflector->nothing[TESTKIT_NOOP_ERROR_INDICATION_OBSERVED], reflector->nothing[TESTKIT_NOOP_END_MARKER_IGNORED],
+        reflector->nothing[TESTKIT_NOOP_SUPPORTED_EXTENSION_HEADERS_NOTIFICATION_IGNORED]);
     for (unsigned number = 0; number < 256; number++) {
         if (reflector->refused[number] != 0) {
-            printf("  refused %u by %u: %s\n", reflector->refused[number], number, testkit_number_text((uint8_t)number));
+            printf(
+                "  refused %u by %u: %s\n", reflector->refused[number], number, testkit_number_text((uint8_t)number));
         }
     }
 }

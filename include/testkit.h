@@ -221,20 +221,20 @@ enum testkit_stack {
     TESTKIT_STACK_CHECKSUM = 72,
     TESTKIT_STACK_VERIFY = 40,
     TESTKIT_STACK_BUILD = 200,
-    TESTKIT_STACK_ECHO = 536,
+    TESTKIT_STACK_ECHO = 472,
     TESTKIT_STACK_DECODE = 216,
-    TESTKIT_STACK_GENERATE = 328,
+    TESTKIT_STACK_GENERATE = 344,
     TESTKIT_STACK_VALIDATE_ELEMENTS = 624,
     TESTKIT_STACK_RECORD_SENT = 56,
-    TESTKIT_STACK_RECORD_SENT_PLAN = 104,
-    TESTKIT_STACK_RECORD_RECEIVED_TPDU = 552,
-    TESTKIT_STACK_RECORD_RECEIVED_TPDUS = 376,
-    TESTKIT_STACK_RECORD_RETURN_GTPU_DATAGRAM = 816,
-    TESTKIT_STACK_REPORT = 124,
-    TESTKIT_STACK_JUDGE_REPORT = 8,
+    TESTKIT_STACK_RECORD_SENT_PLAN = 120,
+    TESTKIT_STACK_RECORD_RECEIVED_TPDU = 504,
+    TESTKIT_STACK_RECORD_RECEIVED_TPDUS = 328,
+    TESTKIT_STACK_RECORD_RETURN_GTPU_DATAGRAM = 784,
+    TESTKIT_STACK_REPORT = 140,
+    TESTKIT_STACK_JUDGE_REPORT = 48,
     TESTKIT_STACK_REGISTER_SESSION = 184,
     TESTKIT_STACK_REMOVE_SESSION = 128,
-    TESTKIT_STACK_HANDLE_DATAGRAM = 680
+    TESTKIT_STACK_HANDLE_DATAGRAM = 776
 };
 
 /* The version of the archive: TESTKIT_VERSION, where header and archive are of one version. */
@@ -487,8 +487,9 @@ static inline struct testkit_continuity_report testkit_sheet_report(
 /*
  * What a report comes to under a budget, which need not be the one that it was made with: the first of
  * TESTKIT_VERDICT_NO_REPORT, NOTHING_RETURNED, TOO_MANY_LOST, TOO_MANY_IN_A_ROW, OUTAGE_TOO_LONG and ERROR_INDICATED
- * that holds of its figures, or TESTKIT_VERDICT_PASS. Beside TOO_MANY_LOST, TOO_MANY_IN_A_ROW and OUTAGE_TOO_LONG stand
- * the report's number and the budget's, beside ERROR_INDICATED the number of Error Indications and 0.
+ * that holds of its figures, or TESTKIT_VERDICT_PASS. The report's own budget, forwarding_proven and
+ * packet_continuity_proven are not looked at. Beside TOO_MANY_LOST, TOO_MANY_IN_A_ROW and OUTAGE_TOO_LONG stand the
+ * report's number and the budget's, beside ERROR_INDICATED the number of Error Indications and 0.
  */
 struct testkit_verdict testkit_judge_report(struct testkit_continuity_report report, struct testkit_budget budget);
 
