@@ -8,6 +8,7 @@ use lib.Dec.{eqb}
 use Rattle.error.specs.Number.{malformedObserver}
 use Rattle.error.specs.Outcome.{Outcome, refused, gives}
 use Rattle.evidence.specs.Latency.{latencyMeans, latencyFor}
+use Rattle.evidence.specs.declared.Latency.{Latency}
 use Rattle.evidence.specs.declared.LatencySummary.{LatencySummary}
 use Rattle.evidence.specs.declared.PacketContinuityBudget.{PacketContinuityBudget}
 use Rattle.evidence.specs.declared.PacketContinuityReport.{PacketContinuityReport}
@@ -33,20 +34,35 @@ unfolding judging
 with-report r budget e = rw (e, judging)
 
 -- latencies come back from their numbers
-back : (l : Option LatencySummary) → latencyGiven (latencyNumbers l .present) (latencyNumbers l .summary) ≡ latencyFor l
+back : (l : Option LatencySummary)
+    → latencyGiven (latencyNumbers (latencyMeans (latencyFor l)) .present) (latencyNumbers (latencyMeans (latencyFor l)) .summary) ≡ latencyFor l
 unfolding latencyGiven
 back none = refl
 back (some s) = refl
 
-means-for : (l : Option LatencySummary) → latencyMeans (latencyFor l) ≡ l
-means-for none = refl
-means-for (some s) = refl
+abbrev withLatency : PacketContinuityReport → Latency → PacketContinuityReport
+withLatency r l = record {
+  «window_start_ns» = r .«window_start_ns»;
+  «window_end_ns» = r .«window_end_ns»;
+  «sent_packets» = r .«sent_packets»;
+  «received_packets» = r .«received_packets»;
+  «lost_packets» = r .«lost_packets»;
+  «duplicate_packets» = r .«duplicate_packets»;
+  «out_of_order_packets» = r .«out_of_order_packets»;
+  «gtpu_error_indications» = r .«gtpu_error_indications»;
+  «max_consecutive_lost_packets» = r .«max_consecutive_lost_packets»;
+  «max_gap_duration_ns» = r .«max_gap_duration_ns»;
+  latency = l;
+  budget = r .budget;
+  «forwarding_proven» = r .«forwarding_proven»;
+  «packet_continuity_proven» = r .«packet_continuity_proven»;
+}
 
 -- a report comes back from its numbers, held to its own budget
 held : (rs : List Row) (counts : ObserverCounts) (start end : ℕ) (budget : PacketContinuityBudget)
     → heldTo (reportNumbers (gives (reportOf rs counts start end budget))) budget ≡ reportOf rs counts start end budget
 unfolding reportOf
-held rs counts start end budget = rw (means-for (latencyOf (latenciesOf rs)), back (latencyOf (latenciesOf rs)))
+held rs counts start end budget = ap (withLatency (reportOf rs counts start end budget)) (back (latencyOf (latenciesOf rs)))
 
 module _ (o : Observer) (start end : ℕ) (budget : PacketContinuityBudget) where
   abbrev report : PacketContinuityReport
