@@ -304,7 +304,9 @@ impl Pair {
             let (start, end, budget) = question;
             let due = report(question);
             part.case(&[], self.ours.report(start, end, budget), due);
-            let other = self.ours.report(start, end, PacketContinuityBudget::zero_loss());
+            let other = self
+                .ours
+                .report(start, end, PacketContinuityBudget::zero_loss());
             let passes = other.judge(budget.into()).reason == 0;
             let due = due.forwarding_proven && due.packet_continuity_proven;
             part.case(&[], passes, due);

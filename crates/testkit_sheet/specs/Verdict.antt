@@ -47,10 +47,13 @@ verdictNumbers (TooManyInARow lost most) = record { reason = 3; measured = lost;
 verdictNumbers (OutageTooLong outage most) = record { reason = 4; measured = outage; allowed = most }
 verdictNumbers (ErrorIndicated indications) = record { reason = 5; measured = indications; allowed = 0 }
 
+abbrev pub noReport : TestkitVerdict
+noReport = record { reason = 6; measured = 0; allowed = 0 }
+
 -- The call: 6 where there is no report, its number being a refusal's; else the verdict on its figures.
 unfoldable pub judging : TestkitContinuityReport → PacketContinuityBudget → TestkitVerdict
 judging r budget =
     elim (eqb (r .number) 0) [
       | true ↦ verdictNumbers (verdictOf (heldTo r budget))
-      | false ↦ record { reason = 6; measured = 0; allowed = 0 }
+      | false ↦ noReport
     ]

@@ -29,6 +29,7 @@ ghost use Rattle.continuity.specs.Batch.{recordReceivedTpdus};
 ghost use Rattle.evidence.specs.Latency.{latencyMeans};
 ghost use Rattle.report.specs.Report.{reporting};
 ghost use Rattle.testkit_sheet.specs.Interface.{recordedNumbers, RecordedStep, countGiven, returnsNumbers, ReturnsNumbers, outcomeCode, ignoredType, datagramNumbers, DatagramStep, latencyNumbers, reportNumbers};
+ghost use Rattle.testkit_sheet.specs.Claims.{OwnBudget};
 ghost use Rattle.testkit_sheet.specs.Verdict.{latencyGiven, heldTo, verdictNumbers, judging};
 
 // What an observer's call answers: 0 or a refusal's number, and the counts as it leaves them.
@@ -559,3 +560,8 @@ pub extern "C" fn testkit_judge_report(
     }
     verdict_numbers(verdict::judge(held_to(report, budget)))
 }
+
+// Carries that a report judged against its own budget gets the verdict that it says itself.
+pub fn own_budget_gives_own_verdict()
+    ensures { λ _. ⌜ OwnBudget ⌝ }
+{}

@@ -1,14 +1,11 @@
 -- `testkit_sheet::testkit_judge_report` meets its contract.
-use mathlib.Core.Path.{_≡_, ap, _∙_}
-use mathlib.Core.Bool.{true, false}
-use lib.Dec.{eqb}
+use mathlib.Core.Path.{ap, _∙_}
 use borrow.Author.Tests.{eq-eqb, ne-eqb}
 use borrow.Author.Needs.{needs}
-use Rattle.evidence.specs.declared.PacketContinuityBudget.{PacketContinuityBudget}
 use Rattle.evidence.specs.declared.PacketContinuityReport.{PacketContinuityReport}
 use Rattle.verdict.specs.Verdict.{verdictOf}
-use Rattle.testkit_sheet.specs.Verdict.{heldTo, verdictNumbers, judging}
-use Rattle.testkit_sheet.specs.declared.TestkitContinuityReport.{TestkitContinuityReport}
+use Rattle.testkit_sheet.specs.Verdict.{verdictNumbers}
+use Rattle.testkit_sheet.proofs.Verdict.{without, with-report}
 use Rattle.testkit_sheet.proofs.testkit_judge_report.Statement.{statement}
 use Rattle.testkit_sheet.proofs.testkit_judge_report.Tie as tie
 
@@ -21,21 +18,10 @@ judge-requires c κs = search needs
 verdict-numbers-requires : tie.Need-verdict-numbers-requires
 verdict-numbers-requires c κs = search needs
 
--- there is no report, and there is one
-none : (r : TestkitContinuityReport) (budget : PacketContinuityBudget) → eqb (r .number) 0 ≡ false
-    → record { reason = 6; measured = 0; allowed = 0 } ≡ judging r budget
-unfolding judging
-none r budget e = rw (e, judging)
-
-one : (r : TestkitContinuityReport) (budget : PacketContinuityBudget) → eqb (r .number) 0 ≡ true
-    → verdictNumbers (verdictOf (heldTo r budget)) ≡ judging r budget
-unfolding judging
-one r budget e = rw (e, judging)
-
 returns : tie.Need-returns
 returns c =
     let a = c .before .before .args in
-    none (a .report) (a .budget) (ne-eqb (a .report .number) 0 (c .if1 .taken))
+    without (a .report) (a .budget) (ne-eqb (a .report .number) 0 (c .if1 .taken))
 
 returns-2 : tie.Need-returns-2
 returns-2 c =
@@ -43,7 +29,7 @@ returns-2 c =
     let a = held .before .before .before .args in
     c .verdict-numbers .ensures ∙ ap verdictNumbers (c .before .judge .ensures)
     ∙ ap (λ (r : PacketContinuityReport). verdictNumbers (verdictOf r)) (held .held-to .ensures)
-    ∙ one (a .report) (a .budget) (eq-eqb (a .report .number) 0 (held .before .if1 .left))
+    ∙ with-report (a .report) (a .budget) (eq-eqb (a .report .number) 0 (held .before .if1 .left))
 
 pub testkit-judge-report-spec : {M : Type 1} → statement M
 testkit-judge-report-spec = tie.close (tie.spec returns held-to-requires judge-requires verdict-numbers-requires returns-2)
