@@ -932,9 +932,25 @@ static void handling(void)
         due);
 }
 
+/* One byte outside what may be read or written, on either side: the pages stop it. */
+static const char *way = "plain";
+
+static void reads_outside(void)
+{
+    static const uint8_t bytes[4] = {1, 2, 3, 4};
+    const uint8_t *lent = copy(bytes, sizeof bytes);
+    testkit_sum(0, strcmp(way, "behind") == 0 ? lent - 1 : lent, sizeof bytes + 1);
+}
+
+static void writes_outside(void)
+{
+    testkit_build(6, src, dst, 1, 2, 3, 4, strcmp(way, "behind") == 0 ? out - 1 : out + 1, PACKET);
+}
+
 int main(int argc, char **argv)
 {
-    lend_as(argc > 1 ? argv[1] : "plain");
+    way = argc > 1 ? argv[1] : way;
+    lend_as(way);
     src = (uint8_t *)lend(16);
     dst = (uint8_t *)lend(16);
     read_src = (uint8_t *)lend(16);
@@ -946,6 +962,8 @@ int main(int argc, char **argv)
         src[k] = (uint8_t)(k + 1);
         dst[k] = (uint8_t)(k + 101);
     }
+    expect("that a byte outside is seen", stopped(reads_outside), true);
+    expect("that a byte outside is seen", stopped(writes_outside), true);
     numbers();
     packets(4);
     packets(6);

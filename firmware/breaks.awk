@@ -4,8 +4,12 @@
 #   size         a number: an enumerator's, the version's, an array's
 #   field        two fields of one struct that have one type
 #   parameter    two parameters of one call that have one type
-#   argument     two arguments that a static inline call hands on
-function say(kind, from, to, a, b) { printf "%s\t%d\t%d\t%s\t%s\n", kind, from, to, a, b }
+#   argument     two arguments that a static inline call hands on; not two lengths of a list of returns, of which the shortest decides
+function say(kind, from, to, a, b) {
+    if (kind == "argument" && a ~ decides && b ~ decides) return
+    if (!said[kind, from, a, b]++) printf "%s\t%d\t%d\t%s\t%s\n", kind, from, to, a, b
+}
+BEGIN { decides = "^(return_timestamps|lengths|returned|numbers)_length$" }
 
 function pairs(kind, from, to,    i, j) {
     for (i = 1; i <= n; i++) for (j = i + 1; j <= n; j++) if (type[i] == type[j] && name[i] != name[j] && (kind != "enumerator" || value[i] != value[j])) say(kind, from, to, name[i], name[j])

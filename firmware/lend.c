@@ -8,7 +8,10 @@
 #include <stdio.h>
 #include <stdlib.h>
 #include <string.h>
+#include <signal.h>
 #include <sys/mman.h>
+#include <sys/types.h>
+#include <sys/wait.h>
 #include <unistd.h>
 
 enum { COPY = 65536 };
@@ -93,6 +96,25 @@ const uint8_t *lend_copy(const uint8_t *bytes, size_t length)
         stop("no pages");
     }
     return copy;
+}
+
+bool stopped(void (*wrong)(void))
+{
+    int status = 0;
+    pid_t child;
+    if (placed == PLAIN) {
+        return true;
+    }
+    fflush(stdout);
+    child = fork();
+    if (child < 0) {
+        stop("no process");
+    }
+    if (child == 0) {
+        wrong();
+        _exit(EXIT_SUCCESS);
+    }
+    return waitpid(child, &status, 0) == child && WIFSIGNALED(status) && WTERMSIG(status) == SIGSEGV;
 }
 
 void expect(const char *what, uint64_t found, uint64_t due)

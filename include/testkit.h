@@ -34,7 +34,7 @@
  * program stops, or other memory is read or changed. Where a buffer that is written overlaps another one, answer and
  * bytes are those of no contract: what is read may be what was just written. Null with length 0 is promised at no
  * call. As the archive is built today a buffer of length 0 is not touched, and firmware/answers.c finds that each call
- * answers the same with null there; addresses and the next sequence have no length and are always touched.
+ * answers with null there as it must. Addresses and the next sequence have no length: null is never right for them.
  *
  * Byte order. Ports, TEIDs, sequences, times and lengths are numbers of the machine, in host order; addresses and
  * packets are bytes in the order that they have on the wire. So, of a struct sockaddr_in `in` and a GTP-U header:
@@ -62,21 +62,21 @@
  *   - checksums, reading, echo and the walk over elements: the bytes that they are lent, or fewer;
  *   - testkit_generate: the bytes that it writes;
  *   - each call on a run sheet scans all used rows for TESTKIT_MALFORMED_OBSERVER (21), up to 2,048 (a list of returns
- *     twice, whatever its length); that scan is most of what a single call takes on a long sheet. Then the row is
- *     found by halving. A new sequence moves every row above it by one: nothing where sequences rise, all rows where
- *     they fall. A first return looks through the marks above its row. So a plan or a list takes one scan, or two,
- *     and for each packet the rest; single calls take a scan each;
+ *     twice, whatever its length). Then a row is found by halving. A new sequence moves every row above it by one:
+ *     nothing where sequences rise, all rows where they fall. A first return looks through the marks above its row. So
+ *     a plan takes one scan and a list two, and each packet the rest; single calls take a scan each;
  *   - each call on a session table searches the used rows one after the other, up to 4,096, whatever the message is;
  *   - the report: the used rows. The verdict and the version: nothing that grows.
  * Times that are handed in are in nanoseconds since whatever moment the caller chose.
  *
  * Threads, signals, interrupts. Calls on different buffers may run at the same time, also one that interrupts another.
  * The archive is ordinary x86-64 user code: it uses the general registers, the flags and %xmm0 to %xmm15 (SSE2), and no
- * other vector, mask, MMX or x87 register; and it uses the red zone, the 128 bytes below the stack pointer (in the
- * figures of stack these are counted). A Unix signal handler needs no care, the kernel keeps both. A handler of
- * hardware interrupts that runs on the interrupted stack would destroy the red zone: give it a stack of its own, or
- * move the stack pointer down by 128 first. A handler or a kernel that makes calls itself saves and restores the %xmm
- * registers around them, and a kernel that is compiled without them (-mno-sse) must switch them on first.
+ * other vector, mask, MMX, x87 or segment register; and it uses the red zone, the 128 bytes below the stack pointer
+ * (the figures of stack count them). A Unix signal handler needs no care: the kernel keeps both. An interrupt that is
+ * taken on the interrupted stack destroys the red zone, since the processor itself pushes there: where calls run with
+ * such interrupts open, as in a kernel or on bare metal, give the interrupts a stack of their own. A handler that makes
+ * calls itself saves the %xmm registers first and restores them afterwards, and code that runs without them (-mno-sse)
+ * must switch them on.
  */
 #ifndef TESTKIT_H
 #define TESTKIT_H
@@ -328,14 +328,14 @@ struct testkit_plan {
  * Writes the packets of a plan end to end. Packet k, from 0, has the sequence *next_sequence + k.
  *   version .. dst_port as for testkit_build
  *   next_sequence       the caller's own record of the sequence that comes next, changed in place. Lend the same place
- *                       for the next plan, also after 19 and 20, and never restore an older copy. Sequence UINT64_MAX
+ *                       for the next plan, also after a refusal, and never restore an older copy. Sequence UINT64_MAX
  *                       is never sent
  *   out                 packet_count * 52 bytes (IPv4) or packet_count * 72 (IPv6): for every plan, 147456
  * On success *next_sequence rises by packet_count. Refuses by TESTKIT_TARGET_RATE_IS_ZERO (16),
  * TESTKIT_TARGET_RATE_EXCEEDS_RESOLUTION (17), TESTKIT_TOO_MANY_PACKETS (18); then by TESTKIT_SEQUENCE_OVERFLOW (19)
  * before TESTKIT_SEND_TIMESTAMP_OVERFLOW (20) at the first packet that either stops; then by TESTKIT_OUTPUT_TOO_SHORT
- * (15). By 19 at packet k *next_sequence rises by k, by 20 it rises by k + 1; after every other refusal it is as it
- * was. `out` stays.
+ * (15). TESTKIT_SEQUENCE_OVERFLOW (19) at packet k leaves *next_sequence k higher, TESTKIT_SEND_TIMESTAMP_OVERFLOW (20)
+ * k + 1 higher; every other refusal leaves it as it was. `out` stays.
  */
 struct testkit_written testkit_generate(
     uint8_t version,
@@ -494,7 +494,7 @@ static inline struct testkit_continuity_report testkit_sheet_report(
 struct testkit_verdict testkit_judge_report(struct testkit_continuity_report report, struct testkit_budget budget);
 
 /*
- * The same calls with single arguments: the four columns, each with its length, and the counts, which go in by value.
+ * The calls with single arguments: the four columns, each with its length, and the counts, which go in by value.
  * The caller stores the answer's counts, on refusals too. The columns may differ in length: the shortest decides how
  * many rows there are, and at most TESTKIT_MAXIMUM_ROWS.
  *
@@ -504,7 +504,8 @@ struct testkit_verdict testkit_judge_report(struct testkit_continuity_report rep
 
 /*
  * Enters a sent packet. A sequence that is on the sheet gets the new send time and keeps all else.
- * Refuses by 21, then TESTKIT_OBSERVER_FULL (22), which is due only where the sequence is new and no row is free.
+ * Refuses by TESTKIT_MALFORMED_OBSERVER (21); then by TESTKIT_OBSERVER_FULL (22), which is due only where the sequence
+ * is new and no row is free.
  */
 struct testkit_recorded testkit_record_sent(
     uint64_t *sequences, size_t sequences_length,
@@ -520,9 +521,9 @@ struct testkit_recorded testkit_record_sent(
  * testkit_generate gives it, as by testkit_record_sent.
  *   next_sequence the sequence of the plan's first packet: the value that *next_sequence had before testkit_generate
  *                 made these packets, and not the value that it has afterwards, which is that of the next plan
- * Refuses by 21, also where packet_count is 0; then by 16 to 20 as testkit_generate; then by TESTKIT_OBSERVER_FULL
- * (22), which is due only where more of the plan's sequences are not on the sheet than rows are free. A refused plan
- * leaves the sheet.
+ * Refuses by TESTKIT_MALFORMED_OBSERVER (21), also where packet_count is 0; then by TESTKIT_TARGET_RATE_IS_ZERO (16) to
+ * TESTKIT_SEND_TIMESTAMP_OVERFLOW (20) as testkit_generate; then by TESTKIT_OBSERVER_FULL (22), which is due only where
+ * more of the plan's sequences are not on the sheet than rows are free. A refused plan leaves the sheet.
  */
 struct testkit_recorded testkit_record_sent_plan(
     uint64_t *sequences, size_t sequences_length,
@@ -535,7 +536,8 @@ struct testkit_recorded testkit_record_sent_plan(
 
 /*
  * Enters a packet that came back as a T-PDU, at a time. A second return of a sequence is taken and only counted.
- * Refuses by 21; then as testkit_decode; then by TESTKIT_SEQUENCE_WAS_NOT_SENT (23), TESTKIT_TIMESTAMP_REVERSED (24).
+ * Refuses by TESTKIT_MALFORMED_OBSERVER (21); then as testkit_decode; then by TESTKIT_SEQUENCE_WAS_NOT_SENT (23),
+ * TESTKIT_TIMESTAMP_REVERSED (24).
  */
 struct testkit_recorded testkit_record_received_tpdu(
     const uint64_t *sequences, size_t sequences_length,
@@ -559,7 +561,8 @@ struct testkit_recorded testkit_record_received_tpdu(
  * There are as many returns as the shortest of `return_timestamps`, `lengths`, `returned` and `numbers` has elements. A
  * return that is refused changes no more than its elements of `returned` and `numbers`, and those behind it are tried
  * all the same.
- * Refuses the whole list by 21 alone, an empty list too, and then writes nothing, `returned` and `numbers` included.
+ * Refuses the whole list by TESTKIT_MALFORMED_OBSERVER (21) alone, an empty list too, and then writes nothing,
+ * `returned` and `numbers` included.
  */
 struct testkit_returns_recorded testkit_record_received_tpdus(
     const uint64_t *sequences, size_t sequences_length,
@@ -577,8 +580,8 @@ struct testkit_returns_recorded testkit_record_received_tpdus(
  * Enters a GTP-U message that came back, at a time: its type, and its payload after the GTP-U header, which the caller
  * has parsed. A G-PDU carries a T-PDU; an Error Indication is counted if its elements are right; an Echo Response is
  * noticed; an End Marker and a Supported Extension Headers Notification are ignored.
- * Refuses by 21; then a G-PDU as testkit_record_received_tpdu, an Error Indication as testkit_validate_elements, other
- * types, an Echo Request among them, by TESTKIT_UNSUPPORTED_MESSAGE_TYPE (37).
+ * Refuses by TESTKIT_MALFORMED_OBSERVER (21); then a G-PDU as testkit_record_received_tpdu, an Error Indication as
+ * testkit_validate_elements, other types, an Echo Request among them, by TESTKIT_UNSUPPORTED_MESSAGE_TYPE (37).
  */
 struct testkit_datagram_recorded testkit_record_return_gtpu_datagram(
     const uint64_t *sequences, size_t sequences_length,
@@ -595,7 +598,7 @@ struct testkit_datagram_recorded testkit_record_return_gtpu_datagram(
  *   window_start_ns    copied into the report, and used for nothing else
  *   window_end_ns      where a run of losses ends that no return ended
  *   budget             what the report's packet_continuity_proven is about
- * Refuses by 21.
+ * Refuses by TESTKIT_MALFORMED_OBSERVER (21).
  */
 struct testkit_continuity_report testkit_report(
     const uint64_t *sequences, size_t sequences_length,
@@ -734,7 +737,7 @@ static inline struct testkit_handled testkit_table_handle_datagram(
     uint8_t *out, size_t out_length);
 
 /*
- * The same calls with single arguments: the rows with their length, the used count and the maximum, and the state,
+ * The calls with single arguments: the rows with their length, the used count and the maximum, and the state,
  * which goes in by value. The caller stores the answer's used count or state, on refusals too.
  *
  * Every call refuses first by TESTKIT_INVALID_REFLECTOR_CAPACITY (30), where the maximum is 0 or above
@@ -744,7 +747,8 @@ static inline struct testkit_handled testkit_table_handle_datagram(
 
 /*
  * Registers a session, in the first row past the used ones.
- * Refuses by 30, 31, TESTKIT_INVALID_REFLECTOR_SESSION (32), TESTKIT_REFLECTOR_SESSION_CONFLICT (33),
+ * Refuses by TESTKIT_INVALID_REFLECTOR_CAPACITY (30), TESTKIT_MALFORMED_REFLECTOR_TABLE (31),
+ * TESTKIT_INVALID_REFLECTOR_SESSION (32), TESTKIT_REFLECTOR_SESSION_CONFLICT (33),
  * TESTKIT_REFLECTOR_SESSION_CAPACITY_EXCEEDED (34).
  */
 struct testkit_registered testkit_register_session(
@@ -755,7 +759,7 @@ struct testkit_registered testkit_register_session(
 
 /*
  * Removes the session of a TEID. The last used row is moved into its place; rows past the used ones stay.
- * Refuses by 30, 31.
+ * Refuses by TESTKIT_INVALID_REFLECTOR_CAPACITY (30), TESTKIT_MALFORMED_REFLECTOR_TABLE (31).
  */
 struct testkit_removed testkit_remove_session(
     struct testkit_reflector_session *sessions, size_t sessions_length,
@@ -769,9 +773,10 @@ struct testkit_removed testkit_remove_session(
  * Responses, Error Indications, End Markers and Supported Extension Headers Notifications nothing comes. `out` gets the
  * payload to send; it must have TESTKIT_REFLECTOR_BYTES. On a refusal, and where nothing is sent or a G-PDU is routed,
  * it stays as it was.
- * Refuses by 30, 31, TESTKIT_OUTPUT_TOO_SHORT (15); these leave the state. Then a G-PDU under TESTKIT_POLICY_ECHO is
- * refused as by testkit_decode, and gpdu_received has risen; an Echo Request by TESTKIT_ECHO_REQUEST_TEID_NOT_ZERO
- * (35), TESTKIT_ECHO_REQUEST_MISSING_SEQUENCE (36), and other types by TESTKIT_UNSUPPORTED_MESSAGE_TYPE (37), and
+ * Refuses by TESTKIT_INVALID_REFLECTOR_CAPACITY (30), TESTKIT_MALFORMED_REFLECTOR_TABLE (31), TESTKIT_OUTPUT_TOO_SHORT
+ * (15); these leave the state. Then a G-PDU under TESTKIT_POLICY_ECHO is refused as by testkit_decode, and
+ * gpdu_received has risen; an Echo Request by TESTKIT_ECHO_REQUEST_TEID_NOT_ZERO (35),
+ * TESTKIT_ECHO_REQUEST_MISSING_SEQUENCE (36), and other types by TESTKIT_UNSUPPORTED_MESSAGE_TYPE (37), and
  * malformed_rejected has risen.
  */
 struct testkit_handled testkit_handle_datagram(
