@@ -1,8 +1,17 @@
-# The C declarations that the exports call for, one to a line: each `#[repr(C)]` struct and each `#[no_mangle]` function of the sources.
-# A slice is a pointer and a length; a reference to an array or a struct is a pointer.
+# The C declarations that the proved source calls for, one to a line: each `#[repr(C)]` struct and each `#[no_mangle]` function.
+# A slice is a pointer and a length; a reference to an array or a number is a pointer.
+
+BEGIN {
+    # records of lower crates, which have the Rust's names there
+    names["ObserverCounts"] = "counts"
+    names["PacketContinuityBudget"] = "budget"
+    names["TrafficPlan"] = "plan"
+    names["LentSocketAddr"] = "socket_addr"
+}
 
 # C's name of a struct: TestkitWritten is `struct testkit_written`, and so is Written.
 function tag(name,    k, letter, out) {
+    if (name in names) return "struct testkit_" names[name]
     for (k = 1; k <= length(name); k++) {
         letter = substr(name, k, 1)
         out = out (k > 1 && letter ~ /[A-Z]/ ? "_" : "") tolower(letter)
@@ -11,6 +20,7 @@ function tag(name,    k, letter, out) {
 }
 
 function type(name) {
+    sub(/^.*::/, "", name)
     if (name == "usize") return "size_t"
     if (name == "bool") return "bool"
     if (name ~ /^[ui](8|16|32|64)$/) return (name ~ /^u/ ? "uint" : "int") substr(name, 2) "_t"
@@ -37,7 +47,7 @@ function declare(name, form,    const, count) {
     return const type(form) " *" name
 }
 
-# Adds the parameters or fields of "name: form, .." to a list.
+# The parameters or fields of "name: form, ..".
 function declare_all(text, separator,    parts, count, k, at, out) {
     count = split(text, parts, ",")
     for (k = 1; k <= count; k++) {
@@ -49,7 +59,7 @@ function declare_all(text, separator,    parts, count, k, at, out) {
     return out
 }
 
-function finish(    head, result) {
+function finish(    head, result, parameters) {
     gsub(/[ \t]+/, " ", item)
     if (item ~ /^pub struct/) {
         match(item, /\{.*\}/)
@@ -62,7 +72,8 @@ function finish(    head, result) {
         sub(/^.* /, "", head)
         sub(/^ -> /, "", result)
         sub(/ +$/, "", result)
-        print type(result) " " head "(" declare_all(substr(item, index(item, "(") + 1, RSTART + RLENGTH - index(item, "(") - 2), ", ") ");"
+        parameters = declare_all(substr(item, index(item, "(") + 1, RSTART + RLENGTH - index(item, "(") - 2), ", ")
+        print type(result) " " head "(" (parameters == "" ? "void" : parameters) ");"
     }
     item = ""
 }

@@ -1,5 +1,7 @@
-# The declarations of a C header, one to a line, in the form that declarations.awk writes: its structs and its functions. Comments, the
-# preprocessor's lines and enums are left out.
+# What a C header declares, one to a line. Comments are left out.
+#     ..          its structs and its functions, in the form that declarations.awk writes
+#     enum ..     with -v enumerators=1, instead: NAME VALUE for each enumerator, and for each macro whose value is a number
+# Left out are the static inline functions, which have no counterpart in the archive, and the structs that only they use.
 {
     line = $0
     while (1) {
@@ -15,16 +17,54 @@
         line = substr(line, at + 2)
         comment = 1
     }
+    if (line ~ /^#define [A-Z_0-9]+ [0-9]+ *$/) {
+        split(line, words, " ")
+        defined = defined words[2] " " words[3] "\n"
+    }
     if (line !~ /^#/ && line !~ /^extern "C"/) text = text " " line
+}
+
+# Prints the enumerators of the text between two braces.
+function enumerators_of(body,    parts, count, k, at) {
+    count = split(body, parts, ",")
+    for (k = 1; k <= count; k++) {
+        gsub(/ /, "", parts[k])
+        at = index(parts[k], "=")
+        if (!at) { print "declared: an enumerator without a value: " parts[k] >"/dev/stderr"; exit 1 }
+        print substr(parts[k], 1, at - 1), substr(parts[k], at + 1)
+    }
 }
 
 END {
     gsub(/[ \t]+/, " ", text)
     gsub(/\( /, "(", text)
-    gsub(/enum( [a-z_]+)? \{[^}]*\};/, "", text)
+    while (match(text, /enum( [a-z_]+)? \{[^}]*\};/)) {
+        item = substr(text, RSTART, RLENGTH)
+        text = substr(text, 1, RSTART - 1) substr(text, RSTART + RLENGTH)
+        if (enumerators) {
+            match(item, /\{[^}]*\}/)
+            enumerators_of(substr(item, RSTART + 1, RLENGTH - 2))
+        }
+    }
+    if (enumerators) { printf "%s", defined; exit }
+    # a static inline function goes up to its semicolon, or to the brace that closes its body
+    while (match(text, /static inline /)) {
+        rest = substr(text, RSTART)
+        text = substr(text, 1, RSTART - 1)
+        match(rest, /[;{]/)
+        at = RSTART
+        if (substr(rest, at, 1) == "{")
+            for (depth = 1; depth && at < length(rest);) {
+                at++
+                letter = substr(rest, at, 1)
+                if (letter == "{") depth++
+                if (letter == "}") depth--
+            }
+        text = text substr(rest, at + 1)
+    }
     while (match(text, /struct [a-z_]+ \{[^}]*\};/)) {
         item = substr(text, RSTART, RLENGTH)
-        print item
+        if (item !~ /^struct testkit_(sheet|table) /) print item
         text = substr(text, 1, RSTART - 1) substr(text, RSTART + RLENGTH)
     }
     count = split(text, items, ";")

@@ -1,222 +1,300 @@
 /*
- * A cutover in small, as firmware would run it: two plans (IPv4, then IPv6) are generated, each packet is entered as sent and put on a
- * path that loses, repeats, reorders and damages some; the far end echoes what it can read; what comes back is entered, and the report
- * decides. Exit status 1 on any surprise.
+ * The probe and three reflectors, joined by a wire in memory that loses, repeats, delays and damages. Prints what they
+ * log, and ends with status 1 on any surprise. The first argument says how buffers are placed (lend.h).
  */
-#include "testkit.h"
+#include "loopback.h"
 
-#include <inttypes.h>
+#include "lend.h"
+
 #include <stdio.h>
 #include <stdlib.h>
 #include <string.h>
 
-enum { PACKETS = 100, RATE = 1000, GPDU = 255, ERROR_INDICATION = 26 };
+enum { QUEUE = 1024, LATENCY_NS = 100000, NONE = -1 };
 
-static const uint64_t INTERVAL_NS = 1000000;  /* at RATE packets per second */
-static const uint64_t ROUND_TRIP_NS = 250000; /* there and back, of packet 0; 10 ns more for each that follows */
+/* ---- The wire ---- */
 
-/* A run sheet with room for both plans. */
+static uint64_t now_ns = 1000000000;
+static struct datagram queue[QUEUE];
+static size_t queued;
+
+static struct testkit_socket_addr probe_address, reflector_address, gateway_address, sink_address;
+static struct probe probe;
+static struct reflector reflector, gateway, sink;
+
+/* What goes wrong, by the number that a G-PDU has on its way out of the probe or back to it in this run, from 0. */
 static struct {
-    uint64_t sequences[2 * PACKETS];
-    uint64_t send_timestamps[2 * PACKETS];
-    uint64_t latencies[2 * PACKETS];
-    uint8_t marks[2 * PACKETS];
-    struct testkit_counts counts;
-} sheet;
+    int lost_from, lost_count, repeated, damaged; /* on the way out */
+    int slow;                                     /* takes so long to send that the next one leaves late */
+    int wrong_teid;
+    int delayed, damaged_back; /* on the way back */
+    int out, back;
+} path;
 
-static uint8_t packets[PACKETS * TESTKIT_IPV6_TPDU_BYTES];
-
-static void expect(const char *what, uint64_t found, uint64_t due)
+static void quiet(void)
 {
-    if (found != due) {
-        printf("surprise: %s is %" PRIu64 ", not %" PRIu64 "\n", what, found, due);
-        exit(EXIT_FAILURE);
-    }
+    path.lost_from = path.repeated = path.damaged = path.slow = path.wrong_teid = path.delayed = path.damaged_back =
+        NONE;
+    path.lost_count = path.out = path.back = 0;
 }
 
-static uint8_t enter_sent(uint64_t sequence, uint64_t time)
+uint64_t wire_now(void) { return now_ns; }
+
+static bool same(const struct testkit_socket_addr *a, const struct testkit_socket_addr *b)
 {
-    struct testkit_recorded r = testkit_record_sent(
-        sheet.sequences, 2 * PACKETS, sheet.send_timestamps, 2 * PACKETS, sheet.latencies, 2 * PACKETS, sheet.marks, 2 * PACKETS,
-        sheet.counts, sequence, time);
-    sheet.counts = (struct testkit_counts){r.used, r.duplicate_packets, r.out_of_order_packets, r.gtpu_error_indications};
-    return r.number;
+    return a->version == b->version && a->port == b->port &&
+           memcmp(a->address, b->address, a->version == 4 ? 4 : 16) == 0;
 }
 
-static struct testkit_message enter_message(uint64_t time, uint8_t type, const uint8_t *payload, size_t length)
+static void put(const struct datagram *datagram)
 {
-    struct testkit_message r = testkit_record_return_gtpu_datagram(
-        sheet.sequences, 2 * PACKETS, sheet.send_timestamps, 2 * PACKETS, sheet.latencies, 2 * PACKETS, sheet.marks, 2 * PACKETS,
-        sheet.counts, time, type, payload, length);
-    sheet.counts = (struct testkit_counts){r.used, r.duplicate_packets, r.out_of_order_packets, r.gtpu_error_indications};
-    return r;
+    expect("room on the wire", queued < QUEUE, 1);
+    queue[queued++] = *datagram;
 }
 
-static uint8_t enter_tpdu(uint64_t time, const uint8_t *tpdu, size_t length)
+void wire_send(
+    struct testkit_socket_addr source, struct testkit_socket_addr destination, struct testkit_gtpu_message message,
+    const uint8_t *payload, size_t payload_length)
 {
-    struct testkit_recorded r = testkit_record_received_tpdu(
-        sheet.sequences, 2 * PACKETS, sheet.send_timestamps, 2 * PACKETS, sheet.latencies, 2 * PACKETS, sheet.marks, 2 * PACKETS,
-        sheet.counts, time, tpdu, length);
-    sheet.counts = (struct testkit_counts){r.used, r.duplicate_packets, r.out_of_order_packets, r.gtpu_error_indications};
-    return r.number;
-}
-
-/* Generates a plan and enters its packets as sent. Returns the length of a packet. */
-static size_t send_plan(uint8_t version, uint64_t *next_sequence, uint64_t first_time)
-{
-    static const uint8_t near[16] = {10, 0, 0, 1}, far[16] = {10, 0, 0, 2};
-    size_t length = version == 4 ? TESTKIT_IPV4_TPDU_BYTES : TESTKIT_IPV6_TPDU_BYTES;
-    uint64_t first = *next_sequence;
-    struct testkit_written w = testkit_generate(
-        version, near, far, 1000, 2000, PACKETS, RATE, first_time, next_sequence, packets, sizeof packets);
-    expect("the generator's number", w.number, TESTKIT_ACCEPTED);
-    expect("the bytes of a plan", w.bytes, PACKETS * length);
-    expect("the next sequence", *next_sequence, first + PACKETS);
-    for (uint64_t k = 0; k < PACKETS; k++) {
-        uint8_t src[16], dst[16];
-        struct testkit_tpdu t = testkit_decode(packets + k * length, length, src, dst);
-        expect("a built packet's number", t.number, TESTKIT_ACCEPTED);
-        expect("a built packet's sequence", t.sequence, first + k);
-        expect("a built packet's time", t.send_timestamp_ns, first_time + k * INTERVAL_NS);
-        expect("a built packet's source", (uint64_t)memcmp(src, near, 16), 0);
-        expect("the sheet's number", enter_sent(t.sequence, t.send_timestamp_ns), TESTKIT_ACCEPTED);
-    }
-    return length;
-}
-
-/* The far end echoes packet k, and the echo comes back: by one call for even k, as a GTP-U message for odd k. */
-static void loop_back(size_t k, size_t length, uint64_t time)
-{
-    uint8_t echo[TESTKIT_IPV6_TPDU_BYTES];
-    struct testkit_written w = testkit_echo(packets + k * length, length, echo, sizeof echo);
-    expect("the echo's number", w.number, TESTKIT_ACCEPTED);
-    expect("the echo's length", w.bytes, length);
-    if (k % 2 == 0) {
-        expect("a return's number", enter_tpdu(time, echo, w.bytes), TESTKIT_ACCEPTED);
-    } else {
-        struct testkit_message m = enter_message(time, GPDU, echo, w.bytes);
-        expect("a message's number", m.number, TESTKIT_ACCEPTED);
-        expect("a message's kind", m.kind, TESTKIT_KIND_MEASUREMENT_TPDU);
-    }
-}
-
-/* A bit turned on the way out: the far end refuses to echo. A bit turned on the way back: the sheet refuses, and keeps all. */
-static void damage(size_t k, size_t length, uint64_t time)
-{
-    uint8_t echo[TESTKIT_IPV6_TPDU_BYTES];
-    struct testkit_counts before = sheet.counts;
-    uint8_t *probe = packets + k * length + length - 20;
-    *probe ^= 4;
-    expect("a damaged packet's echo", testkit_echo(packets + k * length, length, echo, sizeof echo).number, TESTKIT_INVALID_UDP_CHECKSUM);
-    *probe ^= 4;
-    expect("the echo's number", testkit_echo(packets + k * length, length, echo, sizeof echo).number, TESTKIT_ACCEPTED);
-    echo[length - 1] ^= 1;
-    expect("a damaged return", enter_tpdu(time, echo, length), TESTKIT_INVALID_UDP_CHECKSUM);
-    expect("the counts after it", (uint64_t)memcmp(&before, &sheet.counts, sizeof before), 0);
-}
-
-/* Of each plan: packets 10 to 12 are lost, 20 is damaged, 30 and 31 change places, 40 comes twice. */
-static void travel(size_t length, uint64_t first_time)
-{
-    static const size_t LATE = 30;
-    for (size_t k = 0; k < PACKETS; k++) {
-        size_t now = k == LATE ? LATE + 1 : k == LATE + 1 ? LATE : k;
-        uint64_t time = first_time + now * INTERVAL_NS + ROUND_TRIP_NS + now * 10;
-        if (k >= 10 && k <= 12) {
-            continue;
+    struct datagram datagram;
+    memset(&datagram, 0, sizeof datagram);
+    expect("a payload that fits", payload_length <= sizeof datagram.payload, 1);
+    datagram.source = source;
+    datagram.destination = destination;
+    datagram.message = message;
+    memcpy(datagram.payload, payload, payload_length);
+    datagram.payload_length = payload_length;
+    datagram.time = now_ns + LATENCY_NS;
+    if (message.message_type == TESTKIT_GTPU_MSG_GPDU && same(&source, &probe_address)) {
+        int k = path.out++;
+        now_ns += k == path.slow ? 1250000 : 0;
+        if (path.lost_from != NONE && k >= path.lost_from && k < path.lost_from + path.lost_count) {
+            return;
         }
-        if (k == 20) {
-            damage(k, length, time);
-            continue;
+        datagram.message.teid += k == path.wrong_teid;
+        datagram.payload[40] ^= (uint8_t)(k == path.damaged);
+        if (k == path.repeated) {
+            put(&datagram);
         }
-        loop_back(now, length, time);
-        if (k == 40) {
-            loop_back(now, length, time + 1);
+    } else if (message.message_type == TESTKIT_GTPU_MSG_GPDU && same(&destination, &probe_address)) {
+        int k = path.back++;
+        datagram.payload[24] ^= (uint8_t)(k == path.damaged_back);
+        datagram.time += k == path.delayed ? 3000000 : (uint64_t)k;
+    }
+    put(&datagram);
+}
+
+/* The earliest message for an address, or for any but the probe's, that arrives by a time; QUEUE where there is none.
+ */
+static size_t earliest(const struct testkit_socket_addr *destination, uint64_t until)
+{
+    size_t found = QUEUE;
+    for (size_t k = 0; k < queued; k++) {
+        bool meant = destination != NULL ? same(&queue[k].destination, destination)
+                                         : !same(&queue[k].destination, &probe_address);
+        if (meant && queue[k].time <= until && (found == QUEUE || queue[k].time < queue[found].time)) {
+            found = k;
         }
     }
+    return found;
 }
 
-static struct testkit_report report(uint64_t window_end_ns, uint64_t lost, uint64_t run, uint64_t outage_ns)
+bool wire_receive(struct testkit_socket_addr destination, struct datagram *datagram)
 {
-    return testkit_report(
-        sheet.sequences, 2 * PACKETS, sheet.send_timestamps, 2 * PACKETS, sheet.latencies, 2 * PACKETS, sheet.marks, 2 * PACKETS,
-        sheet.counts, 0, window_end_ns, lost, run, outage_ns);
+    size_t k = earliest(&destination, now_ns);
+    if (k == QUEUE) {
+        return false;
+    }
+    *datagram = queue[k];
+    queued--;
+    memmove(queue + k, queue + k + 1, (queued - k) * sizeof *queue);
+    return true;
 }
 
-/* What a firmware's own mistakes come to: each is refused by its number, and the sheet stays. */
-static void mistakes(uint64_t *next_sequence)
+void wire_wait_until(uint64_t time)
 {
-    uint64_t first = *next_sequence;
-    uint8_t small[TESTKIT_IPV4_TPDU_BYTES - 1], src[16] = {0}, dst[16] = {0};
-    memset(small, 0x5a, sizeof small);
-    expect("too short an output", testkit_build(4, src, dst, 1, 2, 3, 4, small, sizeof small).number, TESTKIT_OUTPUT_TOO_SHORT);
-    expect("a byte of it", small[0], 0x5a);
-    struct testkit_written w = testkit_generate(4, src, dst, 1, 2, 1, 0, 0, next_sequence, packets, sizeof packets);
-    expect("a rate of 0", w.number, TESTKIT_TARGET_RATE_IS_ZERO);
-    expect("the next sequence after it", *next_sequence, first);
-    w = testkit_generate(4, src, dst, 1, 2, 2, 1, UINT64_MAX, next_sequence, packets, sizeof packets);
-    expect("a time past its top, at the second packet", w.number, TESTKIT_SEND_TIMESTAMP_OVERFLOW);
-    expect("the next sequence after it", *next_sequence, first + 2);
-    expect("a full sheet", enter_sent(*next_sequence, 0), TESTKIT_OBSERVER_FULL);
-    expect("no packet", enter_tpdu(0, small, 0), TESTKIT_TRUNCATED_IP_HEADER);
-    expect("an Echo Request", enter_message(0, 1, small, 0).number, TESTKIT_UNSUPPORTED_MESSAGE_TYPE);
-    sheet.counts.used++;
-    expect("a used count past the columns", report(0, 0, 0, 0).number, TESTKIT_MALFORMED_OBSERVER);
-    sheet.counts.used--;
+    size_t k;
+    while ((k = earliest(NULL, time)) != QUEUE) {
+        if (queue[k].time > now_ns) {
+            now_ns = queue[k].time;
+        }
+        if (same(&queue[k].destination, &reflector_address)) {
+            reflector_serve(&reflector);
+        } else if (same(&queue[k].destination, &gateway_address)) {
+            reflector_serve(&gateway);
+        } else {
+            reflector_serve(&sink);
+        }
+    }
+    if (time > now_ns) {
+        now_ns = time;
+    }
 }
 
-/* The path says that it has lost the tunnel: TEID Data I and GTP-U Peer Address. */
-static void error_indication(uint64_t time)
+/* ---- What is tried ---- */
+
+static struct testkit_socket_addr address(uint8_t version, uint8_t last)
 {
-    static const uint8_t elements[] = {16, 0, 0, 0, 9, 133, 0, 4, 10, 0, 0, 2};
-    expect("the elements", testkit_validate_elements(elements, sizeof elements), TESTKIT_ACCEPTED);
-    expect("the elements, cut", testkit_validate_elements(elements, sizeof elements - 1), TESTKIT_TRUNCATED_ELEMENT);
-    struct testkit_message m = enter_message(time, ERROR_INDICATION, elements, sizeof elements);
-    expect("the Error Indication's number", m.number, TESTKIT_ACCEPTED);
-    expect("the Error Indication's kind", m.kind, TESTKIT_KIND_ERROR_INDICATION);
+    struct testkit_socket_addr made;
+    memset(&made, 0, sizeof made);
+    made.version = version;
+    made.address[0] = version == 4 ? 192 : 0xfd;
+    made.address[version == 4 ? 3 : 15] = last;
+    made.port = 2152;
+    return made;
 }
 
-static void print_report(const char *what, const struct testkit_report *r)
+static struct testkit_budget budget(uint64_t lost, uint64_t consecutive, uint64_t outage_ns)
 {
-    expect("the report's number", r->number, TESTKIT_ACCEPTED);
-    printf("%s\n", what);
-    printf("  sent %" PRIu64 ", received %" PRIu64 ", lost %" PRIu64 ", duplicates %" PRIu64 ", out of order %" PRIu64
-           ", Error Indications %" PRIu64 "\n",
-           r->sent_packets, r->received_packets, r->lost_packets, r->duplicate_packets, r->out_of_order_packets,
-           r->gtpu_error_indications);
-    printf("  longest loss %" PRIu64 " packets, %" PRIu64 " ns; latency %" PRIu64 " to %" PRIu64 " ns, mean %" PRIu64 "\n",
-           r->max_consecutive_lost_packets, r->max_gap_duration_ns, r->min_ns, r->max_ns, r->avg_ns);
-    printf("  forwarding: %s; continuity: %s\n", r->forwarding_proven ? "yes" : "no", r->packet_continuity_proven ? "yes" : "no");
+    struct testkit_budget made;
+    made.max_lost_packets = lost;
+    made.max_consecutive_lost_packets = consecutive;
+    made.outage_budget_ns = outage_ns;
+    return made;
 }
 
-/* Checksums by hand: of a packet's IPv4 header, whole and in two parts. */
-static void checksums(void)
+/* The report, and what it comes to. */
+static struct testkit_continuity_report verdict(struct testkit_budget allowed, uint8_t reason)
 {
-    expect("the header adds up", testkit_verify(packets, 20), true);
-    expect("its sum", testkit_sum(testkit_sum(0, packets, 8), packets + 8, 12), 0xffff);
-    expect("its checksum", testkit_checksum(packets, 20), 0);
+    struct testkit_continuity_report report = probe_report(&probe, allowed);
+    expect("the verdict", probe_judge(report, allowed), reason);
+    expect(
+        "the report's own", report.forwarding_proven && report.packet_continuity_proven,
+        reason == TESTKIT_VERDICT_PASS);
+    return report;
 }
 
-int main(void)
+static void towards(struct testkit_socket_addr peer, uint32_t teid)
 {
-    uint64_t next_sequence = 1;
-    size_t length = send_plan(4, &next_sequence, 0);
-    checksums();
-    travel(length, 0);
-    length = send_plan(6, &next_sequence, PACKETS * INTERVAL_NS);
-    travel(length, PACKETS * INTERVAL_NS);
-    mistakes(&next_sequence);
+    probe.peer = peer;
+    probe.teid = teid;
+    probe_start(&probe);
+}
 
-    uint64_t end = 2 * PACKETS * INTERVAL_NS;
-    struct testkit_report kept = report(end, 8, 3, 3 * INTERVAL_NS);
-    print_report("budget: 8 lost, 3 in a run, 3 ms", &kept);
-    expect("continuity", kept.packet_continuity_proven, true);
-    struct testkit_report broken = report(end, 8, 3, 3 * INTERVAL_NS - 1);
-    print_report("budget: 8 lost, 3 in a run, 1 ns less", &broken);
-    expect("continuity", broken.packet_continuity_proven, false);
-    error_indication(end);
-    struct testkit_report indicated = report(end, 8, 3, 3 * INTERVAL_NS);
-    print_report("the first budget, after an Error Indication", &indicated);
-    expect("continuity", indicated.packet_continuity_proven, false);
+static void settle(void) { wire_wait_until(now_ns + 10000000); }
+
+static void send(
+    struct testkit_socket_addr from, struct testkit_socket_addr to, uint8_t type, uint32_t teid, uint8_t numbered)
+{
+    static const uint8_t indication[12] = {16, 0, 0, 1, 0, 133, 0, 4, 192, 0, 0, 2};
+    struct testkit_gtpu_message message;
+    message.message_type = type;
+    message.teid = teid;
+    message.has_sequence = numbered;
+    message.sequence = 9;
+    wire_send(from, to, message, indication, type == TESTKIT_GTPU_MSG_ERROR_INDICATION ? sizeof indication : 0);
+}
+
+static void sessions(void)
+{
+    reflector_open(&reflector, reflector_address, 2, TESTKIT_POLICY_ECHO);
+    reflector_open(&gateway, gateway_address, 1, TESTKIT_POLICY_ROUTE);
+    gateway.table.config.target = reflector_address;
+    gateway.table.config.target_teid = 0x100;
+    reflector_open(&sink, sink_address, 1, TESTKIT_POLICY_SINK_AND_COUNT);
+    expect("a session", reflector_add(&reflector, 0x100, 0x900, probe_address), TESTKIT_ACCEPTED);
+    expect("the same session", reflector_add(&reflector, 0x100, 0x900, probe_address), TESTKIT_ACCEPTED);
+    expect(
+        "another of its TEID", reflector_add(&reflector, 0x100, 0x901, probe_address),
+        TESTKIT_REFLECTOR_SESSION_CONFLICT);
+    expect("no TEID", reflector_add(&reflector, 0, 0x901, probe_address), TESTKIT_INVALID_REFLECTOR_SESSION);
+    expect("a second session", reflector_add(&reflector, 0x101, 0x901, probe_address), TESTKIT_ACCEPTED);
+    expect(
+        "one too many", reflector_add(&reflector, 0x102, 0x902, probe_address),
+        TESTKIT_REFLECTOR_SESSION_CAPACITY_EXCEEDED);
+    expect("no such session", reflector_drop(&reflector, 0x102), false);
+    expect("a session dropped", reflector_drop(&reflector, 0x101), true);
+    expect("the gateway's", reflector_add(&gateway, 0x200, 0x900, probe_address), TESTKIT_ACCEPTED);
+    expect("the sink's", reflector_add(&sink, 0x300, 0x900, probe_address), TESTKIT_ACCEPTED);
+}
+
+int main(int argc, char **argv)
+{
+    struct testkit_continuity_report report;
+    lend_as(argc > 1 ? argv[1] : "plain");
+    probe_address = address(4, 1);
+    reflector_address = address(4, 2);
+    gateway_address = address(6, 3);
+    sink_address = address(6, 4);
+    sessions();
+    probe_open(&probe, probe_address, reflector_address, 0x100);
+
+    printf("A quiet path, IPv4:\n");
+    quiet();
+    towards(reflector_address, 0x100);
+    probe_send_plan(&probe, 4, 100, 1000);
+    settle();
+    probe_receive(&probe);
+    verdict(budget(0, 0, 0), TESTKIT_VERDICT_PASS);
+
+    printf("A rough path, IPv6, returns in lists:\n");
+    quiet();
+    path.lost_from = 10;
+    path.lost_count = 4;
+    path.repeated = 20;
+    path.damaged = 40;
+    path.slow = 60;
+    path.delayed = 30;
+    path.damaged_back = 50;
+    towards(reflector_address, 0x100);
+    probe_send_plan(&probe, 6, 100, 1000);
+    settle();
+    probe_receive_list(&probe);
+    report = verdict(budget(6, 4, 4000000), TESTKIT_VERDICT_PASS);
+    expect("under another budget", probe_judge(report, budget(5, 4, 4000000)), TESTKIT_VERDICT_TOO_MANY_LOST);
+    expect("under another budget", probe_judge(report, budget(6, 3, 4000000)), TESTKIT_VERDICT_TOO_MANY_IN_A_ROW);
+    expect("under another budget", probe_judge(report, budget(6, 4, 3999999)), TESTKIT_VERDICT_OUTAGE_TOO_LONG);
+
+    printf("Through the gateway, which routes:\n");
+    quiet();
+    towards(gateway_address, 0x200);
+    probe_send_plan(&probe, 4, 20, 1000);
+    settle();
+    probe_receive(&probe);
+    verdict(budget(0, 0, 0), TESTKIT_VERDICT_PASS);
+
+    printf("Into the sink:\n");
+    quiet();
+    towards(sink_address, 0x300);
+    probe_send_plan(&probe, 4, 20, 1000);
+    settle();
+    probe_receive(&probe);
+    verdict(budget(20, 20, 100000000), TESTKIT_VERDICT_NOTHING_RETURNED);
+
+    printf("A packet with a TEID that nobody has, and messages that are none of the probe's:\n");
+    quiet();
+    path.wrong_teid = 7;
+    towards(reflector_address, 0x100);
+    probe_send_plan(&probe, 6, 20, 1000);
+    send(reflector_address, probe_address, TESTKIT_GTPU_MSG_END_MARKER, 0x900, 0);
+    send(reflector_address, probe_address, TESTKIT_GTPU_MSG_SUPPORTED_EXTENSION_HEADERS_NOTIFICATION, 0, 1);
+    send(reflector_address, probe_address, 77, 0, 0);
+    send(reflector_address, probe_address, TESTKIT_GTPU_MSG_GPDU, 0x900, 0);
+    settle();
+    probe_receive(&probe);
+    verdict(budget(1, 1, 100000000), TESTKIT_VERDICT_ERROR_INDICATED);
+
+    printf("A sheet that is full, and one that something else has written to:\n");
+    quiet();
+    towards(reflector_address, 0x100);
+    probe_send_plan(&probe, 4, 200, 1000000);
+    probe_send_plan(&probe, 4, 57, 1000000);
+    probe_send_plan(&probe, 4, 10, 0);
+    settle();
+    probe.sheet.marks[3] = 2;
+    probe_receive(&probe);
+    verdict(budget(0, 0, 0), TESTKIT_VERDICT_NO_REPORT);
+
+    send(probe_address, reflector_address, TESTKIT_GTPU_MSG_ECHO_RESPONSE, 0, 1);
+    send(probe_address, reflector_address, TESTKIT_GTPU_MSG_ERROR_INDICATION, 0, 1);
+    send(probe_address, reflector_address, TESTKIT_GTPU_MSG_END_MARKER, 0x100, 0);
+    send(probe_address, reflector_address, TESTKIT_GTPU_MSG_SUPPORTED_EXTENSION_HEADERS_NOTIFICATION, 0, 0);
+    send(probe_address, reflector_address, TESTKIT_GTPU_MSG_ECHO_REQUEST, 0x100, 1);
+    send(probe_address, reflector_address, TESTKIT_GTPU_MSG_ECHO_REQUEST, 0, 0);
+    send(probe_address, reflector_address, 77, 0, 0);
+    settle();
+    reflector_log(&reflector, "The reflector");
+    reflector_log(&gateway, "The gateway");
+    reflector_log(&sink, "The sink");
     return EXIT_SUCCESS;
 }

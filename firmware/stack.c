@@ -1,14 +1,18 @@
 /*
- * How much stack each call uses. A call is run on a stack of its own that was filled with a pattern, once with 0xA5 and once with 0x5A;
- * the lowest byte that changed says how deep it went, counted from the end of the return address. (Arguments on the stack lie above that
- * and are the caller's.) For each call the largest depth over the inputs named below is held to its number in testkit.h: exit status 1
- * where a call uses more.
+ * How much stack each call uses. A call is run on a stack of its own that was filled with a pattern, once with 0xA5 and
+ * once with 0x5A; the lowest byte that changed says how deep it went, counted from the end of the return address.
+ * (Arguments on the stack lie above that and are the caller's.) For each call the largest depth over the inputs named
+ * below is held to its number in testkit.h: exit status 1 where a call uses more. That number is the bound that
+ * frames.awk reads off the machine code, and this the second way; a bound may be higher, where no input takes the
+ * deepest path.
  *
- * Inputs. Packets, of both versions: built ones; cut at every length; each single bit turned; for IPv4 with options, of every IHL. Plans:
- * of 0, 1 and 2048 packets, and each refusal. Element lists: up to 4096 elements, each cut. Run sheets: empty, of 1 row and of 2048 rows,
- * none, one, all or every other returned; a new row at the front, in the middle and at the end; and malformed. Session tables: empty, of 1
- * and of 4096 sessions, full and not, and refused; the first, the last and no session asked for; packets as above under each policy, and
- * messages of every type with and without TEID and sequence.
+ * Inputs. Packets, of both versions: built ones; cut at every length; each single bit turned; for IPv4 with options, of
+ * every IHL; each of these alone, and in lists of two returns, the first whole and the second whole, cut or empty.
+ * Plans: of 0, 1 and 2048 packets, and each refusal. Element lists: up to 4096 elements, each cut. Run sheets: empty,
+ * of 1 row and of 2048 rows, none, one, all or every other returned; a new row at the front, in the middle and at the
+ * end; and malformed. Reports under budgets that each alone is and is not kept, and refused ones. Session tables:
+ * empty, of 1 and of 4096 sessions, full and not, and refused; the first, the last and no session asked for; packets as
+ * above under each policy, and messages of every type with and without TEID and sequence.
  *
  * For x86-64 and GNU C. Linked with -z now, so that finding memcpy is not counted.
  */
@@ -20,13 +24,21 @@
 #include <string.h>
 #include <ucontext.h>
 
-enum { STACK = 65536, ABOVE = 4096, ROWS = TESTKIT_MAXIMUM_ROWS, OUT = ROWS * TESTKIT_IPV6_TPDU_BYTES, LIST = 4096 * 3 + 12, SESSIONS = TESTKIT_MAXIMUM_SESSIONS };
+enum {
+    STACK = 16384,
+    ABOVE = 4096,
+    ROWS = TESTKIT_MAXIMUM_ROWS,
+    OUT = ROWS * TESTKIT_IPV6_TPDU_BYTES,
+    LIST = 4096 * 3 + 12,
+    SESSIONS = TESTKIT_MAXIMUM_SESSIONS
+};
 
 static uint8_t stack[STACK] __attribute__((aligned(64)));
 static void (*volatile body)(void);
 static ucontext_t here, there;
 
-/* Every call goes by way of `enter`, which notes where its return address lies and jumps to it, with the arguments in their places. */
+/* Every call goes by way of `enter`, which notes where its return address lies and jumps to it, with the arguments in
+ * their places. */
 uint8_t *volatile entry_stack_pointer;
 void (*volatile entry_target)(void);
 void enter(void);
@@ -42,7 +54,8 @@ static uint8_t src[16] = {10, 0, 0, 1}, dst[16] = {10, 0, 0, 2};
 static uint8_t version;
 static uint8_t in[LIST], out[OUT];
 static size_t in_length, out_length;
-static uint64_t plan_count, plan_rate, plan_time, plan_sequence;
+static struct testkit_plan plan;
+static uint64_t plan_sequence;
 static uint64_t sequences[ROWS], times[ROWS], latencies[ROWS];
 static uint8_t marks[ROWS];
 static struct testkit_counts counts;
@@ -52,45 +65,63 @@ static struct testkit_reflector_session sessions[SESSIONS], session;
 static size_t sessions_used;
 static struct testkit_reflector_config config;
 static struct testkit_reflector_state state;
-static struct testkit_lent_socket_addr source;
+static struct testkit_socket_addr source;
 static struct testkit_gtpu_message message;
 static volatile uint64_t kept; /* so that no answer is thrown away */
 
 #define SHEET sequences, ROWS, times, ROWS, latencies, ROWS, marks, ROWS, counts
 
+static void call_version(void) { kept = ENTER(testkit_version)(); }
 static void call_sum(void) { kept = ENTER(testkit_sum)(1, in, in_length); }
 static void call_checksum(void) { kept = ENTER(testkit_checksum)(in, in_length); }
 static void call_verify(void) { kept = ENTER(testkit_verify)(in, in_length); }
 static void call_build(void) { kept = ENTER(testkit_build)(version, src, dst, 1, 2, 3, 4, out, out_length).number; }
-static void call_decode(void) { uint8_t s[16], d[16]; kept = ENTER(testkit_decode)(in, in_length, s, d).number; }
+static void call_decode(void)
+{
+    uint8_t s[16], d[16];
+    kept = ENTER(testkit_decode)(in, in_length, s, d).number;
+}
 static void call_echo(void) { kept = ENTER(testkit_echo)(in, in_length, out, out_length).number; }
 static void call_generate(void)
 {
     uint64_t next_sequence = plan_sequence;
-    kept = ENTER(testkit_generate)(version, src, dst, 1, 2, plan_count, plan_rate, plan_time, &next_sequence, out, out_length).number;
+    kept = ENTER(testkit_generate)(version, src, dst, 1, 2, plan, &next_sequence, out, out_length).number;
 }
 static void call_elements(void) { kept = ENTER(testkit_validate_elements)(in, in_length); }
 static void call_sent(void) { kept = ENTER(testkit_record_sent)(SHEET, sequence, 7).number; }
 static void call_received(void) { kept = ENTER(testkit_record_received_tpdu)(SHEET, 9, in, in_length).number; }
-static void call_plan(void)
-{
-    kept = ENTER(testkit_record_sent_plan)(SHEET, plan_count, plan_rate, plan_time, sequence).number;
-}
+static void call_plan(void) { kept = ENTER(testkit_record_sent_plan)(SHEET, plan, sequence).number; }
+/* Two returns: T-PDUs of these lengths, cut where `in` ends. */
+static size_t lengths[2];
 static void call_returns(void)
 {
     static const uint64_t at[2] = {9, 9};
     static uint64_t read[2];
     static uint8_t numbers[2];
-    size_t lengths[2] = {in_length / 2, in_length};
     kept = ENTER(testkit_record_received_tpdus)(SHEET, at, 2, lengths, 2, in, in_length, read, 2, numbers, 2).number;
 }
-static void call_message(void) { kept = ENTER(testkit_record_return_gtpu_datagram)(SHEET, 9, message_type, in, in_length).number; }
-static void call_report(void) { kept = ENTER(testkit_report)(SHEET, 1, 2, 3, 4, 5).number; }
-static void call_register(void) { kept = ENTER(testkit_register_session)(sessions, SESSIONS, sessions_used, config.max_sessions, session).number; }
-static void call_remove(void) { kept = ENTER(testkit_remove_session)(sessions, SESSIONS, sessions_used, config.max_sessions, session.local_teid).number; }
+static void call_message(void)
+{
+    kept = ENTER(testkit_record_return_gtpu_datagram)(SHEET, 9, message_type, in, in_length).number;
+}
+static struct testkit_budget budget;
+static struct testkit_continuity_report report;
+static void call_report(void) { kept = ENTER(testkit_report)(SHEET, 1, 2, budget).number; }
+static void call_judge(void) { kept = ENTER(testkit_judge_report)(report, budget).reason; }
+static void call_register(void)
+{
+    kept = ENTER(testkit_register_session)(sessions, SESSIONS, sessions_used, config.max_sessions, session).number;
+}
+static void call_remove(void)
+{
+    kept = ENTER(testkit_remove_session)(sessions, SESSIONS, sessions_used, config.max_sessions, session.local_teid)
+               .number;
+}
 static void call_handle(void)
 {
-    kept = ENTER(testkit_handle_datagram)(sessions, SESSIONS, sessions_used, config, state, source, message, in, in_length, out, out_length).number;
+    kept = ENTER(testkit_handle_datagram)(
+               sessions, SESSIONS, sessions_used, config, state, source, message, in, in_length, out, out_length)
+               .number;
 }
 
 /* The calls, and the most that each has used so far. */
@@ -99,6 +130,7 @@ static struct row {
     void (*call)(void);
     size_t said, used;
 } rows[] = {
+    {"testkit_version", call_version, TESTKIT_STACK_VERSION, 0},
     {"testkit_sum", call_sum, TESTKIT_STACK_SUM, 0},
     {"testkit_checksum", call_checksum, TESTKIT_STACK_CHECKSUM, 0},
     {"testkit_verify", call_verify, TESTKIT_STACK_VERIFY, 0},
@@ -113,6 +145,7 @@ static struct row {
     {"testkit_record_received_tpdus", call_returns, TESTKIT_STACK_RECORD_RECEIVED_TPDUS, 0},
     {"testkit_record_return_gtpu_datagram", call_message, TESTKIT_STACK_RECORD_RETURN_GTPU_DATAGRAM, 0},
     {"testkit_report", call_report, TESTKIT_STACK_REPORT, 0},
+    {"testkit_judge_report", call_judge, TESTKIT_STACK_JUDGE_REPORT, 0},
     {"testkit_register_session", call_register, TESTKIT_STACK_REGISTER_SESSION, 0},
     {"testkit_remove_session", call_remove, TESTKIT_STACK_REMOVE_SESSION, 0},
     {"testkit_handle_datagram", call_handle, TESTKIT_STACK_HANDLE_DATAGRAM, 0},
@@ -168,6 +201,23 @@ static void measure(void (*call)(void))
     }
 }
 
+/* Lists of `in`: whole and nothing behind it; in two halves, the second also longer than what is left. */
+static void measure_returns(void)
+{
+    static const size_t more[] = {0, 1, SIZE_MAX};
+    for (size_t k = 0; k < sizeof more / sizeof *more; k++) {
+        lengths[0] = in_length;
+        lengths[1] = more[k];
+        measure(call_returns);
+        lengths[0] = in_length / 2;
+        lengths[1] = in_length - in_length / 2;
+        measure(call_returns);
+        lengths[0] = 0;
+        lengths[1] = in_length > SIZE_MAX - more[k] ? SIZE_MAX : in_length + more[k];
+        measure(call_returns);
+    }
+}
+
 /* Every call that reads a packet, into outputs that are long enough and too short. */
 static void measure_packet(void)
 {
@@ -176,7 +226,7 @@ static void measure_packet(void)
     measure(call_verify);
     measure(call_decode);
     measure(call_received);
-    measure(call_returns);
+    measure_returns();
     message_type = 255;
     measure(call_message);
     for (out_length = 51; out_length <= 72; out_length += 21) {
@@ -219,7 +269,8 @@ static void measure_reflector(size_t used, size_t maximum)
     }
 }
 
-/* The packet of `in` with room for options of every length: IHL and total length raised, both header sums made right. */
+/* The packet of `in` with room for options of every length: IHL and total length raised, both header sums made right.
+ */
 static void measure_options(void)
 {
     uint8_t packet[52];
@@ -266,9 +317,7 @@ static void measure_writers(void)
             measure(call_build);
         }
         for (int k = 0; k < 64; k++) {
-            plan_count = count[k % 4];
-            plan_rate = rate[k / 4 % 4];
-            plan_time = k / 16 % 2 ? UINT64_MAX - 1 : 0;
+            plan = (struct testkit_plan){count[k % 4], rate[k / 4 % 4], k / 16 % 2 ? UINT64_MAX - 1 : 0};
             plan_sequence = k / 32 ? UINT64_MAX - 1 : 0;
             out_length = OUT;
             measure(call_generate);
@@ -318,10 +367,20 @@ static void measure_plans(size_t used)
     static const uint64_t rate[] = {0, 1, 1000000000, 1000000001};
     const uint64_t count[] = {0, 1, ROWS - used, ROWS, ROWS + 1};
     for (int k = 0; k < 40; k++) {
-        plan_count = count[k % 5];
-        plan_rate = rate[k / 5 % 4];
-        plan_time = k / 20 ? UINT64_MAX - 1 : 7;
+        plan = (struct testkit_plan){count[k % 5], rate[k / 5 % 4], k / 20 ? UINT64_MAX - 1 : 7};
         measure(call_plan);
+    }
+}
+
+/* The report and its verdict, under budgets that are kept and that are not. */
+static void measure_report(void)
+{
+    for (int k = 0; k < 16; k++) {
+        budget = (struct testkit_budget){k & 1 ? 0 : UINT64_MAX, k & 2 ? 0 : UINT64_MAX, k & 4 ? 0 : UINT64_MAX};
+        measure(call_report);
+        report = testkit_report(SHEET, 1, 2, budget);
+        report.gtpu_error_indications = k & 8;
+        measure(call_judge);
     }
 }
 
@@ -336,20 +395,23 @@ static void measure_sheet(size_t used, size_t step)
         in_length = testkit_build(k % 2 ? 4 : 6, src, dst, 1, 2, sequence, 4, in, sizeof in).bytes;
         measure_packet();
     }
-    measure(call_report);
+    measure_report();
     for (int type = 0; type < 256; type++) {
         message_type = (uint8_t)type;
         measure(call_message);
     }
     marks[0] = 2;
-    measure(call_report);
+    measure_report();
     measure(call_sent);
     measure(call_received);
+    measure_plans(used);
+    measure_returns();
 }
 
 int main(void)
 {
     int status = EXIT_SUCCESS;
+    measure(call_version);
     memset(in, 0xff, sizeof in);
     for (in_length = 0; in_length < sizeof in; in_length += 101) {
         measure(call_sum);

@@ -1,31 +1,82 @@
 /*
- * The packet probe's calls for C.
+ * The packet probe's calls for C (C99 and C++17; x86-64, System V calling convention).
  *
- * Build and link, from the repository's root (x86-64 Linux; `rt staticlib exports` writes the archive):
+ * Build and link: firmware/install PREFIX puts this header, libtestkit.a and a pkg-config file under a prefix, and then
  *
- *     cc -std=c11 -Iinclude program.c target/staticlib/libexports.a -o program
+ *     cc -std=c99 program.c $(pkg-config --cflags --libs testkit) -o program
  *
- * Nothing else is linked: of the C library the archive asks for memory functions (memcpy, memmove, memset, memcmp) and no more.
+ * Nothing else is linked: of the C library the archive asks for memory functions (memcpy, memmove, memset, memcmp) and
+ * no more. It allocates nothing, calls no operating system, and has no variable of its own.
  *
- * Lending. Every buffer is the caller's, before, during and after a call; nothing is allocated, and no call keeps a pointer. A buffer
- * is lent as a pointer and a length, where the length counts elements. The caller sees to it that
- *   - a pointer is not null, also where the length is 0, and is aligned for its type;
- *   - all the elements that the length counts may be read and, where the pointer is not to const, written, and have a value;
- *   - a buffer that a call may write overlaps no other buffer of that call, and nobody else touches a lent buffer meanwhile. A number that
- *     a call is lent by pointer, as testkit_generate its next sequence, is such a buffer of one element.
- * Everything else is the call's to judge: no value, length or content is forbidden. A call reads and writes only what it is lent.
+ * What is proved, what is checked, what is only said. Each call is proved to be what document 01 and the RFCs say; its
+ * contract stands beside its code, in crates/testkit_packets, testkit_sheet and testkit_reflector. This header is not
+ * proved. firmware/run, which is part of the gate, checks of it
+ *   - each declaration, with its types and names in their order, against the proved source;
+ *   - each enumerator and the version against a constant of the proved source, and that none is left out;
+ *   - each size, alignment and offset: the C compiler asserts those that C's rules give for the proved source. The
+ *     archive does not tell how its structs are laid out, so a program calls it with a value of its own in each field
+ *     of each struct, and compares every field of every answer (firmware/answers.c);
+ *   - each figure of stack, and the sentences on the red zone and on registers, against the archive's machine code;
+ *   - each text of testkit_number_text against the card (.ci/card does this).
+ * Every other sentence of a comment is checked by no machine.
  *
- * State. A call has no state of its own: what it is to remember stands in the caller's buffers, and in records that go in by value and
- * come back changed. So calls on different buffers may run at the same time.
+ * Lending. Every buffer is the caller's, before, during and after a call, and no call keeps a pointer. A buffer is lent
+ * as a pointer and a length, where the length counts elements. The caller sees to it that
+ *   - a pointer is not null, and is aligned for its type;
+ *   - all the elements that the length counts may be read and, where the pointer is not to const, written, and have a
+ *     value;
+ *   - a buffer that a call may write overlaps no other buffer of that call, and nobody else touches a lent buffer
+ *     meanwhile. A number that is lent by pointer, as testkit_generate its next sequence, is a buffer of one element.
+ * Everything else is the call's to judge: no value, length or content is forbidden. A call reads and writes only what
+ * it is lent; const buffers it does not write.
  *
- * Answers. `number` is 0 (TESTKIT_ACCEPTED) or says why the call refused: the enum below, and docs/CARD.md for what to do about it. Of
- * several causes it names the first in the order that is given at the call. A refusal leaves every lent byte and every count as it was;
- * the exceptions are said at their calls, testkit_generate and testkit_handle_datagram. On success, output bytes past the answer stay.
+ * What no call can detect. A null or wild pointer, or a length past the end of a buffer, is a wrong memory access: the
+ * program stops, or other memory is read or changed. Where a buffer that is written overlaps another one, answer and
+ * bytes are those of no contract: what is read may be what was just written. Null with length 0 is promised at no
+ * call. As the archive is built today a buffer of length 0 is not touched, and firmware/answers.c finds that each call
+ * answers with null there as it must. Addresses and the next sequence have no length: null is never right for them.
  *
- * Time. Every call ends. Times are in nanoseconds since whatever moment the caller chose.
+ * Byte order. Ports, TEIDs, sequences, times and lengths are numbers of the machine, in host order; addresses and
+ * packets are bytes in the order that they have on the wire. So, of a struct sockaddr_in `in` and a GTP-U header:
  *
- * Each call is proved to be what document 01 and the RFCs say (crates/exports/src has its contract). What is said here in words
- * is not proved; firmware/run checks that names, types, numbers and layouts are those of the proved source.
+ *     address.version = 4;
+ *     address.port = ntohs(in.sin_port);
+ *     memcpy(address.address, &in.sin_addr, 4);      (of IPv6: ntohs(in6.sin6_port), and 16 bytes of in6.sin6_addr)
+ *     message.teid = ntohl(teid_of_the_header);
+ *
+ * and back with htons and htonl. Of an IPv4 address the first 4 bytes count and the other 12 do not. testkit_decode,
+ * which makes addresses, leaves those 12 at 0; an address that the caller lends (a session's, a route target's, a
+ * source) comes back with all 16 bytes as they were lent.
+ *
+ * State. A call has no state of its own: what it is to remember stands in the caller's buffers, and in records that go
+ * in by value and come back changed. The calls over struct testkit_sheet and struct testkit_table store those
+ * themselves; who uses the calls with single arguments stores them, after refusals too.
+ *
+ * Answers. `number` is TESTKIT_ACCEPTED (0) or says why the call refused: enum testkit_number, testkit_number_text for
+ * its cause in words, and docs/CARD.md for what to do about it. Of several causes it names the first in the order that
+ * is given at the call. A call that refuses leaves every lent byte and every count as it was, but for two:
+ * testkit_generate (the next sequence) and testkit_handle_datagram (counts). testkit_record_received_tpdus answers for
+ * each return by itself: where one is refused, the others are entered. On success, output bytes past the answer stay.
+ *
+ * Time. Every call ends; none waits. How long it takes, up to a constant:
+ *   - checksums, reading, echo and the walk over elements: the bytes that they are lent, or fewer;
+ *   - testkit_generate: the bytes that it writes;
+ *   - each call on a run sheet scans all used rows for TESTKIT_MALFORMED_OBSERVER (21), up to 2,048 (a list of returns
+ *     twice, whatever its length). Then a row is found by halving. A new sequence moves every row above it by one:
+ *     nothing where sequences rise, all rows where they fall. A first return looks through the marks above its row. So
+ *     a plan takes one scan and a list two, and each packet the rest; single calls take a scan each;
+ *   - each call on a session table searches the used rows one after the other, up to 4,096, whatever the message is;
+ *   - the report: the used rows. The verdict and the version: nothing that grows.
+ * Times that are handed in are in nanoseconds since whatever moment the caller chose.
+ *
+ * Threads, signals, interrupts. Calls on different buffers may run at the same time, also one that interrupts another.
+ * The archive is ordinary x86-64 user code: it uses the general registers, the flags and %xmm0 to %xmm15 (SSE2), and no
+ * other vector, mask, MMX, x87 or segment register; and it uses the red zone, the 128 bytes below the stack pointer
+ * (the figures of stack count them). A Unix signal handler needs no care: the kernel keeps both. An interrupt that is
+ * taken on the interrupted stack destroys the red zone, since the processor itself pushes there: where calls run with
+ * such interrupts open, as in a kernel or on bare metal, give the interrupts a stack of their own. A handler that makes
+ * calls itself saves the %xmm registers first and restores them afterwards, and code that runs without them (-mno-sse)
+ * must switch them on.
  */
 #ifndef TESTKIT_H
 #define TESTKIT_H
@@ -34,19 +85,35 @@
 #include <stddef.h>
 #include <stdint.h>
 
+/* The version of this header. testkit_version gives that of the archive. */
+#define TESTKIT_VERSION_MAJOR 1
+#define TESTKIT_VERSION_MINOR 0
+#define TESTKIT_VERSION_PATCH 0
+#define TESTKIT_VERSION (TESTKIT_VERSION_MAJOR * 65536 + TESTKIT_VERSION_MINOR * 256 + TESTKIT_VERSION_PATCH)
+
 #ifdef __cplusplus
 extern "C" {
 #endif
 
-/* Bytes that a buffer needs. */
+/* Sizes and limits. */
 enum {
-    TESTKIT_ADDRESS_BYTES = 16,   /* an address; of an IPv4 address the first 4 count, and the rest of one that is given are 0 */
-    TESTKIT_IPV4_TPDU_BYTES = 52, /* a built or echoed T-PDU */
+    TESTKIT_ADDRESS_BYTES = 16,      /* an address */
+    TESTKIT_IPV4_TPDU_BYTES = 52,    /* a built or echoed T-PDU */
     TESTKIT_IPV6_TPDU_BYTES = 72,
-    TESTKIT_MAXIMUM_PACKETS = 2048, /* packets in a plan */
-    TESTKIT_MAXIMUM_ROWS = 2048,    /* rows of a run sheet: elements past these are never used */
+    TESTKIT_MAXIMUM_PACKETS = 2048,  /* packets in a plan */
+    TESTKIT_MAXIMUM_ROWS = 2048,     /* rows of a run sheet: elements past these are never used */
     TESTKIT_MAXIMUM_SESSIONS = 4096, /* sessions of a reflector */
     TESTKIT_REFLECTOR_BYTES = 72     /* the output that a message is handled with */
+};
+
+/* The GTP-U messages that some call knows. */
+enum testkit_message_type {
+    TESTKIT_GTPU_MSG_ECHO_REQUEST = 1,
+    TESTKIT_GTPU_MSG_ECHO_RESPONSE = 2,
+    TESTKIT_GTPU_MSG_ERROR_INDICATION = 26,
+    TESTKIT_GTPU_MSG_SUPPORTED_EXTENSION_HEADERS_NOTIFICATION = 31,
+    TESTKIT_GTPU_MSG_END_MARKER = 254,
+    TESTKIT_GTPU_MSG_GPDU = 255
 };
 
 /* The refusals. docs/CARD.md has each with its cause and what to do. */
@@ -91,37 +158,94 @@ enum testkit_number {
     TESTKIT_UNSUPPORTED_MESSAGE_TYPE = 37
 };
 
+/* The cause of a number in words, as the card has it: for a log. */
+static inline const char *testkit_number_text(uint8_t number)
+{
+    switch (number) {
+    case TESTKIT_ACCEPTED: return "accepted";
+    case TESTKIT_TRUNCATED_IP_HEADER: return "T-PDU empty";
+    case TESTKIT_UNSUPPORTED_IP_VERSION: return "version not 4 or 6";
+    case TESTKIT_TRUNCATED_IPV4_HEADER: return "IPv4 under 20 bytes";
+    case TESTKIT_INVALID_IPV4_IHL: return "IHL under 5, or bytes under IHL * 4 + 8";
+    case TESTKIT_INVALID_IPV4_TOTAL_LENGTH: return "total length under IHL * 4 + 8 or past the input";
+    case TESTKIT_PAYLOAD_IS_NOT_UDP: return "protocol not 17";
+    case TESTKIT_INVALID_IPV4_HEADER_CHECKSUM: return "IPv4 header checksum";
+    case TESTKIT_TRUNCATED_IPV6_UDP_PACKET: return "IPv6 under 48 bytes";
+    case TESTKIT_INVALID_IPV6_PAYLOAD_LENGTH: return "payload length under 8 or past the input";
+    case TESTKIT_INVALID_UDP_LENGTH: return "UDP length under 8 or past its part";
+    case TESTKIT_IPV6_UDP_CHECKSUM_IS_ZERO: return "IPv6 UDP checksum 0";
+    case TESTKIT_INVALID_UDP_CHECKSUM: return "UDP checksum wrong";
+    case TESTKIT_TRUNCATED_MEASUREMENT_HEADER: return "probe under 24 bytes";
+    case TESTKIT_MEASUREMENT_MAGIC_MISMATCH: return "first 8 bytes wrong";
+    case TESTKIT_OUTPUT_TOO_SHORT: return "output too short";
+    case TESTKIT_TARGET_RATE_IS_ZERO: return "rate 0";
+    case TESTKIT_TARGET_RATE_EXCEEDS_RESOLUTION: return "rate above 1,000,000,000";
+    case TESTKIT_TOO_MANY_PACKETS: return "count above 2,048";
+    case TESTKIT_SEQUENCE_OVERFLOW: return "sequence would pass its top at packet k";
+    case TESTKIT_SEND_TIMESTAMP_OVERFLOW: return "time would pass its top at packet k";
+    case TESTKIT_MALFORMED_OBSERVER:
+        return "used count above capacity, used rows not rising, a used row's mark not 0 or 1";
+    case TESTKIT_OBSERVER_FULL: return "new sequence, used count equals capacity";
+    case TESTKIT_SEQUENCE_WAS_NOT_SENT: return "returned sequence not on the sheet";
+    case TESTKIT_TIMESTAMP_REVERSED: return "returned before sent";
+    case TESTKIT_TRUNCATED_ELEMENT: return "element cut";
+    case TESTKIT_INVALID_PEER_ADDRESS_LENGTH: return "133 of other length";
+    case TESTKIT_UNSUPPORTED_FIXED_LENGTH_ELEMENT: return "type under 128, not 16";
+    case TESTKIT_MISSING_TEID_DATA_I: return "no 16";
+    case TESTKIT_MISSING_PEER_ADDRESS: return "no 133";
+    case TESTKIT_INVALID_REFLECTOR_CAPACITY: return "maximum 0 or above 4,096";
+    case TESTKIT_MALFORMED_REFLECTOR_TABLE: return "used above maximum or slice shorter than maximum";
+    case TESTKIT_INVALID_REFLECTOR_SESSION: return "TEID or port 0";
+    case TESTKIT_REFLECTOR_SESSION_CONFLICT: return "other record with this local TEID";
+    case TESTKIT_REFLECTOR_SESSION_CAPACITY_EXCEEDED: return "used equals maximum";
+    case TESTKIT_ECHO_REQUEST_TEID_NOT_ZERO: return "Echo Request TEID not 0";
+    case TESTKIT_ECHO_REQUEST_MISSING_SEQUENCE: return "Echo Request without sequence";
+    case TESTKIT_UNSUPPORTED_MESSAGE_TYPE: return "other message type";
+    default: return "no number of the card";
+    }
+}
+
 /*
- * The most stack that each call was seen to use, in bytes: its return address, and below that all that it and what it calls (memcpy too)
- * write. What the caller itself puts on its stack, arguments among it, comes on top. Measured by firmware/stack.c, which names its
- * inputs; firmware/run measures again and fails where a call uses more.
+ * The most stack that a call can use, in bytes: its return address, and below that the frames of the call and of all
+ * that it calls, and the red zone where it is used. What the caller itself puts on its stack, arguments and the place
+ * for the answer among it, comes on top. Read off the archive's machine code, over every path through it
+ * (firmware/frames.awk); firmware/run fails where a figure is not what it finds, and measures that no call uses more
+ * (firmware/stack.c). A memory function is taken to use TESTKIT_STACK_MEMORY_FUNCTION bytes, its return address
+ * included: where yours uses more, add the difference. No call recurses but for the walk over elements, at most 16 deep
+ * by a constant of the proved source.
  */
 enum testkit_stack {
+    TESTKIT_STACK_MEMORY_FUNCTION = 64,
+    TESTKIT_STACK_VERSION = 8,
     TESTKIT_STACK_SUM = 56,
     TESTKIT_STACK_CHECKSUM = 72,
     TESTKIT_STACK_VERIFY = 40,
     TESTKIT_STACK_BUILD = 200,
-    TESTKIT_STACK_DECODE = 232,
-    TESTKIT_STACK_ECHO = 536,
-    TESTKIT_STACK_GENERATE = 328,
-    TESTKIT_STACK_VALIDATE_ELEMENTS = 600,
+    TESTKIT_STACK_ECHO = 472,
+    TESTKIT_STACK_DECODE = 216,
+    TESTKIT_STACK_GENERATE = 344,
+    TESTKIT_STACK_VALIDATE_ELEMENTS = 624,
     TESTKIT_STACK_RECORD_SENT = 56,
-    TESTKIT_STACK_RECORD_RECEIVED_TPDU = 568,
-    TESTKIT_STACK_RECORD_SENT_PLAN = 104,
-    TESTKIT_STACK_RECORD_RECEIVED_TPDUS = 264,
-    TESTKIT_STACK_RECORD_RETURN_GTPU_DATAGRAM = 792,
-    TESTKIT_STACK_REPORT = 124,
-    TESTKIT_STACK_REGISTER_SESSION = 157,
+    TESTKIT_STACK_RECORD_SENT_PLAN = 120,
+    TESTKIT_STACK_RECORD_RECEIVED_TPDU = 504,
+    TESTKIT_STACK_RECORD_RECEIVED_TPDUS = 328,
+    TESTKIT_STACK_RECORD_RETURN_GTPU_DATAGRAM = 784,
+    TESTKIT_STACK_REPORT = 140,
+    TESTKIT_STACK_JUDGE_REPORT = 48,
+    TESTKIT_STACK_REGISTER_SESSION = 184,
     TESTKIT_STACK_REMOVE_SESSION = 128,
-    TESTKIT_STACK_HANDLE_DATAGRAM = 680
+    TESTKIT_STACK_HANDLE_DATAGRAM = 776
 };
+
+/* The version of the archive: TESTKIT_VERSION, where header and archive are of one version. */
+uint32_t testkit_version(void);
 
 /* ---- Checksum (RFC 1071) ---- */
 
 /*
- * The ones' complement sum of `start` and the big-endian 16-bit words of the bytes, an odd last byte being the high half of a word. Of
- * any length. A sum may be taken in parts: the sum of one part is the start of the next, where each part but the last has an even
- * length.
+ * The ones' complement sum of `start` and the big-endian 16-bit words of the bytes, an odd last byte being the high
+ * half of a word. Of any length. A sum may be taken in parts: the sum of one part is the start of the next, where each
+ * part but the last has an even length.
  */
 uint16_t testkit_sum(uint16_t start, const uint8_t *bytes, size_t bytes_length);
 
@@ -142,12 +266,12 @@ struct testkit_written {
 /*
  * Writes the T-PDU of a probe.
  *   version            4 is IPv4; every other number is taken for IPv6
- *   src, dst           addresses, TESTKIT_ADDRESS_BYTES each, in the order they have in a packet
+ *   src, dst           addresses, TESTKIT_ADDRESS_BYTES each
  *   src_port, dst_port UDP ports
  *   sequence           what the probe carries: its sequence and its send time
  *   send_timestamp_ns
  *   out                gets TESTKIT_IPV4_TPDU_BYTES or TESTKIT_IPV6_TPDU_BYTES at its front
- * Refuses by 15.
+ * Refuses by TESTKIT_OUTPUT_TOO_SHORT (15).
  */
 struct testkit_written testkit_build(
     uint8_t version,
@@ -160,10 +284,10 @@ struct testkit_written testkit_build(
     uint8_t *out, size_t out_length);
 
 /*
- * Writes the echo of a T-PDU: source and destination exchanged, address and port, the probe kept, IPv4 options and payload past the
- * probe left out. `tpdu` is the packet as it came, from its IP header on; bytes past the length that it claims are ignored. `out` gets 52
- * or 72 bytes; TESTKIT_IPV6_TPDU_BYTES are always enough.
- * Refuses as testkit_decode, then by 15.
+ * Writes the echo of a T-PDU: source and destination exchanged, address and port, the probe kept, IPv4 options and
+ * payload past the probe left out. `tpdu` is the packet as it came, from its IP header on; bytes past the length that
+ * it claims are ignored. `out` gets 52 or 72 bytes; TESTKIT_IPV6_TPDU_BYTES are always enough.
+ * Refuses as testkit_decode, then by TESTKIT_OUTPUT_TOO_SHORT (15).
  */
 struct testkit_written testkit_echo(const uint8_t *tpdu, size_t tpdu_length, uint8_t *out, size_t out_length);
 
@@ -178,24 +302,40 @@ struct testkit_tpdu {
 };
 
 /*
- * Reads the T-PDU of a probe. `src` and `dst` get the addresses; on a refusal they stay as they were.
- * Refuses by 1, then 2, then, of IPv4, 3, 4, 5, 6, 7, 10, 12, 13, 14, of IPv6, 8, 6, 9, 11, 12, 10, 13, 14.
+ * Reads the T-PDU of a probe. `src` and `dst` get the addresses, an IPv4 address with 12 zeros behind it; on a refusal
+ * they stay as they were.
+ * Refuses by TESTKIT_TRUNCATED_IP_HEADER (1), TESTKIT_UNSUPPORTED_IP_VERSION (2); then, of IPv4,
+ *   TESTKIT_TRUNCATED_IPV4_HEADER (3), TESTKIT_INVALID_IPV4_IHL (4), TESTKIT_INVALID_IPV4_TOTAL_LENGTH (5),
+ *   TESTKIT_PAYLOAD_IS_NOT_UDP (6), TESTKIT_INVALID_IPV4_HEADER_CHECKSUM (7), TESTKIT_INVALID_UDP_LENGTH (10),
+ *   TESTKIT_INVALID_UDP_CHECKSUM (12);
+ * of IPv6,
+ *   TESTKIT_TRUNCATED_IPV6_UDP_PACKET (8), TESTKIT_PAYLOAD_IS_NOT_UDP (6), TESTKIT_INVALID_IPV6_PAYLOAD_LENGTH (9),
+ *   TESTKIT_IPV6_UDP_CHECKSUM_IS_ZERO (11), TESTKIT_INVALID_UDP_CHECKSUM (12), TESTKIT_INVALID_UDP_LENGTH (10);
+ * then, of both, TESTKIT_TRUNCATED_MEASUREMENT_HEADER (13), TESTKIT_MEASUREMENT_MAGIC_MISMATCH (14).
  */
 struct testkit_tpdu testkit_decode(const uint8_t *tpdu, size_t tpdu_length, uint8_t src[16], uint8_t dst[16]);
 
 /* ---- Generator ---- */
 
+/* A plan of packets. Packet k, from 0, is sent at first_send_timestamp_ns + k * (1000000000 / target_rate_pps). */
+struct testkit_plan {
+    uint64_t packet_count;    /* at most TESTKIT_MAXIMUM_PACKETS; 0 asks for none */
+    uint64_t target_rate_pps; /* packets per second, 1 to 1000000000 */
+    uint64_t first_send_timestamp_ns;
+};
+
 /*
- * Writes the packets of a plan end to end. Packet k, from 0, has the sequence *next_sequence + k and the send time
- * first_send_timestamp_ns + k * (1000000000 / target_rate_pps).
+ * Writes the packets of a plan end to end. Packet k, from 0, has the sequence *next_sequence + k.
  *   version .. dst_port as for testkit_build
- *   packet_count       at most TESTKIT_MAXIMUM_PACKETS; 0 writes nothing
- *   target_rate_pps    packets per second, 1 to 1000000000
- *   next_sequence      the caller's own record of the sequence that comes next, changed in place. Lend the same place for the next plan,
- *                      also after 19 and 20, and never restore an older copy. Sequence UINT64_MAX is never sent
- *   out                packet_count * 52 bytes (IPv4) or packet_count * 72 (IPv6): for every plan, 147456
- * On success *next_sequence rises by packet_count. Refuses by 16, 17, 18, then 19 before 20 at the first packet that either stops, then
- * 15. By 19 at packet k *next_sequence rises by k, by 20 it rises by k + 1; after every other refusal it is as it was. `out` stays.
+ *   next_sequence       the caller's own record of the sequence that comes next, changed in place. Lend the same place
+ *                       for the next plan, also after a refusal, and never restore an older copy. Sequence UINT64_MAX
+ *                       is never sent
+ *   out                 packet_count * 52 bytes (IPv4) or packet_count * 72 (IPv6): for every plan, 147456
+ * On success *next_sequence rises by packet_count. Refuses by TESTKIT_TARGET_RATE_IS_ZERO (16),
+ * TESTKIT_TARGET_RATE_EXCEEDS_RESOLUTION (17), TESTKIT_TOO_MANY_PACKETS (18); then by TESTKIT_SEQUENCE_OVERFLOW (19)
+ * before TESTKIT_SEND_TIMESTAMP_OVERFLOW (20) at the first packet that either stops; then by TESTKIT_OUTPUT_TOO_SHORT
+ * (15). TESTKIT_SEQUENCE_OVERFLOW (19) at packet k leaves *next_sequence k higher, TESTKIT_SEND_TIMESTAMP_OVERFLOW (20)
+ * k + 1 higher; every other refusal leaves it as it was. `out` stays.
  */
 struct testkit_written testkit_generate(
     uint8_t version,
@@ -203,32 +343,23 @@ struct testkit_written testkit_generate(
     const uint8_t dst[16],
     uint16_t src_port,
     uint16_t dst_port,
-    uint64_t packet_count,
-    uint64_t target_rate_pps,
-    uint64_t first_send_timestamp_ns,
+    struct testkit_plan plan,
     uint64_t *next_sequence,
     uint8_t *out, size_t out_length);
 
 /* ---- Elements of a GTP-U Error Indication ---- */
 
 /*
- * Judges the elements of an Error Indication: the message's payload, after its GTP-U header. 0, or the number of a refusal: 25, 26 or 27
- * at the first element that has a cause, else 28, then 29. The stack does not grow with the list.
+ * Judges the elements of an Error Indication: the message's payload, after its GTP-U header. 0, or the number of a
+ * refusal: TESTKIT_TRUNCATED_ELEMENT (25), TESTKIT_INVALID_PEER_ADDRESS_LENGTH (26) or
+ * TESTKIT_UNSUPPORTED_FIXED_LENGTH_ELEMENT (27) at the first element that has a cause; else TESTKIT_MISSING_TEID_DATA_I
+ * (28), then TESTKIT_MISSING_PEER_ADDRESS (29). The stack does not grow with the list.
  */
 uint8_t testkit_validate_elements(const uint8_t *payload, size_t payload_length);
 
-/* ---- Run sheet ----
- *
- * A run sheet is four columns, lent to each call, and counts, which go in by value: the caller stores the answer's counts, on refusals
- * too, and hands them to the next call. The columns may be longer than needed; the shortest decides how many rows there are, and at most
- * TESTKIT_MAXIMUM_ROWS. Fresh: all counts 0; what the columns hold does not matter.
- *   sequences          u64, rising strictly over the used rows
- *   send_timestamps    u64
- *   latencies          u64
- *   marks              bytes: 1 returned, 0 not
- * Each call judges the used rows first (21), in time that grows with them.
- */
+/* ---- Run sheet ---- */
 
+/* Beside the columns of a run sheet. Fresh: all 0. */
 struct testkit_counts {
     size_t used; /* rows in use, from the front */
     uint64_t duplicate_packets;
@@ -236,130 +367,60 @@ struct testkit_counts {
     uint64_t gtpu_error_indications; /* these three stay at their top once there */
 };
 
+/*
+ * A run sheet: four columns of `capacity` elements each, which the caller lends to every call, and counts, which the
+ * calls below store. A row is a sent packet. Rows past TESTKIT_MAXIMUM_ROWS are never used. Fresh: all counts 0; what
+ * the columns hold does not matter.
+ */
+struct testkit_sheet {
+    uint64_t *sequences; /* rising strictly over the used rows */
+    uint64_t *send_timestamps;
+    uint64_t *latencies;
+    uint8_t *marks; /* 1 returned, 0 not */
+    size_t capacity;
+    struct testkit_counts counts;
+};
+
 /* 0 or a refusal's number, and the counts for the next call. */
 struct testkit_recorded {
     uint8_t number;
-    size_t used;
-    uint64_t duplicate_packets;
-    uint64_t out_of_order_packets;
-    uint64_t gtpu_error_indications;
+    struct testkit_counts counts;
 };
 
-/*
- * Enters a sent packet. A sequence that is on the sheet gets the new send time and keeps all else.
- * Refuses by 21, then 22, which is due only where the sequence is new and no row is free.
- */
-struct testkit_recorded testkit_record_sent(
-    uint64_t *sequences, size_t sequences_length,
-    uint64_t *send_timestamps, size_t send_timestamps_length,
-    uint64_t *latencies, size_t latencies_length,
-    uint8_t *marks, size_t marks_length,
-    struct testkit_counts counts,
-    uint64_t sequence,
-    uint64_t send_timestamp_ns);
-
-/*
- * Enters a packet that came back as a T-PDU, at a time. A second return of a sequence is taken and only counted.
- * Refuses by 21, then as testkit_decode, then by 23, 24.
- */
-struct testkit_recorded testkit_record_received_tpdu(
-    const uint64_t *sequences, size_t sequences_length,
-    const uint64_t *send_timestamps, size_t send_timestamps_length,
-    uint64_t *latencies, size_t latencies_length,
-    uint8_t *marks, size_t marks_length,
-    struct testkit_counts counts,
-    uint64_t return_timestamp_ns,
-    const uint8_t *tpdu, size_t tpdu_length);
-
-/*
- * Enters the packets of a plan, all or none: packet k, from 0, with the sequence and the send time that
- * testkit_generate gives it, as by testkit_record_sent.
- *   packet_count .. as for testkit_generate
- *   next_sequence the sequence of the plan's first packet: the value that *next_sequence had before testkit_generate made these packets,
- *                 and not the value that it has afterwards, which is that of the next plan
- * Refuses by 21, also where packet_count is 0, then by 16 to 20 as testkit_generate, then by 22, which is due only
- * where more of the plan's sequences are not on the sheet than rows are free. A refused plan leaves the sheet.
- */
-struct testkit_recorded testkit_record_sent_plan(
-    uint64_t *sequences, size_t sequences_length,
-    uint64_t *send_timestamps, size_t send_timestamps_length,
-    uint64_t *latencies, size_t latencies_length,
-    uint8_t *marks, size_t marks_length,
-    struct testkit_counts counts,
-    uint64_t packet_count,
-    uint64_t target_rate_pps,
-    uint64_t first_send_timestamp_ns,
-    uint64_t next_sequence);
-
-/* How many returns there were and 0, or 0 and the number of a refusal of the whole list; and the counts for the next call. */
+/* As testkit_recorded, and how many returns the list had. Where `number` is not 0 the whole list is refused and
+ * `returns` is 0. */
 struct testkit_returns_recorded {
-    size_t returns;
     uint8_t number;
-    size_t used;
-    uint64_t duplicate_packets;
-    uint64_t out_of_order_packets;
-    uint64_t gtpu_error_indications;
+    size_t returns;
+    struct testkit_counts counts;
 };
-
-/*
- * Enters packets that came back, as testkit_record_received_tpdu would one after the other. The T-PDUs lie end to end in `tpdus`, each as
- * long as `lengths` says; where the lengths pass the end of `tpdus`, the T-PDU there ends with it and those behind are empty, and each is
- * judged as testkit_decode judges those bytes. There are as many returns as the shortest of `return_timestamps`, `lengths`, `returned` and
- * `numbers` has elements. `numbers` gets each return's answer, 0 or a refusal's number; `returned` the sequence that its T-PDU reads as,
- * or 0. A return that is refused changes no more than that, and those behind it are tried all the same.
- * Refuses the whole list by 21, an empty one too, and then writes nothing, `returned` and `numbers` included.
- */
-struct testkit_returns_recorded testkit_record_received_tpdus(
-    const uint64_t *sequences, size_t sequences_length,
-    const uint64_t *send_timestamps, size_t send_timestamps_length,
-    uint64_t *latencies, size_t latencies_length,
-    uint8_t *marks, size_t marks_length,
-    struct testkit_counts counts,
-    const uint64_t *return_timestamps, size_t return_timestamps_length,
-    const size_t *lengths, size_t lengths_length,
-    const uint8_t *tpdus, size_t tpdus_length,
-    uint64_t *returned, size_t returned_length,
-    uint8_t *numbers, size_t numbers_length);
 
 /* What a message was. */
-enum testkit_kind {
-    TESTKIT_KIND_REFUSED = 0,
-    TESTKIT_KIND_MEASUREMENT_TPDU = 1,
-    TESTKIT_KIND_ERROR_INDICATION = 2,
-    TESTKIT_KIND_ECHO_RESPONSE = 3,
-    TESTKIT_KIND_IGNORED = 4
+enum testkit_outcome {
+    TESTKIT_OUTCOME_REFUSED = 0,
+    TESTKIT_OUTCOME_MEASUREMENT_TPDU = 1,
+    TESTKIT_OUTCOME_ERROR_INDICATION = 2,
+    TESTKIT_OUTCOME_ECHO_RESPONSE = 3,
+    TESTKIT_OUTCOME_IGNORED = 4
 };
 
-/* As testkit_recorded, and what the message was; of an ignored one its type, else 0. */
-struct testkit_message {
+/* As testkit_recorded, and what the message was. */
+struct testkit_datagram_recorded {
     uint8_t number;
-    uint8_t kind; /* enum testkit_kind */
-    uint8_t message_type;
-    size_t used;
-    uint64_t duplicate_packets;
-    uint64_t out_of_order_packets;
-    uint64_t gtpu_error_indications;
+    uint8_t outcome;      /* enum testkit_outcome */
+    uint8_t message_type; /* of an ignored message its type, else 0 */
+    struct testkit_counts counts;
 };
 
-/*
- * Enters a GTP-U message that came back, at a time: its type, and its payload after the GTP-U header, which the caller has parsed. Type
- * 255 is a T-PDU; 26 an Error Indication, counted if its elements are right; 2 an Echo Response; 31 and 254 are ignored.
- * Refuses by 21; then type 255 as testkit_record_received_tpdu, type 26 as testkit_validate_elements, other types by 37.
- */
-struct testkit_message testkit_record_return_gtpu_datagram(
-    const uint64_t *sequences, size_t sequences_length,
-    const uint64_t *send_timestamps, size_t send_timestamps_length,
-    uint64_t *latencies, size_t latencies_length,
-    uint8_t *marks, size_t marks_length,
-    struct testkit_counts counts,
-    uint64_t return_timestamp_ns,
-    uint8_t message_type,
-    const uint8_t *payload, size_t payload_length);
-
-/* ---- Report ---- */
+/* What a run may lose, at most. */
+struct testkit_budget {
+    uint64_t max_lost_packets;
+    uint64_t max_consecutive_lost_packets; /* in one run of rows that did not return */
+    uint64_t outage_budget_ns;             /* how long such a run may last */
+};
 
 /* 0 and the report; or a refusal's number and zeros. */
-struct testkit_report {
+struct testkit_continuity_report {
     uint8_t number;
     uint64_t window_start_ns; /* as handed in */
     uint64_t window_end_ns;
@@ -374,22 +435,172 @@ struct testkit_report {
     bool has_latency;                      /* false where nothing returned, and then the three are 0 */
     uint64_t min_ns;
     uint64_t max_ns;
-    uint64_t avg_ns; /* rounded down */
-    uint64_t max_lost; /* the budget, as handed in */
-    uint64_t max_consecutive;
-    uint64_t outage_budget_ns;
+    uint64_t avg_ns;               /* rounded down */
+    struct testkit_budget budget;  /* as handed in */
     bool forwarding_proven;        /* something returned */
     bool packet_continuity_proven; /* lost, longest run and longest time within budget, and no Error Indication */
 };
+
+/* What a report comes to: pass, or the first reason against it. */
+enum testkit_verdict_reason {
+    TESTKIT_VERDICT_PASS = 0,
+    TESTKIT_VERDICT_NOTHING_RETURNED = 1,
+    TESTKIT_VERDICT_TOO_MANY_LOST = 2,
+    TESTKIT_VERDICT_TOO_MANY_IN_A_ROW = 3,
+    TESTKIT_VERDICT_OUTAGE_TOO_LONG = 4,
+    TESTKIT_VERDICT_ERROR_INDICATED = 5,
+    TESTKIT_VERDICT_NO_REPORT = 6 /* the report's number is not 0 */
+};
+
+/* The reason, and the number that was too large with the one that was allowed; 0 where the reason has none. */
+struct testkit_verdict {
+    uint8_t reason; /* enum testkit_verdict_reason */
+    uint64_t measured;
+    uint64_t allowed;
+};
+
+/*
+ * The calls over a sheet. Each is the call of the same name below, without `sheet_`, on the sheet's columns and counts:
+ * it answers and refuses as that one does. Those that are lent the sheet to write store the answer's counts in it.
+ */
+static inline struct testkit_recorded testkit_sheet_record_sent(
+    struct testkit_sheet *sheet, uint64_t sequence, uint64_t send_timestamp_ns);
+static inline struct testkit_recorded testkit_sheet_record_sent_plan(
+    struct testkit_sheet *sheet, struct testkit_plan plan, uint64_t next_sequence);
+static inline struct testkit_recorded testkit_sheet_record_received_tpdu(
+    struct testkit_sheet *sheet, uint64_t return_timestamp_ns, const uint8_t *tpdu, size_t tpdu_length);
+static inline struct testkit_returns_recorded testkit_sheet_record_received_tpdus(
+    struct testkit_sheet *sheet,
+    const uint64_t *return_timestamps, size_t return_timestamps_length,
+    const size_t *lengths, size_t lengths_length,
+    const uint8_t *tpdus, size_t tpdus_length,
+    uint64_t *returned, size_t returned_length,
+    uint8_t *numbers, size_t numbers_length);
+static inline struct testkit_datagram_recorded testkit_sheet_record_return_gtpu_datagram(
+    struct testkit_sheet *sheet,
+    uint64_t return_timestamp_ns,
+    uint8_t message_type,
+    const uint8_t *payload, size_t payload_length);
+static inline struct testkit_continuity_report testkit_sheet_report(
+    const struct testkit_sheet *sheet, uint64_t window_start_ns, uint64_t window_end_ns, struct testkit_budget budget);
+
+/*
+ * What a report comes to under a budget, which need not be the one that it was made with: the first of
+ * TESTKIT_VERDICT_NO_REPORT, NOTHING_RETURNED, TOO_MANY_LOST, TOO_MANY_IN_A_ROW, OUTAGE_TOO_LONG and ERROR_INDICATED
+ * that holds of its figures, or TESTKIT_VERDICT_PASS. The report's own budget, forwarding_proven and
+ * packet_continuity_proven are not looked at. Beside TOO_MANY_LOST, TOO_MANY_IN_A_ROW and OUTAGE_TOO_LONG stand the
+ * report's number and the budget's, beside ERROR_INDICATED the number of Error Indications and 0.
+ */
+struct testkit_verdict testkit_judge_report(struct testkit_continuity_report report, struct testkit_budget budget);
+
+/*
+ * The calls with single arguments: the four columns, each with its length, and the counts, which go in by value.
+ * The caller stores the answer's counts, on refusals too. The columns may differ in length: the shortest decides how
+ * many rows there are, and at most TESTKIT_MAXIMUM_ROWS.
+ *
+ * Every call refuses first by TESTKIT_MALFORMED_OBSERVER (21): the used count is above the number of rows, the
+ * sequences of the used rows do not rise, or one of their marks is not 0 or 1. No call leaves a sheet so.
+ */
+
+/*
+ * Enters a sent packet. A sequence that is on the sheet gets the new send time and keeps all else.
+ * Refuses by TESTKIT_MALFORMED_OBSERVER (21); then by TESTKIT_OBSERVER_FULL (22), which is due only where the sequence
+ * is new and no row is free.
+ */
+struct testkit_recorded testkit_record_sent(
+    uint64_t *sequences, size_t sequences_length,
+    uint64_t *send_timestamps, size_t send_timestamps_length,
+    uint64_t *latencies, size_t latencies_length,
+    uint8_t *marks, size_t marks_length,
+    struct testkit_counts counts,
+    uint64_t sequence,
+    uint64_t send_timestamp_ns);
+
+/*
+ * Enters the packets of a plan, all or none: packet k, from 0, with the sequence and the send time that
+ * testkit_generate gives it, as by testkit_record_sent.
+ *   next_sequence the sequence of the plan's first packet: the value that *next_sequence had before testkit_generate
+ *                 made these packets, and not the value that it has afterwards, which is that of the next plan
+ * Refuses by TESTKIT_MALFORMED_OBSERVER (21), also where packet_count is 0; then by TESTKIT_TARGET_RATE_IS_ZERO (16) to
+ * TESTKIT_SEND_TIMESTAMP_OVERFLOW (20) as testkit_generate; then by TESTKIT_OBSERVER_FULL (22), which is due only where
+ * more of the plan's sequences are not on the sheet than rows are free. A refused plan leaves the sheet.
+ */
+struct testkit_recorded testkit_record_sent_plan(
+    uint64_t *sequences, size_t sequences_length,
+    uint64_t *send_timestamps, size_t send_timestamps_length,
+    uint64_t *latencies, size_t latencies_length,
+    uint8_t *marks, size_t marks_length,
+    struct testkit_counts counts,
+    struct testkit_plan plan,
+    uint64_t next_sequence);
+
+/*
+ * Enters a packet that came back as a T-PDU, at a time. A second return of a sequence is taken and only counted.
+ * Refuses by TESTKIT_MALFORMED_OBSERVER (21); then as testkit_decode; then by TESTKIT_SEQUENCE_WAS_NOT_SENT (23),
+ * TESTKIT_TIMESTAMP_REVERSED (24).
+ */
+struct testkit_recorded testkit_record_received_tpdu(
+    const uint64_t *sequences, size_t sequences_length,
+    const uint64_t *send_timestamps, size_t send_timestamps_length,
+    uint64_t *latencies, size_t latencies_length,
+    uint8_t *marks, size_t marks_length,
+    struct testkit_counts counts,
+    uint64_t return_timestamp_ns,
+    const uint8_t *tpdu, size_t tpdu_length);
+
+/*
+ * Enters packets that came back, as testkit_record_received_tpdu would one after the other.
+ *   return_timestamps  when each came
+ *   lengths            how long each T-PDU is
+ *   tpdus              the T-PDUs, end to end. Where the lengths pass its end, the T-PDU there is cut at the end and
+ *                      those behind it are empty; no byte past the end is read, whatever the lengths add up to. Each is
+ *                      judged as testkit_decode judges those bytes: an empty one by TESTKIT_TRUNCATED_IP_HEADER (1), a
+ *                      cut one by what is then wrong with it. Where the lengths end first, the bytes behind are ignored
+ *   returned           gets the sequence that each T-PDU reads as, or 0
+ *   numbers            gets each return's answer, 0 or a refusal's number
+ * There are as many returns as the shortest of `return_timestamps`, `lengths`, `returned` and `numbers` has elements. A
+ * return that is refused changes no more than its elements of `returned` and `numbers`, and those behind it are tried
+ * all the same.
+ * Refuses the whole list by TESTKIT_MALFORMED_OBSERVER (21) alone, an empty list too, and then writes nothing,
+ * `returned` and `numbers` included.
+ */
+struct testkit_returns_recorded testkit_record_received_tpdus(
+    const uint64_t *sequences, size_t sequences_length,
+    const uint64_t *send_timestamps, size_t send_timestamps_length,
+    uint64_t *latencies, size_t latencies_length,
+    uint8_t *marks, size_t marks_length,
+    struct testkit_counts counts,
+    const uint64_t *return_timestamps, size_t return_timestamps_length,
+    const size_t *lengths, size_t lengths_length,
+    const uint8_t *tpdus, size_t tpdus_length,
+    uint64_t *returned, size_t returned_length,
+    uint8_t *numbers, size_t numbers_length);
+
+/*
+ * Enters a GTP-U message that came back, at a time: its type, and its payload after the GTP-U header, which the caller
+ * has parsed. A G-PDU carries a T-PDU; an Error Indication is counted if its elements are right; an Echo Response is
+ * noticed; an End Marker and a Supported Extension Headers Notification are ignored.
+ * Refuses by TESTKIT_MALFORMED_OBSERVER (21); then a G-PDU as testkit_record_received_tpdu, an Error Indication as
+ * testkit_validate_elements, other types, an Echo Request among them, by TESTKIT_UNSUPPORTED_MESSAGE_TYPE (37).
+ */
+struct testkit_datagram_recorded testkit_record_return_gtpu_datagram(
+    const uint64_t *sequences, size_t sequences_length,
+    const uint64_t *send_timestamps, size_t send_timestamps_length,
+    uint64_t *latencies, size_t latencies_length,
+    uint8_t *marks, size_t marks_length,
+    struct testkit_counts counts,
+    uint64_t return_timestamp_ns,
+    uint8_t message_type,
+    const uint8_t *payload, size_t payload_length);
 
 /*
  * The report of a run sheet.
  *   window_start_ns    copied into the report, and used for nothing else
  *   window_end_ns      where a run of losses ends that no return ended
- *   the other three    the budget: how many may be lost, how many in one run, and how long a run may last
- * Refuses by 21.
+ *   budget             what the report's packet_continuity_proven is about
+ * Refuses by TESTKIT_MALFORMED_OBSERVER (21).
  */
-struct testkit_report testkit_report(
+struct testkit_continuity_report testkit_report(
     const uint64_t *sequences, size_t sequences_length,
     const uint64_t *send_timestamps, size_t send_timestamps_length,
     const uint64_t *latencies, size_t latencies_length,
@@ -397,20 +608,12 @@ struct testkit_report testkit_report(
     struct testkit_counts counts,
     uint64_t window_start_ns,
     uint64_t window_end_ns,
-    uint64_t max_lost_packets,
-    uint64_t max_consecutive_lost_packets,
-    uint64_t outage_budget_ns);
+    struct testkit_budget budget);
 
-/* ---- Reflector ----
- *
- * A reflector is a table of sessions, lent to each call, with a used count and a maximum, and a state, which goes in by value: the caller
- * stores the answer's used count or state, on refusals too, and hands it to the next call. The table has at least as many rows as the
- * maximum, which is 1 to TESTKIT_MAXIMUM_SESSIONS; only used rows count, from the front. Fresh: used 0, all counts 0, next error sequence
- * 1; what the rows hold does not matter.
- */
+/* ---- Reflector ---- */
 
 /* A UDP socket address. */
-struct testkit_lent_socket_addr {
+struct testkit_socket_addr {
     uint8_t version; /* 4 is IPv4; every other number is taken for IPv6 */
     uint8_t address[16];
     uint16_t port;
@@ -420,43 +623,8 @@ struct testkit_lent_socket_addr {
 struct testkit_reflector_session {
     uint32_t local_teid;
     uint32_t peer_teid;
-    struct testkit_lent_socket_addr peer_addr;
+    struct testkit_socket_addr peer_addr;
 };
-
-/* 0 and whether the session was added, which it is not where the same record is there; or a refusal's number. Both with the used count. */
-struct testkit_registered {
-    uint8_t number;
-    bool added;
-    size_t used;
-};
-
-/*
- * Registers a session, in the first row past the used ones.
- * Refuses by 30, 31, 32, 33, 34.
- */
-struct testkit_registered testkit_register_session(
-    struct testkit_reflector_session *sessions, size_t sessions_length,
-    size_t used,
-    size_t max_sessions,
-    struct testkit_reflector_session session);
-
-/* 0, whether a session was removed, and that session or zeros; or a refusal's number and zeros. Both with the used count. */
-struct testkit_removed {
-    uint8_t number;
-    bool removed;
-    size_t used;
-    struct testkit_reflector_session session;
-};
-
-/*
- * Removes the session of a TEID. The last used row is moved into its place; rows past the used ones stay.
- * Refuses by 30, 31.
- */
-struct testkit_removed testkit_remove_session(
-    struct testkit_reflector_session *sessions, size_t sessions_length,
-    size_t used,
-    size_t max_sessions,
-    uint32_t local_teid);
 
 /* What is done with G-PDUs of known sessions. Every other number is taken for TESTKIT_POLICY_ROUTE. */
 enum testkit_policy {
@@ -466,13 +634,14 @@ enum testkit_policy {
 };
 
 struct testkit_reflector_config {
-    size_t max_sessions;
-    uint8_t recovery_counter;               /* for Echo Responses */
-    uint8_t policy;                         /* enum testkit_policy */
-    struct testkit_lent_socket_addr target; /* where G-PDUs are routed to; under another policy it does not count */
+    size_t max_sessions;               /* 1 to TESTKIT_MAXIMUM_SESSIONS, and at most the rows of the table */
+    uint8_t recovery_counter;          /* for Echo Responses */
+    uint8_t policy;                    /* enum testkit_policy */
+    struct testkit_socket_addr target; /* where G-PDUs are routed to; under another policy it does not count */
     uint32_t target_teid;
 };
 
+/* What changes from message to message. Fresh: all counts 0, next_error_sequence 1. */
 struct testkit_reflector_state {
     uint64_t gpdu_received; /* the six counts stay at their top once there */
     uint64_t gpdu_forwarded;
@@ -483,11 +652,40 @@ struct testkit_reflector_state {
     uint16_t next_error_sequence; /* after 65535 comes 1 */
 };
 
-/* A GTP-U message that the caller has parsed, without its payload. */
+/*
+ * A session table: `capacity` rows, which the caller lends to every call, and what the calls below store. Only used
+ * rows count, from the front. Fresh: used 0, a fresh state; what the rows hold does not matter.
+ */
+struct testkit_table {
+    struct testkit_reflector_session *sessions;
+    size_t capacity;
+    size_t used;
+    struct testkit_reflector_config config;
+    struct testkit_reflector_state state;
+};
+
+/* 0 and whether the session was added, which it is not where the same record is there; or a refusal's number. Both with
+ * the used count. */
+struct testkit_registered {
+    uint8_t number;
+    bool added;
+    size_t used;
+};
+
+/* 0, whether a session was removed, and that session or zeros; or a refusal's number and zeros. Both with the used
+ * count. */
+struct testkit_removed {
+    uint8_t number;
+    bool removed;
+    size_t used;
+    struct testkit_reflector_session session;
+};
+
+/* A GTP-U message's header, as the caller has parsed it or is to write it. */
 struct testkit_gtpu_message {
-    uint8_t message_type;
+    uint8_t message_type; /* enum testkit_message_type, or another */
     uint32_t teid;
-    uint8_t has_sequence; /* 0: none; every other number: `sequence` */
+    uint8_t has_sequence; /* 0: none; every other number: `sequence`. In an answer 0 or 1 */
     uint16_t sequence;
 };
 
@@ -511,36 +709,191 @@ enum testkit_send_reason {
     TESTKIT_SEND_ERROR_INDICATION = 4
 };
 
-/* The answer to a message, with the state for the next call. Where nothing is sent, `destination` is version 4 and zeros, as is the rest. */
+/* The answer to a message, with the state for the next call. Where nothing is sent, `destination` is version 4 and
+ * zeros, and `message` zeros. */
 struct testkit_handled {
     uint8_t number;
-    uint8_t kind;   /* enum testkit_action */
-    uint8_t reason; /* enum testkit_noop_reason or testkit_send_reason; 0 on a refusal */
-    size_t bytes;   /* the payload to send, at the front of `out`; 0 for a routed G-PDU, which is sent with the payload as it came */
-    struct testkit_lent_socket_addr destination;
-    uint32_t teid; /* what the header of the message to send says */
-    uint8_t message_type;
-    bool has_sequence;
-    uint16_t sequence;
+    uint8_t action; /* enum testkit_action */
+    uint8_t reason; /* enum testkit_noop_reason or testkit_send_reason, by the action; 0 on a refusal */
+    size_t bytes;   /* the payload to send, at the front of `out`; 0 for a routed G-PDU, which is sent with the payload
+                       as it came */
+    struct testkit_socket_addr destination; /* its version is 4 or 6 */
+    struct testkit_gtpu_message message; /* the header of the message to send */
     struct testkit_reflector_state state;
 };
 
 /*
- * Handles a GTP-U message from `source`, with its payload after the header. Type 255 of a known TEID is echoed, sunk or routed, of an
- * unknown one answered by an Error Indication; 1 is answered by an Echo Response; of 2, 26, 31 and 254 nothing comes. `out` gets the payload
- * to send; it must have TESTKIT_REFLECTOR_BYTES.
- * Refuses by 30, 31, 15; then type 255 under echo as testkit_decode, where the received count has risen; type 1 by 35, 36 and other types by
- * 37, where the malformed count has risen.
+ * The calls over a table. Each is the call of the same name below, without `table_`, on the table's rows, used count,
+ * configuration and state, and stores the answer's used count or state in it.
+ */
+static inline struct testkit_registered testkit_table_register_session(
+    struct testkit_table *table, struct testkit_reflector_session session);
+static inline struct testkit_removed testkit_table_remove_session(struct testkit_table *table, uint32_t local_teid);
+static inline struct testkit_handled testkit_table_handle_datagram(
+    struct testkit_table *table,
+    struct testkit_socket_addr source,
+    struct testkit_gtpu_message message,
+    const uint8_t *payload, size_t payload_length,
+    uint8_t *out, size_t out_length);
+
+/*
+ * The calls with single arguments: the rows with their length, the used count and the maximum, and the state,
+ * which goes in by value. The caller stores the answer's used count or state, on refusals too.
+ *
+ * Every call refuses first by TESTKIT_INVALID_REFLECTOR_CAPACITY (30), where the maximum is 0 or above
+ * TESTKIT_MAXIMUM_SESSIONS; then by TESTKIT_MALFORMED_REFLECTOR_TABLE (31), where the used count is above the maximum
+ * or the table has fewer rows than it.
+ */
+
+/*
+ * Registers a session, in the first row past the used ones.
+ * Refuses by TESTKIT_INVALID_REFLECTOR_CAPACITY (30), TESTKIT_MALFORMED_REFLECTOR_TABLE (31),
+ * TESTKIT_INVALID_REFLECTOR_SESSION (32), TESTKIT_REFLECTOR_SESSION_CONFLICT (33),
+ * TESTKIT_REFLECTOR_SESSION_CAPACITY_EXCEEDED (34).
+ */
+struct testkit_registered testkit_register_session(
+    struct testkit_reflector_session *sessions, size_t sessions_length,
+    size_t used,
+    size_t max_sessions,
+    struct testkit_reflector_session session);
+
+/*
+ * Removes the session of a TEID. The last used row is moved into its place; rows past the used ones stay.
+ * Refuses by TESTKIT_INVALID_REFLECTOR_CAPACITY (30), TESTKIT_MALFORMED_REFLECTOR_TABLE (31).
+ */
+struct testkit_removed testkit_remove_session(
+    struct testkit_reflector_session *sessions, size_t sessions_length,
+    size_t used,
+    size_t max_sessions,
+    uint32_t local_teid);
+
+/*
+ * Handles a GTP-U message from `source`, with its payload after the header. A G-PDU of a known TEID is echoed, sunk or
+ * routed, of an unknown one answered by an Error Indication; an Echo Request is answered by an Echo Response; of Echo
+ * Responses, Error Indications, End Markers and Supported Extension Headers Notifications nothing comes. `out` gets the
+ * payload to send; it must have TESTKIT_REFLECTOR_BYTES. On a refusal, and where nothing is sent or a G-PDU is routed,
+ * it stays as it was.
+ * Refuses by TESTKIT_INVALID_REFLECTOR_CAPACITY (30), TESTKIT_MALFORMED_REFLECTOR_TABLE (31), TESTKIT_OUTPUT_TOO_SHORT
+ * (15); these leave the state. Then a G-PDU under TESTKIT_POLICY_ECHO is refused as by testkit_decode, and
+ * gpdu_received has risen; an Echo Request by TESTKIT_ECHO_REQUEST_TEID_NOT_ZERO (35),
+ * TESTKIT_ECHO_REQUEST_MISSING_SEQUENCE (36), and other types by TESTKIT_UNSUPPORTED_MESSAGE_TYPE (37), and
+ * malformed_rejected has risen.
  */
 struct testkit_handled testkit_handle_datagram(
     const struct testkit_reflector_session *sessions, size_t sessions_length,
     size_t used,
     struct testkit_reflector_config config,
     struct testkit_reflector_state state,
-    struct testkit_lent_socket_addr source,
+    struct testkit_socket_addr source,
     struct testkit_gtpu_message message,
     const uint8_t *payload, size_t payload_length,
     uint8_t *out, size_t out_length);
+
+/* ---- The calls over a sheet and over a table ---- */
+
+static inline struct testkit_recorded testkit_sheet_record_sent(
+    struct testkit_sheet *sheet, uint64_t sequence, uint64_t send_timestamp_ns)
+{
+    struct testkit_recorded answer = testkit_record_sent(
+        sheet->sequences, sheet->capacity, sheet->send_timestamps, sheet->capacity,
+        sheet->latencies, sheet->capacity, sheet->marks, sheet->capacity,
+        sheet->counts, sequence, send_timestamp_ns);
+    sheet->counts = answer.counts;
+    return answer;
+}
+
+static inline struct testkit_recorded testkit_sheet_record_sent_plan(
+    struct testkit_sheet *sheet, struct testkit_plan plan, uint64_t next_sequence)
+{
+    struct testkit_recorded answer = testkit_record_sent_plan(
+        sheet->sequences, sheet->capacity, sheet->send_timestamps, sheet->capacity,
+        sheet->latencies, sheet->capacity, sheet->marks, sheet->capacity,
+        sheet->counts, plan, next_sequence);
+    sheet->counts = answer.counts;
+    return answer;
+}
+
+static inline struct testkit_recorded testkit_sheet_record_received_tpdu(
+    struct testkit_sheet *sheet, uint64_t return_timestamp_ns, const uint8_t *tpdu, size_t tpdu_length)
+{
+    struct testkit_recorded answer = testkit_record_received_tpdu(
+        sheet->sequences, sheet->capacity, sheet->send_timestamps, sheet->capacity,
+        sheet->latencies, sheet->capacity, sheet->marks, sheet->capacity,
+        sheet->counts, return_timestamp_ns, tpdu, tpdu_length);
+    sheet->counts = answer.counts;
+    return answer;
+}
+
+static inline struct testkit_returns_recorded testkit_sheet_record_received_tpdus(
+    struct testkit_sheet *sheet,
+    const uint64_t *return_timestamps, size_t return_timestamps_length,
+    const size_t *lengths, size_t lengths_length,
+    const uint8_t *tpdus, size_t tpdus_length,
+    uint64_t *returned, size_t returned_length,
+    uint8_t *numbers, size_t numbers_length)
+{
+    struct testkit_returns_recorded answer = testkit_record_received_tpdus(
+        sheet->sequences, sheet->capacity, sheet->send_timestamps, sheet->capacity,
+        sheet->latencies, sheet->capacity, sheet->marks, sheet->capacity,
+        sheet->counts, return_timestamps, return_timestamps_length, lengths, lengths_length, tpdus, tpdus_length,
+        returned, returned_length, numbers, numbers_length);
+    sheet->counts = answer.counts;
+    return answer;
+}
+
+static inline struct testkit_datagram_recorded testkit_sheet_record_return_gtpu_datagram(
+    struct testkit_sheet *sheet,
+    uint64_t return_timestamp_ns,
+    uint8_t message_type,
+    const uint8_t *payload, size_t payload_length)
+{
+    struct testkit_datagram_recorded answer = testkit_record_return_gtpu_datagram(
+        sheet->sequences, sheet->capacity, sheet->send_timestamps, sheet->capacity,
+        sheet->latencies, sheet->capacity, sheet->marks, sheet->capacity,
+        sheet->counts, return_timestamp_ns, message_type, payload, payload_length);
+    sheet->counts = answer.counts;
+    return answer;
+}
+
+static inline struct testkit_continuity_report testkit_sheet_report(
+    const struct testkit_sheet *sheet, uint64_t window_start_ns, uint64_t window_end_ns, struct testkit_budget budget)
+{
+    return testkit_report(
+        sheet->sequences, sheet->capacity, sheet->send_timestamps, sheet->capacity,
+        sheet->latencies, sheet->capacity, sheet->marks, sheet->capacity,
+        sheet->counts, window_start_ns, window_end_ns, budget);
+}
+
+static inline struct testkit_registered testkit_table_register_session(
+    struct testkit_table *table, struct testkit_reflector_session session)
+{
+    struct testkit_registered answer = testkit_register_session(
+        table->sessions, table->capacity, table->used, table->config.max_sessions, session);
+    table->used = answer.used;
+    return answer;
+}
+
+static inline struct testkit_removed testkit_table_remove_session(struct testkit_table *table, uint32_t local_teid)
+{
+    struct testkit_removed answer = testkit_remove_session(
+        table->sessions, table->capacity, table->used, table->config.max_sessions, local_teid);
+    table->used = answer.used;
+    return answer;
+}
+
+static inline struct testkit_handled testkit_table_handle_datagram(
+    struct testkit_table *table,
+    struct testkit_socket_addr source,
+    struct testkit_gtpu_message message,
+    const uint8_t *payload, size_t payload_length,
+    uint8_t *out, size_t out_length)
+{
+    struct testkit_handled answer = testkit_handle_datagram(
+        table->sessions, table->capacity, table->used, table->config, table->state, source, message,
+        payload, payload_length, out, out_length);
+    table->state = answer.state;
+    return answer;
+}
 
 #ifdef __cplusplus
 }

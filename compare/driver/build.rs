@@ -1,4 +1,4 @@
-//! Links our library: the archive `libexports.a` in the folder that TESTKIT_LIBRARY_DIR names.
+//! Links our library: the archive `libtestkit.a` in the folder that TESTKIT_LIBRARY_DIR names.
 
 use std::env;
 use std::path::Path;
@@ -6,9 +6,9 @@ use std::path::Path;
 fn main() {
     println!("cargo:rerun-if-env-changed=TESTKIT_LIBRARY_DIR");
     let folder = env::var("TESTKIT_LIBRARY_DIR").unwrap_or_else(|_| {
-        panic!("set TESTKIT_LIBRARY_DIR to the folder of libexports.a (compare/run does)")
+        panic!("set TESTKIT_LIBRARY_DIR to the folder of libtestkit.a (compare/run does)")
     });
-    let archive = Path::new(&folder).join("libexports.a");
+    let archive = Path::new(&folder).join("libtestkit.a");
     assert!(
         archive.is_absolute() && archive.is_file(),
         "TESTKIT_LIBRARY_DIR: {} is not the absolute path of an archive",
@@ -16,5 +16,5 @@ fn main() {
     );
     println!("cargo:rerun-if-changed={}", archive.display());
     println!("cargo:rustc-link-search=native={folder}");
-    println!("cargo:rustc-link-lib=static=exports");
+    println!("cargo:rustc-link-lib=static=testkit");
 }

@@ -200,7 +200,7 @@ impl Call {
                 observer.record_return_gtpu_datagram(*time, &message)
             }
         };
-        let (number, kind, message_type) = match outcome {
+        let (number, outcome, message_type) = match outcome {
             Err(number) => (number, 0, 0),
             Ok(Outcome::MeasurementTpdu) => (0, 1, 0),
             Ok(Outcome::ErrorIndication) => (0, 2, 0),
@@ -209,7 +209,7 @@ impl Call {
         };
         Noted {
             number,
-            kind,
+            outcome,
             message_type,
         }
     }
@@ -297,11 +297,21 @@ impl Pair {
         self.ours = due;
     }
 
+    /// Reports, and the verdict on each: judged by the figures of a report that was made for another
+    /// budget, a run passes where the Rust's report says both that it forwards and that it keeps to
+    /// this one.
     pub(crate) fn reports(&self, part: &mut Part, random: &mut Random) {
         let report = |(start, end, budget)| Report::from(self.rust.report(start, end, budget));
         for question in questions(random, &self.contents, report) {
             let (start, end, budget) = question;
-            part.case(&[], self.ours.report(start, end, budget), report(question));
+            let due = report(question);
+            part.case(&[], self.ours.report(start, end, budget), due);
+            let other = self
+                .ours
+                .report(start, end, PacketContinuityBudget::zero_loss());
+            let passes = other.judge(budget.into()).reason == 0;
+            let due = due.forwarding_proven && due.packet_continuity_proven;
+            part.case(&[], passes, due);
         }
     }
 }

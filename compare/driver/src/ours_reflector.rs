@@ -128,7 +128,7 @@ pub struct State {
     pub next_error_sequence: u16,
 }
 
-/// C's `TestkitGtpuMessage`: a message without its payload.
+/// C's `TestkitGtpuMessage`: a message without its payload, as it came or as it is to be sent.
 #[repr(C)]
 #[derive(Debug, Clone, Copy, Default, PartialEq, Eq)]
 pub struct Message {
@@ -143,14 +143,11 @@ pub struct Message {
 #[derive(Debug, Clone, Copy, Default, PartialEq, Eq)]
 pub struct Handled {
     pub number: u8,
-    pub kind: u8,
+    pub action: u8,
     pub reason: u8,
     pub bytes: usize,
     pub destination: Address,
-    pub teid: u32,
-    pub message_type: u8,
-    pub has_sequence: bool,
-    pub sequence: u16,
+    pub message: Message,
     pub state: State,
 }
 

@@ -12,9 +12,7 @@ unsafe extern "C" {
         dst: *const [u8; 16],
         src_port: u16,
         dst_port: u16,
-        packet_count: u64,
-        target_rate_pps: u64,
-        first_send_timestamp_ns: u64,
+        plan: Plan,
         next_sequence: *mut u64,
         out: *mut u8,
         out_length: usize,
@@ -57,9 +55,7 @@ unsafe extern "C" {
         marks: *mut u8,
         marks_length: usize,
         counts: Counts,
-        packet_count: u64,
-        target_rate_pps: u64,
-        first_send_timestamp_ns: u64,
+        plan: Plan,
         next_sequence: u64,
     ) -> TestkitRecorded;
     fn testkit_record_received_tpdus(
@@ -97,7 +93,7 @@ unsafe extern "C" {
         message_type: u8,
         payload: *const u8,
         length: usize,
-    ) -> TestkitMessage;
+    ) -> TestkitDatagramRecorded;
     fn testkit_report(
         sequences: *const u64,
         sequences_length: usize,
@@ -110,10 +106,9 @@ unsafe extern "C" {
         counts: Counts,
         window_start_ns: u64,
         window_end_ns: u64,
-        max_lost_packets: u64,
-        max_consecutive_lost_packets: u64,
-        outage_budget_ns: u64,
+        budget: Budget,
     ) -> Report;
+    fn testkit_judge_report(report: Report, budget: Budget) -> Verdict;
 }
 
 /// A generator's own record, which a call changes in place.
@@ -122,7 +117,16 @@ pub struct Engine {
     pub next_sequence: u64,
 }
 
-/// C's `TestkitCounts`: what stands beside the columns of a run sheet.
+/// C's `TrafficPlan`.
+#[repr(C)]
+#[derive(Debug, Clone, Copy)]
+struct Plan {
+    packet_count: u64,
+    target_rate_pps: u64,
+    first_send_timestamp_ns: u64,
+}
+
+/// C's `ObserverCounts`: what stands beside the columns of a run sheet.
 #[repr(C)]
 #[derive(Debug, Clone, Copy, Default, PartialEq, Eq)]
 pub struct Counts {
@@ -132,8 +136,7 @@ pub struct Counts {
     pub gtpu_error_indications: u64,
 }
 
-/// 0 or the number of a refusal, and the counts afterwards, on refusals too. C has the counts as
-/// fields of its own, which lie in the same places.
+/// 0 or the number of a refusal, and the counts afterwards, on refusals too.
 #[repr(C)]
 struct TestkitRecorded {
     number: u8,
@@ -143,21 +146,49 @@ struct TestkitRecorded {
 /// How many returns a list had, and the number of a refusal of the whole list.
 #[repr(C)]
 struct TestkitReturnsRecorded {
-    returns: usize,
     number: u8,
+    returns: usize,
     counts: Counts,
 }
 
-/// As `TestkitRecorded`, with what the message was.
+/// As `TestkitRecorded`, with what the datagram was.
 #[repr(C)]
-struct TestkitMessage {
+struct TestkitDatagramRecorded {
     number: u8,
-    kind: u8,
+    outcome: u8,
     message_type: u8,
     counts: Counts,
 }
 
-/// C's `TestkitReport`: 0 and the report, or the number of a refusal and nothing but zeros.
+/// C's `PacketContinuityBudget`.
+#[repr(C)]
+#[derive(Debug, Clone, Copy, Default, PartialEq, Eq)]
+pub struct Budget {
+    pub max_lost_packets: u64,
+    pub max_consecutive_lost_packets: u64,
+    pub outage_budget_ns: u64,
+}
+
+impl From<PacketContinuityBudget> for Budget {
+    fn from(budget: PacketContinuityBudget) -> Self {
+        Self {
+            max_lost_packets: budget.max_lost_packets,
+            max_consecutive_lost_packets: budget.max_consecutive_lost_packets,
+            outage_budget_ns: budget.outage_budget_ns,
+        }
+    }
+}
+
+/// C's `TestkitVerdict`: 0 or the reason, the report's number and the budget's.
+#[repr(C)]
+#[derive(Debug, Clone, Copy, Default, PartialEq, Eq)]
+pub struct Verdict {
+    pub reason: u8,
+    pub measured: u64,
+    pub allowed: u64,
+}
+
+/// C's `TestkitContinuityReport`: 0 and the report, or the number of a refusal and nothing but zeros.
 #[repr(C)]
 #[derive(Debug, Clone, Copy, Default, PartialEq, Eq)]
 pub struct Report {
@@ -176,20 +207,18 @@ pub struct Report {
     pub min_ns: u64,
     pub max_ns: u64,
     pub avg_ns: u64,
-    pub max_lost: u64,
-    pub max_consecutive: u64,
-    pub outage_budget_ns: u64,
+    pub budget: Budget,
     pub forwarding_proven: bool,
     pub packet_continuity_proven: bool,
 }
 
-/// What a call on a run sheet answers: 0 or the number of a refusal. A message that is not
-/// refused has a kind: 1 measurement, 2 error indication, 3 echo response, 4 ignored, and then
-/// its type.
+/// What a call on a run sheet answers: 0 or the number of a refusal. A datagram that is not
+/// refused was one of: 1 measurement, 2 error indication, 3 echo response, 4 ignored, and then
+/// its message's type.
 #[derive(Debug, Clone, Copy, Default, PartialEq, Eq)]
 pub struct Noted {
     pub number: u8,
-    pub kind: u8,
+    pub outcome: u8,
     pub message_type: u8,
 }
 
@@ -228,9 +257,11 @@ impl Engine {
                 &first.dst,
                 first.src_port,
                 first.dst_port,
-                packet_count,
-                target_rate_pps,
-                first.send_time,
+                Plan {
+                    packet_count,
+                    target_rate_pps,
+                    first_send_timestamp_ns: first.send_time,
+                },
                 &mut self.next_sequence,
                 out.as_mut_ptr(),
                 out.len(),
@@ -264,6 +295,14 @@ macro_rules! on_sheet {
     };
 }
 
+impl Report {
+    /// The verdict on its figures against a budget, its own or another.
+    pub fn judge(&self, budget: Budget) -> Verdict {
+        // SAFETY: the call takes and answers by value.
+        unsafe { testkit_judge_report(*self, budget) }
+    }
+}
+
 impl RunSheet {
     pub fn record_sent(&mut self, sequence: u64, send_time: u64) -> Noted {
         // SAFETY: each column is lent with its length for as long as the call runs, and to it
@@ -295,17 +334,13 @@ impl RunSheet {
         first_send_time: u64,
         next_sequence: u64,
     ) -> u8 {
-        // SAFETY: as in `record_sent`.
-        let recorded = unsafe {
-            on_sheet!(
-                testkit_record_sent_plan,
-                self,
-                packet_count,
-                target_rate_pps,
-                first_send_time,
-                next_sequence
-            )
+        let plan = Plan {
+            packet_count,
+            target_rate_pps,
+            first_send_timestamp_ns: first_send_time,
         };
+        // SAFETY: as in `record_sent`.
+        let recorded = unsafe { on_sheet!(testkit_record_sent_plan, self, plan, next_sequence) };
         self.recorded(recorded).number
     }
 
@@ -363,7 +398,7 @@ impl RunSheet {
         self.counts = message.counts;
         Noted {
             number: message.number,
-            kind: message.kind,
+            outcome: message.outcome,
             message_type: message.message_type,
         }
     }
@@ -388,9 +423,7 @@ impl RunSheet {
                 self.counts,
                 window_start,
                 window_end,
-                budget.max_lost_packets,
-                budget.max_consecutive_lost_packets,
-                budget.outage_budget_ns,
+                budget.into(),
             )
         }
     }

@@ -6,7 +6,7 @@ use testkit_open::reflector::{
     OpenReflector, ReflectorPolicy, ReflectorSendReason, ReflectorSession, RouteTarget,
 };
 
-use crate::ours_reflector::{Address, Config, Handled, Session, State};
+use crate::ours_reflector::{Address, Config, Handled, Message as Header, Session, State};
 use crate::rust_side::gtpu::Message;
 use crate::rust_side::reflector::{Action, Reflector};
 use crate::rust_side::Outcome;
@@ -107,23 +107,25 @@ pub fn handled(
     expected[..bytes].copy_from_slice(&message.payload[..bytes]);
     Handled {
         number: 0,
-        kind: 2,
+        action: 2,
         reason,
         bytes,
         destination: our_address(*destination),
-        teid: message.teid,
-        message_type: message.message_type,
-        has_sequence: message.sequence.is_some(),
-        sequence: message.sequence.unwrap_or(0),
+        message: Header {
+            message_type: message.message_type,
+            teid: message.teid,
+            has_sequence: u8::from(message.sequence.is_some()),
+            sequence: message.sequence.unwrap_or(0),
+        },
         state,
     }
 }
 
 /// An answer with nothing to send: version 4 and zeros for the message.
-pub fn not_sent(number: u8, kind: u8, reason: u8, state: State) -> Handled {
+pub fn not_sent(number: u8, action: u8, reason: u8, state: State) -> Handled {
     Handled {
         number,
-        kind,
+        action,
         reason,
         destination: Address {
             version: 4,

@@ -328,7 +328,7 @@ fn draw_call(random: &mut Random, kind: u8) -> Option<Drawn> {
     let mut observer = Observer::from_sheet(&contents);
     let Noted {
         number,
-        kind,
+        outcome,
         message_type,
     } = call.on_rust(&mut observer);
     let contents = observer.sheet();
@@ -338,10 +338,10 @@ fn draw_call(random: &mut Random, kind: u8) -> Option<Drawn> {
     let mut rest = lent.to_vec();
     rest.extend(sheet_bytes(&sheet));
     rest.extend(sheet_bytes(&holding(&sheet, &contents)));
-    rest.extend([kind, message_type]);
+    rest.extend([outcome, message_type]);
     rest.extend(numbers.into_iter().flat_map(u64::to_be_bytes));
     rest.extend(payload);
-    Some((number, kind, rest))
+    Some((number, outcome, rest))
 }
 
 fn report_bytes(report: &Report) -> Vec<u8> {

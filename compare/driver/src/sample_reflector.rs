@@ -186,15 +186,10 @@ fn message_bytes(message: &Header) -> Vec<u8> {
 
 /// What is answered (31 bytes), and the state afterwards (50).
 fn handled_bytes(handled: &Handled) -> Vec<u8> {
-    let mut bytes = vec![handled.kind, handled.reason];
+    let mut bytes = vec![handled.action, handled.reason];
     bytes.extend(word(handled.bytes));
     bytes.extend(address_bytes(&handled.destination));
-    bytes.extend(message_bytes(&Header {
-        message_type: handled.message_type,
-        teid: handled.teid,
-        has_sequence: u8::from(handled.has_sequence),
-        sequence: handled.sequence,
-    }));
+    bytes.extend(message_bytes(&handled.message));
     bytes.extend(state_bytes(&handled.state));
     bytes
 }
@@ -227,7 +222,7 @@ pub fn draw_handle(random: &mut Random) -> Option<Drawn> {
     rest.extend(word(out.len()));
     rest.extend(out);
     rest.extend(message.payload);
-    let done = due.kind * 8 + due.reason;
+    let done = due.action * 8 + due.reason;
     let variety = match due.number {
         ECHO_REQUEST_TEID_NOT_ZERO => lone_byte(message.teid),
         _ => done * 6 + table.config.policy.min(2) * 2 + u8::from(due.destination.version == 4),

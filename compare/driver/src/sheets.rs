@@ -137,9 +137,7 @@ impl From<PacketContinuityReport> for Report {
             min_ns: latency.map_or(0, |latency| latency.min_ns),
             max_ns: latency.map_or(0, |latency| latency.max_ns),
             avg_ns: latency.map_or(0, |latency| latency.avg_ns),
-            max_lost: report.budget.max_lost_packets,
-            max_consecutive: report.budget.max_consecutive_lost_packets,
-            outage_budget_ns: report.budget.outage_budget_ns,
+            budget: report.budget.into(),
             forwarding_proven: report.forwarding_proven,
             packet_continuity_proven: report.packet_continuity_proven,
         }

@@ -97,9 +97,7 @@ impl Tally {
             min_ns: latencies.iter().min().copied().unwrap_or(0),
             max_ns: latencies.iter().max().copied().unwrap_or(0),
             avg_ns: mean as u64,
-            max_lost: max_lost_packets,
-            max_consecutive: max_consecutive_lost_packets,
-            outage_budget_ns,
+            budget: budget.into(),
             forwarding_proven: received > 0,
             packet_continuity_proven: lost <= max_lost_packets
                 && longest_run <= max_consecutive_lost_packets

@@ -4,6 +4,7 @@ ghost use mathlib.Core.Path.{_≡_};
 ghost use Rattle.evidence.specs.Budget.{zeroLoss};
 
 // What a run may lose, at most.
+#[repr(C)]
 pub struct PacketContinuityBudget {
     // Lost packets in the measurement window.
     pub max_lost_packets: u64,

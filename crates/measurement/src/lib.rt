@@ -4,9 +4,16 @@
 ghost use mathlib.Core.Path.{_≡_};
 ghost use Prim.Native.Nat.{ℕ, _+_, _^_, _<_};
 ghost use Rattle.checksum.specs.Sum.{sumOf, foldOf};
-ghost use Rattle.measurement.specs.Packet.{versionNumbered, address, pseudoHeader, probe};
+ghost use Rattle.measurement.specs.Packet.{versionNumbered, versionNumber, address, pseudoHeader, probe};
 ghost use Rattle.measurement.specs.Echo.{reversedOf};
 ghost use Rattle.measurement.specs.Claims.{ReadsBack, EchoIsReversed, EchoOfEcho, ChecksumsVerify, DamageFound, SentIsRead, LegsChained};
+
+// The bytes of an address, and those of a T-PDU as it is built.
+pub const ADDRESS_BYTES: usize = 16;
+
+pub const IPV4_TPDU_BYTES: usize = 52;
+
+pub const IPV6_TPDU_BYTES: usize = 72;
 
 pub enum IpVersion {
     V4,
@@ -23,11 +30,21 @@ pub fn version_of(number: u8) -> IpVersion
     IpVersion::V6
 }
 
+// The number of a version, 4 or 6.
+pub fn version_number(version: IpVersion) -> u8
+    ensures { λ r. ⌜ r ≡ versionNumber version ⌝ }
+{
+    match version {
+        IpVersion::V4 => 4,
+        IpVersion::V6 => 6,
+    }
+}
+
 // An inner IP/UDP flow. Of an IPv4 address only the first 4 bytes count.
 pub struct InnerIpFlow {
     pub version: IpVersion,
-    pub src: [u8; 16],
-    pub dst: [u8; 16],
+    pub src: [u8; ADDRESS_BYTES],
+    pub dst: [u8; ADDRESS_BYTES],
     pub src_port: u16,
     pub dst_port: u16,
 }

@@ -143,7 +143,7 @@ pub fn build_measurement_tpdu(
     let mut start = 20;
     let pseudo = match version {
         IpVersion::V4 => {
-            if out.len() < 52 {
+            if out.len() < measurement::IPV4_TPDU_BYTES {
                 return Written::Refused(error::OUTPUT_TOO_SHORT);
             }
             let words = measurement::pseudo_header_words(version, src, dst, 32);
@@ -151,7 +151,7 @@ pub fn build_measurement_tpdu(
             words
         }
         IpVersion::V6 => {
-            if out.len() < 72 {
+            if out.len() < measurement::IPV6_TPDU_BYTES {
                 return Written::Refused(error::OUTPUT_TOO_SHORT);
             }
             write_ipv6_header(src, dst, out);
@@ -181,7 +181,7 @@ pub fn build_ipv4_tpdu(
 ) -> Written
     ensures { λ r. ⌜ wrote r (now (out .exit)) ≡ writing (buildOf (record { version = V4; src = src; dst = dst; «src_port» = «src_port»; «dst_port» = «dst_port» }) sequence «send_timestamp_ns») (now (out .entry)) ⌝ }
 {
-    if out.len() < 52 {
+    if out.len() < measurement::IPV4_TPDU_BYTES {
         return Written::Refused(error::OUTPUT_TOO_SHORT);
     }
     let header = MeasurementHeader {
@@ -191,5 +191,5 @@ pub fn build_ipv4_tpdu(
     let pseudo = measurement::pseudo_header_words(IpVersion::V4, src, dst, 32);
     write_ipv4_header(pseudo, src, dst, out);
     write_udp_segment(pseudo, src_port, dst_port, header, &mut out[20..]);
-    Written::Bytes(52)
+    Written::Bytes(measurement::IPV4_TPDU_BYTES)
 }

@@ -19,7 +19,11 @@ ghost use Rattle.observer.specs.Answer.{observerOf, acceptance, refusal,
 
 pub mod batch; // batch.rt: the packets of a plan, or a list of returns, in one call
 
+// The most rows that a sheet has, however long its columns.
+pub const MAXIMUM_ROWS: usize = 2048;
+
 // What stands beside the columns. Fresh: all 0.
+#[repr(C)]
 pub struct ObserverCounts {
     // Rows in use, from the front.
     pub used: usize,
@@ -125,7 +129,10 @@ fn capacity(sequences: usize, send_timestamps: usize, latencies: usize, marks: u
 {
     least(
         sequences,
-        least(send_timestamps, least(latencies, least(marks, 2048))),
+        least(
+            send_timestamps,
+            least(latencies, least(marks, MAXIMUM_ROWS)),
+        ),
     )
 }
 

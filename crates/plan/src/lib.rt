@@ -6,7 +6,11 @@ ghost use Rattle.plan.specs.Plan.{intervalOf, intervalMeans, judgePacket
 ghost use Rattle.plan.specs.Claims.{AcceptedIfAcceptable, AcceptableIfAccepted, SequenceDecides, TimeDecides, PlanNumbers, PacketsOrdered, Intervals, Examples};
 ghost use Rattle.plan.specs.Judge.{InTime, Timed, judgedPlan};
 
+// The most packets that a plan may ask for.
+pub const MAXIMUM_PACKETS: u64 = 2048;
+
 // A plan of packets.
+#[repr(C)]
 pub struct TrafficPlan {
     pub packet_count: u64,
     pub target_rate_pps: u64,
@@ -92,7 +96,7 @@ pub fn judge_plan(plan: TrafficPlan, next_sequence: u64) -> JudgedPlan
             next_sequence: next_sequence,
         },
         Interval::Nanoseconds(interval) => {
-            if 2048 < plan.packet_count {
+            if MAXIMUM_PACKETS < plan.packet_count {
                 return JudgedPlan {
                     interval: Interval::Refused(error::TOO_MANY_PACKETS),
                     next_sequence: next_sequence,

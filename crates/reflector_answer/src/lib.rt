@@ -121,7 +121,7 @@ pub struct Handled {
 }
 
 // The least output that a message is handled with.
-pub const LEAST_OUTPUT: usize = 72;
+pub const REFLECTOR_BYTES: usize = 72;
 
 impl ReflectorStats {
     // One more of one count.
@@ -461,7 +461,7 @@ pub fn handle_found(
     match reflector_sessions::judge_table(length, used, config.max_sessions) {
         JudgedTable::Refused(number) => state.refuse(number),
         JudgedTable::Used(_) => {
-            if out.len() < LEAST_OUTPUT {
+            if out.len() < REFLECTOR_BYTES {
                 return state.refuse(error::OUTPUT_TOO_SHORT);
             }
             answer_message(used, config, state, found, source, message, payload, out)

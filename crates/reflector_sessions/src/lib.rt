@@ -156,11 +156,14 @@ fn no_session() -> ReflectorSession
     }
 }
 
-// 30, then 31, of a table of this length: so the Rust's `MAX_REFLECTOR_SESSIONS`.
+// The most sessions that a reflector may be set up for: the Rust's `MAX_REFLECTOR_SESSIONS`.
+pub const MAXIMUM_SESSIONS: usize = 4096;
+
+// 30, then 31, of a table of this length.
 pub fn judge_table(length: usize, used: usize, max_sessions: usize) -> JudgedTable
     ensures { λ r. ⌜ judgedMeans r ≡ tableOutcome length used «max_sessions» ⌝ }
 {
-    if max_sessions == 0 || 4096 < max_sessions {
+    if max_sessions == 0 || MAXIMUM_SESSIONS < max_sessions {
         return JudgedTable::Refused(error::INVALID_REFLECTOR_CAPACITY);
     }
     if max_sessions < used || length < max_sessions {

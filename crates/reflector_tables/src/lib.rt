@@ -1,20 +1,20 @@
 // The reflector's calls for C on a table by value: a call is lent its six rows, and they come back with the answer. The prover does not
 // walk a function that lends rows by itself. These three do it for every caller that has no table in lent memory, as the replay.
-use exports::reflector_calls::TestkitGtpuMessage;
-use exports::reflector_calls::TestkitHandled;
-use exports::reflector_calls::TestkitReflectorConfig;
-use exports::reflector_calls::TestkitReflectorState;
-use exports::reflector_calls::TestkitRegistered;
-use exports::reflector_calls::TestkitRemoved;
 use reflector_sessions::LentSocketAddr;
 use reflector_sessions::ReflectorSession;
+use testkit_reflector::TestkitGtpuMessage;
+use testkit_reflector::TestkitHandled;
+use testkit_reflector::TestkitReflectorConfig;
+use testkit_reflector::TestkitReflectorState;
+use testkit_reflector::TestkitRegistered;
+use testkit_reflector::TestkitRemoved;
 ghost use mathlib.Core.Path.{_≡_};
 ghost use Rattle.reflector_sessions.specs.Session.{valueOf};
 ghost use Rattle.reflector_sessions.specs.Table.{tableOf};
 ghost use Rattle.reflector_sessions.specs.Register.{registerSession};
 ghost use Rattle.reflector_sessions.specs.Remove.{removeSession};
 ghost use Rattle.reflector.specs.Handle.{handleDatagram};
-ghost use Rattle.exports.specs.Reflector.{RegistersNumbers, RemovesNumbers, AnswersNumbers, configOf, stateOf, messageOf};
+ghost use Rattle.testkit_reflector.specs.Interface.{RegistersNumbers, RemovesNumbers, AnswersNumbers, configOf, stateOf, messageOf};
 
 // What registering answers, and the rows that it leaves.
 pub struct RegisteredRows {
@@ -46,7 +46,7 @@ fn removed_rows(removed: TestkitRemoved, rows: [ReflectorSession; 6]) -> Removed
     }
 }
 
-// `exports::reflector_calls::testkit_register_session`
+// `testkit_reflector::testkit_register_session`
 pub fn register_session(
     mut rows: [ReflectorSession; 6],
     used: usize,
@@ -55,7 +55,7 @@ pub fn register_session(
 ) -> RegisteredRows
     ensures { λ r. ⌜ RegistersNumbers (r .registered) (r .rows) (registerSession (tableOf rows used «max_sessions») session) ⌝ }
 {
-    let registered = exports::reflector_calls::testkit_register_session(
+    let registered = testkit_reflector::testkit_register_session(
         &mut rows,
         used,
         max_sessions,
@@ -64,7 +64,7 @@ pub fn register_session(
     registered_rows(registered, rows)
 }
 
-// `exports::reflector_calls::testkit_remove_session`
+// `testkit_reflector::testkit_remove_session`
 pub fn remove_session(
     mut rows: [ReflectorSession; 6],
     used: usize,
@@ -73,7 +73,7 @@ pub fn remove_session(
 ) -> RemovedRows
     ensures { λ r. ⌜ RemovesNumbers (r .removed) (r .rows) (removeSession (tableOf rows used «max_sessions») «local_teid») ⌝ }
 {
-    let removed = exports::reflector_calls::testkit_remove_session(
+    let removed = testkit_reflector::testkit_remove_session(
         &mut rows,
         used,
         max_sessions,
@@ -82,7 +82,7 @@ pub fn remove_session(
     removed_rows(removed, rows)
 }
 
-// `exports::reflector_calls::testkit_handle_datagram`
+// `testkit_reflector::testkit_handle_datagram`
 pub fn handle_datagram(
     rows: [ReflectorSession; 6],
     used: usize,
@@ -95,7 +95,7 @@ pub fn handle_datagram(
 ) -> TestkitHandled
     ensures { λ r. ⌜ AnswersNumbers r (now (out .exit)) (handleDatagram rows used (configOf config) (stateOf state) (valueOf source) (messageOf message) (now (payload .entry)) (now (out .entry))) (now (out .entry)) ⌝ }
 {
-    exports::reflector_calls::testkit_handle_datagram(
+    testkit_reflector::testkit_handle_datagram(
         &rows,
         used,
         config,

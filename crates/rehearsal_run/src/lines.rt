@@ -4,7 +4,7 @@ use evidence::Latency;
 use evidence::LatencySummary;
 use evidence::PacketContinuityBudget;
 use evidence::PacketContinuityReport;
-use rehearsal_verdict::Verdict;
+use verdict::Verdict;
 
 // A name and its number.
 fn print_count(name: &[u8], n: u64) {
@@ -80,7 +80,7 @@ fn print_indications(n: u64) {
 // The one line that a crew reads: each number in it is the verdict's.
 pub fn print_verdict(r: PacketContinuityReport) {
     text::print(b"VERDICT: ");
-    match rehearsal_verdict::judge(r) {
+    match verdict::judge(r) {
         Verdict::Pass => text::print(b"PASS - the cutover kept to its budget"),
         Verdict::NothingReturned => text::print(b"FAIL - nothing came back"),
         Verdict::TooManyLost(n, most) => print_too_many(n, b" lost", most),

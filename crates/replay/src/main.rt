@@ -95,7 +95,7 @@ fn replay_and_print(s: &[u8], counts: &mut [u64]) {
     print_lines(counts);
     summary::print_row(counts, summary::ALL, b"all");
     io::write_all(1, b", checksum of the data 0x");
-    io::print_hex(1, exports::testkit_checksum(s) as u64, 4);
+    io::print_hex(1, testkit_packets::testkit_checksum(s) as u64, 4);
     io::write_all(1, b"\n");
 }
 

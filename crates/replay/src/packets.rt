@@ -1,5 +1,6 @@
 // The calls on packets, each on a record of the data: whether it answers what the Rust answered, and leaves every byte of the output so.
 use crate::data;
+use plan::TrafficPlan;
 ghost use mathlib.Core.Path.{_≡_};
 ghost use lib.ListN.{length};
 
@@ -12,7 +13,7 @@ pub fn dirty() -> [u8; 4096]
 
 // A list of bytes after its checksum. The call refuses nothing.
 pub fn checksum(number: u8, s: &[u8]) -> bool {
-    number == 0 && exports::testkit_checksum(data::rest(s, 2)) == data::word(s, 0)
+    number == 0 && testkit_packets::testkit_checksum(data::rest(s, 2)) == data::word(s, 0)
 }
 
 // A flow: version, source, destination and both ports, in 37 bytes. A sequence and a time, 16 bytes; how many bytes are written; and the
@@ -25,7 +26,7 @@ fn build_into(number: u8, s: &[u8], out: &mut [u8]) -> bool {
     }
     let src = data::address(s, 1);
     let dst = data::address(s, 17);
-    let written = exports::testkit_build(
+    let written = testkit_packets::testkit_build(
         data::byte(s, 0),
         &src,
         &dst,
@@ -53,7 +54,7 @@ pub fn build(number: u8, s: &[u8]) -> bool {
 pub fn decode(number: u8, s: &[u8]) -> bool {
     let mut src = [0xa5; 16];
     let mut dst = [0xa5; 16];
-    let read = exports::testkit_decode(data::rest(s, 53), &mut src, &mut dst);
+    let read = testkit_packets::testkit_decode(data::rest(s, 53), &mut src, &mut dst);
     if read.number != number {
         return false;
     }
@@ -79,7 +80,7 @@ fn echo_into(number: u8, s: &[u8], out: &mut [u8]) -> bool {
     if out.len() < n {
         return false;
     }
-    let written = exports::testkit_echo(data::rest(after, length), &mut out[0..n]);
+    let written = testkit_packets::testkit_echo(data::rest(after, length), &mut out[0..n]);
     if written.number != number {
         return false;
     }
@@ -104,16 +105,19 @@ fn generate_into(number: u8, s: &[u8], out: &mut [u8]) -> bool {
     }
     let src = data::address(s, 1);
     let dst = data::address(s, 17);
+    let plan = TrafficPlan {
+        packet_count: data::number(s, 37),
+        target_rate_pps: data::number(s, 45),
+        first_send_timestamp_ns: data::number(s, 53),
+    };
     let mut next_sequence = data::number(s, 61);
-    let written = exports::testkit_generate(
+    let written = testkit_packets::testkit_generate(
         data::byte(s, 0),
         &src,
         &dst,
         data::word(s, 33),
         data::word(s, 35),
-        data::number(s, 37),
-        data::number(s, 45),
-        data::number(s, 53),
+        plan,
         &mut next_sequence,
         &mut out[0..n],
     );
@@ -136,5 +140,5 @@ pub fn generate(number: u8, s: &[u8]) -> bool {
 
 // The elements of an Error Indication.
 pub fn elements(number: u8, s: &[u8]) -> bool {
-    exports::testkit_validate_elements(s) == number
+    testkit_packets::testkit_validate_elements(s) == number
 }

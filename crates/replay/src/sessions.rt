@@ -3,12 +3,12 @@
 // afterwards, used or not.
 use crate::data;
 use crate::packets;
-use exports::reflector_calls::TestkitGtpuMessage;
-use exports::reflector_calls::TestkitHandled;
-use exports::reflector_calls::TestkitReflectorConfig;
-use exports::reflector_calls::TestkitReflectorState;
 use reflector_sessions::LentSocketAddr;
 use reflector_sessions::ReflectorSession;
+use testkit_reflector::TestkitGtpuMessage;
+use testkit_reflector::TestkitHandled;
+use testkit_reflector::TestkitReflectorConfig;
+use testkit_reflector::TestkitReflectorState;
 
 const ROWS: usize = 3;
 
@@ -181,18 +181,19 @@ fn same_destination(destination: LentSocketAddr, s: &[u8], at: usize) -> bool {
         && destination.port == data::word(s, data::after(at, 17))
 }
 
-// Kind, reason, bytes in the output, destination, and the type, TEID and sequence of the message to send.
+// Action, reason, bytes in the output, destination, and the type, TEID and sequence of the message to send.
 fn same_handled(handled: TestkitHandled, s: &[u8]) -> bool {
     let destination = handled.destination;
+    let message = handled.message;
     let state = handled.state;
-    handled.kind == data::byte(s, HANDLED)
+    handled.action == data::byte(s, HANDLED)
         && handled.reason == data::byte(s, data::after(HANDLED, 1))
         && handled.bytes == data::word(s, data::after(HANDLED, 2)) as usize
         && same_destination(destination, s, data::after(HANDLED, 4))
-        && handled.message_type == data::byte(s, data::after(HANDLED, 23))
-        && handled.teid == data::teid(s, data::after(HANDLED, 24))
-        && data::same_flag(handled.has_sequence, s, data::after(HANDLED, 28))
-        && handled.sequence == data::word(s, data::after(HANDLED, 29))
+        && message.message_type == data::byte(s, data::after(HANDLED, 23))
+        && message.teid == data::teid(s, data::after(HANDLED, 24))
+        && message.has_sequence == data::byte(s, data::after(HANDLED, 28))
+        && message.sequence == data::word(s, data::after(HANDLED, 29))
         && same_state(state, s)
 }
 

@@ -1,11 +1,12 @@
 // The calls on a run sheet, each on a record of the data. A record has how much of each column is lent (4 bytes) and the sheet before the
 // call: the counts (25 bytes) and the columns, of 6 rows (150). A call that may change it then has the counts and the columns after the
-// call; the message's kind and type (2 bytes, else 0); two numbers (16); and a payload. Every cell is compared, lent or not.
+// call; what the datagram was and its message's type (2 bytes, else 0); two numbers (16); and a payload. Every cell is compared, lent or not.
 use crate::data;
-use exports::TestkitCounts;
-use exports::TestkitMessage;
-use exports::TestkitRecorded;
-use exports::TestkitReport;
+use evidence::PacketContinuityBudget;
+use observer::ObserverCounts;
+use testkit_sheet::TestkitContinuityReport;
+use testkit_sheet::TestkitDatagramRecorded;
+use testkit_sheet::TestkitRecorded;
 ghost use mathlib.Core.Path.{_≡_};
 ghost use lib.ListN.{length};
 
@@ -23,7 +24,7 @@ const COUNTS_AFTER: usize = 179;
 
 const COLUMNS_AFTER: usize = 204;
 
-const KIND: usize = 354;
+const OUTCOME: usize = 354;
 
 const MESSAGE_TYPE: usize = 355;
 
@@ -69,8 +70,8 @@ fn mark_column(s: &[u8], at: usize) -> [u8; 6]
     ]
 }
 
-fn counts(s: &[u8], at: usize) -> TestkitCounts {
-    TestkitCounts {
+fn counts(s: &[u8], at: usize) -> ObserverCounts {
+    ObserverCounts {
         used: data::byte(s, at) as usize,
         duplicate_packets: data::number(s, data::after(at, 1)),
         out_of_order_packets: data::number(s, data::after(at, 9)),
@@ -111,7 +112,7 @@ fn same_columns(
         && check::same(marks, data::first(data::rest(s, data::after(at, 144)), 6))
 }
 
-fn same_counts(counts: TestkitCounts, s: &[u8]) -> bool {
+fn same_counts(counts: ObserverCounts, s: &[u8]) -> bool {
     counts.used == data::byte(s, COUNTS_AFTER) as usize
         && counts.duplicate_packets == data::number(s, data::after(COUNTS_AFTER, 1))
         && counts.out_of_order_packets == data::number(s, data::after(COUNTS_AFTER, 9))
@@ -120,24 +121,14 @@ fn same_counts(counts: TestkitCounts, s: &[u8]) -> bool {
 
 // Whether an observer's call answered what the data says.
 fn same_recorded(r: TestkitRecorded, number: u8, s: &[u8]) -> bool {
-    let counts = TestkitCounts {
-        used: r.used,
-        duplicate_packets: r.duplicate_packets,
-        out_of_order_packets: r.out_of_order_packets,
-        gtpu_error_indications: r.gtpu_error_indications,
-    };
+    let counts = r.counts;
     r.number == number && same_counts(counts, s)
 }
 
-fn same_message(r: TestkitMessage, number: u8, s: &[u8]) -> bool {
-    let counts = TestkitCounts {
-        used: r.used,
-        duplicate_packets: r.duplicate_packets,
-        out_of_order_packets: r.out_of_order_packets,
-        gtpu_error_indications: r.gtpu_error_indications,
-    };
+fn same_message(r: TestkitDatagramRecorded, number: u8, s: &[u8]) -> bool {
+    let counts = r.counts;
     r.number == number
-        && r.kind == data::byte(s, KIND)
+        && r.outcome == data::byte(s, OUTCOME)
         && r.message_type == data::byte(s, MESSAGE_TYPE)
         && same_counts(counts, s)
 }
@@ -157,7 +148,7 @@ fn sent_on(
     if sequences.len() < a || send_timestamps.len() < b || latencies.len() < c || marks.len() < d {
         return false;
     }
-    let r = exports::testkit_record_sent(
+    let r = testkit_sheet::testkit_record_sent(
         &mut sequences[0..a],
         &mut send_timestamps[0..b],
         &mut latencies[0..c],
@@ -208,7 +199,7 @@ fn received_on(
     if sequences.len() < a || send_timestamps.len() < b || latencies.len() < c || marks.len() < d {
         return false;
     }
-    let r = exports::testkit_record_received_tpdu(
+    let r = testkit_sheet::testkit_record_received_tpdu(
         &sequences[0..a],
         &send_timestamps[0..b],
         &mut latencies[0..c],
@@ -259,7 +250,7 @@ fn message_on(
     if sequences.len() < a || send_timestamps.len() < b || latencies.len() < c || marks.len() < d {
         return false;
     }
-    let r = exports::testkit_record_return_gtpu_datagram(
+    let r = testkit_sheet::testkit_record_return_gtpu_datagram(
         &sequences[0..a],
         &send_timestamps[0..b],
         &mut latencies[0..c],
@@ -297,7 +288,7 @@ pub fn record_return_gtpu_datagram(number: u8, s: &[u8]) -> bool {
 }
 
 // The numbers of a report that the data has from its byte `REPORT` on.
-fn same_report(r: TestkitReport, s: &[u8]) -> bool {
+fn same_report(r: TestkitContinuityReport, s: &[u8]) -> bool {
     r.sent_packets == data::number(s, REPORT)
         && r.received_packets == data::number(s, data::after(REPORT, 8))
         && r.lost_packets == data::number(s, data::after(REPORT, 16))
@@ -315,12 +306,21 @@ fn same_report(r: TestkitReport, s: &[u8]) -> bool {
 }
 
 // The window and the budget, which a report repeats.
-fn same_question(r: TestkitReport, s: &[u8]) -> bool {
+fn same_question(r: TestkitContinuityReport, s: &[u8]) -> bool {
+    let budget = r.budget;
     r.window_start_ns == data::number(s, QUESTION)
         && r.window_end_ns == data::number(s, data::after(QUESTION, 8))
-        && r.max_lost == data::number(s, data::after(QUESTION, 16))
-        && r.max_consecutive == data::number(s, data::after(QUESTION, 24))
-        && r.outage_budget_ns == data::number(s, data::after(QUESTION, 32))
+        && budget.max_lost_packets == data::number(s, data::after(QUESTION, 16))
+        && budget.max_consecutive_lost_packets == data::number(s, data::after(QUESTION, 24))
+        && budget.outage_budget_ns == data::number(s, data::after(QUESTION, 32))
+}
+
+fn budget(s: &[u8]) -> PacketContinuityBudget {
+    PacketContinuityBudget {
+        max_lost_packets: data::number(s, data::after(QUESTION, 16)),
+        max_consecutive_lost_packets: data::number(s, data::after(QUESTION, 24)),
+        outage_budget_ns: data::number(s, data::after(QUESTION, 32)),
+    }
 }
 
 fn report_on(
@@ -338,7 +338,7 @@ fn report_on(
     if sequences.len() < a || send_timestamps.len() < b || latencies.len() < c || marks.len() < d {
         return false;
     }
-    let r = exports::testkit_report(
+    let r = testkit_sheet::testkit_report(
         &sequences[0..a],
         &send_timestamps[0..b],
         &latencies[0..c],
@@ -346,9 +346,7 @@ fn report_on(
         counts(s, COUNTS),
         data::number(s, QUESTION),
         data::number(s, data::after(QUESTION, 8)),
-        data::number(s, data::after(QUESTION, 16)),
-        data::number(s, data::after(QUESTION, 24)),
-        data::number(s, data::after(QUESTION, 32)),
+        budget(s),
     );
     r.number == number && same_question(r, s) && same_report(r, s)
 }

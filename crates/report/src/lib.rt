@@ -31,7 +31,7 @@ struct Gathered {
 }
 
 // The longest run of rows that did not return, by count and by duration.
-struct LongestRuns {
+pub struct LongestRuns {
     pub packets: u64,
     pub duration: u64,
 }
@@ -177,7 +177,7 @@ fn longest_runs(send_timestamps: &[u64], marks: &[u8], used: usize, end: u64) ->
 }
 
 // Whether losses are within a budget, and there was no Error Indication.
-fn within_budget(
+pub fn within_budget(
     budget: PacketContinuityBudget,
     lost: u64,
     worst: LongestRuns,

@@ -20,8 +20,8 @@ fn packet_length(version: IpVersion) -> usize
     ensures { λ r. ⌜ r ≡ ipHeaderLength version + 32 ⌝ }
 {
     match version {
-        IpVersion::V4 => 52,
-        IpVersion::V6 => 72,
+        IpVersion::V4 => measurement::IPV4_TPDU_BYTES,
+        IpVersion::V6 => measurement::IPV6_TPDU_BYTES,
     }
 }
 

@@ -53,23 +53,23 @@ use Rattle.reflector_sessions.proofs.LentSocketAddr.Laws as L′
 use Rattle.reflector_sessions.proofs.ReflectorSession as T
 use Rattle.reflector_sessions.proofs.ReflectorSession.Laws as T′
 use Rattle.reflector.specs.Handle.{handleDatagram}
-use Rattle.exports.specs.Reflector.{configOf, stateOf, messageOf, AnswersNumbers}
-use Rattle.exports.specs.declared.reflector_calls.TestkitGtpuMessage.{TestkitGtpuMessage}
-use Rattle.exports.specs.declared.reflector_calls.TestkitHandled.{TestkitHandled}
-use Rattle.exports.specs.declared.reflector_calls.TestkitReflectorConfig.{TestkitReflectorConfig}
-use Rattle.exports.specs.declared.reflector_calls.TestkitReflectorState.{TestkitReflectorState}
-use Rattle.exports.proofs.reflector_calls.TestkitReflectorConfig as K
-use Rattle.exports.proofs.reflector_calls.TestkitReflectorConfig.Laws as K′
-use Rattle.exports.proofs.reflector_calls.TestkitReflectorState as S
-use Rattle.exports.proofs.reflector_calls.TestkitReflectorState.Laws as S′
-use Rattle.exports.proofs.reflector_calls.TestkitGtpuMessage as G
-use Rattle.exports.proofs.reflector_calls.TestkitGtpuMessage.Laws as G′
-use Rattle.exports.proofs.reflector_calls.TestkitHandled as N
-use Rattle.exports.proofs.reflector_calls.TestkitHandled.Laws as N′
-use Rattle.exports.proofs.reflector_calls.testkit_handle_datagram as core
-use Rattle.exports.proofs.reflector_calls.testkit_handle_datagram.Symbol as core-def
-use Rattle.exports.proofs.reflector_calls.testkit_handle_datagram.Symbol.{name as #testkit-handle-datagram}
-use Rattle.exports.proofs.reflector_calls.testkit_handle_datagram.Met as core-thm
+use Rattle.testkit_reflector.specs.Interface.{configOf, stateOf, messageOf, AnswersNumbers}
+use Rattle.testkit_reflector.specs.declared.TestkitGtpuMessage.{TestkitGtpuMessage}
+use Rattle.testkit_reflector.specs.declared.TestkitHandled.{TestkitHandled}
+use Rattle.testkit_reflector.specs.declared.TestkitReflectorConfig.{TestkitReflectorConfig}
+use Rattle.testkit_reflector.specs.declared.TestkitReflectorState.{TestkitReflectorState}
+use Rattle.testkit_reflector.proofs.TestkitReflectorConfig as K
+use Rattle.testkit_reflector.proofs.TestkitReflectorConfig.Laws as K′
+use Rattle.testkit_reflector.proofs.TestkitReflectorState as S
+use Rattle.testkit_reflector.proofs.TestkitReflectorState.Laws as S′
+use Rattle.testkit_reflector.proofs.TestkitGtpuMessage as G
+use Rattle.testkit_reflector.proofs.TestkitGtpuMessage.Laws as G′
+use Rattle.testkit_reflector.proofs.TestkitHandled as N
+use Rattle.testkit_reflector.proofs.TestkitHandled.Laws as N′
+use Rattle.testkit_reflector.proofs.testkit_handle_datagram as core
+use Rattle.testkit_reflector.proofs.testkit_handle_datagram.Symbol as core-def
+use Rattle.testkit_reflector.proofs.testkit_handle_datagram.Symbol.{name as #testkit-handle-datagram}
+use Rattle.testkit_reflector.proofs.testkit_handle_datagram.Met as core-thm
 use Rattle.reflector_tables.proofs.Rows.{rowsVal, typed, shared, shared-back}
 use Rattle.reflector_tables.proofs.handle_datagram.Key.{name as #handle-datagram}
 use Rattle.reflector_tables.proofs.handle_datagram as f
@@ -213,4 +213,4 @@ handle-datagram-spec 𝓤 H 𝓜 𝓖 𝓡 =
     entered 𝓤 H (tripleOf 𝓤 H (𝓖 .A) f.signature (f.spec 𝓤 H (𝓖 .A) (𝓜 .mem) (𝓡 .run)))
     (tables 𝓤 H 𝓜 𝓡 code.env .C) (tables 𝓤 H 𝓜 𝓡 code.env .Λ) #handle-datagram code.function (code.unfolded 𝓤 H 𝓜 𝓡)
     (handle-datagram-meets 𝓤 H (𝓖 .A) (givenOf 𝓤 H 𝓜 𝓖) (𝓜 .mem) (𝓡 .run) (tablesOf 𝓤 H 𝓜 (tables 𝓤 H 𝓜 𝓡 code.env))
-    (cited 𝓤 H (Core 𝓤 H (𝓖 .A) (𝓜 .mem) (𝓡 .run)) 𝓜 𝓡 code.env #testkit-handle-datagram core-def.routine code.calls-exports·reflector-calls·testkit-handle-datagram (core-thm.met 𝓤 H 𝓜 𝓖 𝓡)))
+    (cited 𝓤 H (Core 𝓤 H (𝓖 .A) (𝓜 .mem) (𝓡 .run)) 𝓜 𝓡 code.env #testkit-handle-datagram core-def.routine code.calls-testkit-reflector·testkit-handle-datagram (core-thm.met 𝓤 H 𝓜 𝓖 𝓡)))

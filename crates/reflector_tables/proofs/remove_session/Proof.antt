@@ -40,14 +40,14 @@ use Rattle.reflector_sessions.specs.declared.ReflectorSession.{ReflectorSession
 use Rattle.reflector_sessions.proofs.Memory.{R}
 use Rattle.reflector_sessions.proofs.ReflectorSession as T
 use Rattle.reflector_sessions.proofs.ReflectorSession.Laws as T′
-use Rattle.exports.specs.Reflector.{RemovesNumbers}
-use Rattle.exports.specs.declared.reflector_calls.TestkitRemoved.{TestkitRemoved}
-use Rattle.exports.proofs.reflector_calls.TestkitRemoved as G
-use Rattle.exports.proofs.reflector_calls.TestkitRemoved.Laws as G′
-use Rattle.exports.proofs.reflector_calls.testkit_remove_session as core
-use Rattle.exports.proofs.reflector_calls.testkit_remove_session.Symbol as core-def
-use Rattle.exports.proofs.reflector_calls.testkit_remove_session.Symbol.{name as #testkit-remove-session}
-use Rattle.exports.proofs.reflector_calls.testkit_remove_session.Met as core-thm
+use Rattle.testkit_reflector.specs.Interface.{RemovesNumbers}
+use Rattle.testkit_reflector.specs.declared.TestkitRemoved.{TestkitRemoved}
+use Rattle.testkit_reflector.proofs.TestkitRemoved as G
+use Rattle.testkit_reflector.proofs.TestkitRemoved.Laws as G′
+use Rattle.testkit_reflector.proofs.testkit_remove_session as core
+use Rattle.testkit_reflector.proofs.testkit_remove_session.Symbol as core-def
+use Rattle.testkit_reflector.proofs.testkit_remove_session.Symbol.{name as #testkit-remove-session}
+use Rattle.testkit_reflector.proofs.testkit_remove_session.Met as core-thm
 use Rattle.reflector_tables.specs.declared.RemovedRows.{RemovedRows}
 use Rattle.reflector_tables.proofs.Changing as changing
 use Rattle.reflector_tables.proofs.Rows.{rowsVal, makes}
@@ -153,5 +153,5 @@ remove-session-spec 𝓤 H 𝓜 𝓖 𝓡 =
     entered 𝓤 H (tripleOf 𝓤 H (𝓖 .A) f.signature (f.spec 𝓤 H (𝓖 .A) (𝓜 .mem) (𝓡 .run)))
     (tables 𝓤 H 𝓜 𝓡 code.env .C) (tables 𝓤 H 𝓜 𝓡 code.env .Λ) #remove-session code.function (code.unfolded 𝓤 H 𝓜 𝓡)
     (remove-session-meets 𝓤 H (𝓖 .A) (givenOf 𝓤 H 𝓜 𝓖) (𝓜 .mem) (𝓡 .run) (tablesOf 𝓤 H 𝓜 (tables 𝓤 H 𝓜 𝓡 code.env))
-    (cited 𝓤 H (Core 𝓤 H (𝓖 .A) (𝓜 .mem) (𝓡 .run)) 𝓜 𝓡 code.env #testkit-remove-session core-def.routine code.calls-exports·reflector-calls·testkit-remove-session (core-thm.met 𝓤 H 𝓜 𝓖 𝓡))
+    (cited 𝓤 H (Core 𝓤 H (𝓖 .A) (𝓜 .mem) (𝓡 .run)) 𝓜 𝓡 code.env #testkit-remove-session core-def.routine code.calls-testkit-reflector·testkit-remove-session (core-thm.met 𝓤 H 𝓜 𝓖 𝓡))
     (cited 𝓤 H (Both 𝓤 H (𝓖 .A) (𝓜 .mem) (𝓡 .run)) 𝓜 𝓡 code.env #removed-rows both-def.routine code.calls-reflector-tables·removed-rows (both-thm.met 𝓤 H 𝓜 𝓖 𝓡)))

@@ -1,3 +1,0 @@
--- How the C interface puts values.
-pub mod Interface
-pub mod Reflector

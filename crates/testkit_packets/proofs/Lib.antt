@@ -1,0 +1,2 @@
+-- The laws of the calls on packets.
+pub mod Calls

@@ -1,0 +1,41 @@
+-- How the C interface puts packets: a version as a number, an outcome as a number and values beside it.
+use Prim.Native.Nat.{ℕ, _+_, _*_}
+use mathlib.Core.Path.{_≡_}
+use mathlib.Core.List.{List}
+use Rattle.error.specs.Outcome.{Outcome, refused, gives}
+use Rattle.measurement.specs.Packet.{versionNumbered, versionNumber}
+use Rattle.measurement.specs.declared.InnerIpFlow.{InnerIpFlow}
+use Rattle.measurement_decode.specs.declared.TpduNumbers.{TpduNumbers}
+use Rattle.traffic.specs.Generate.{Generating}
+use Rattle.testkit_packets.specs.declared.TestkitTpdu.{TestkitTpdu}
+use Rattle.testkit_packets.specs.declared.TestkitWritten.{TestkitWritten}
+
+-- A version of the interface as one number, a byte for each of the last two parts.
+abbrev pub versionOf : ℕ → ℕ → ℕ → ℕ
+versionOf major minor patch = major * 65536 + minor * 256 + patch
+
+abbrev pub flowOf : ℕ → List ℕ → List ℕ → ℕ → ℕ → InnerIpFlow
+flowOf version src dst sourcePort destinationPort =
+    record { version = versionNumbered version; src = src; dst = dst; «src_port» = sourcePort; «dst_port» = destinationPort }
+
+-- 0 and the count of bytes, or a refusal's number and 0 bytes.
+abbrev pub writtenNumbers : Outcome ℕ → TestkitWritten
+writtenNumbers (refused n) = record { number = n; bytes = 0 }
+writtenNumbers (gives bytes) = record { number = 0; bytes = bytes }
+
+-- What reading answers, as C has it.
+abbrev pub testkitTpdu : TpduNumbers → TestkitTpdu
+testkitTpdu n = record {
+  number = n .number;
+  version = versionNumber (n .version);
+  «src_port» = n .«src_port»;
+  «dst_port» = n .«dst_port»;
+  sequence = n .sequence;
+  «send_timestamp_ns» = n .«send_timestamp_ns»;
+}
+
+-- The answer, the next sequence in the caller's place and the buffer, as the generator leaves them.
+pub record GeneratedStep (r : TestkitWritten) (next : ℕ) (buffer : List ℕ) (g : Generating) : Type 0 where
+  pub answer : r ≡ writtenNumbers (g .outcome)
+  pub next-sequence : next ≡ g .next
+  pub output : buffer ≡ g .buffer

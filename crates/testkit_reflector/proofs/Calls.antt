@@ -1,0 +1,47 @@
+-- The reflector's answers in numbers, from the case of each answer's enum.
+use Prim.Native.Nat.{ℕ}
+use mathlib.Core.Path.{_≡_, sym, ap, _∙_}
+use mathlib.Core.List.{List}
+use Rattle.reflector_sessions.specs.Register.{Registering, Registers}
+use Rattle.reflector_sessions.specs.Remove.{Removing, Removes}
+use Rattle.reflector_sessions.specs.declared.ReflectorSession.{ReflectorSession}
+use Rattle.reflector_sessions.specs.declared.Registered.{Registered}
+use Rattle.reflector_sessions.specs.declared.Registration.{Registration}
+use Rattle.reflector_sessions.specs.declared.Removal.{Removal}
+use Rattle.reflector_sessions.specs.declared.RemovedSession.{RemovedSession}
+use Rattle.reflector_answer.specs.Answer.{Answer}
+use Rattle.reflector_answer.specs.Handle.{Answers}
+use Rattle.reflector_answer.specs.declared.Handled.{Handled}
+use Rattle.reflector_answer.specs.declared.ReflectorAction.{ReflectorAction}
+use Rattle.reflector_answer.specs.declared.ReflectorAction.the-variants.{Noop, Send}
+use Rattle.reflector_answer.specs.declared.ReflectorNoopReason.{ReflectorNoopReason}
+use Rattle.reflector_answer.specs.declared.ReflectorSendReason.{ReflectorSendReason}
+use Rattle.testkit_reflector.specs.Interface.{noopNumber, sendNumber, actionNumbers, handledNumbers, AnswersNumbers, registeredNumbers, RegistersNumbers, removedNumbers, RemovesNumbers}
+use Rattle.testkit_reflector.specs.declared.ActionNumbers.{ActionNumbers}
+use Rattle.testkit_reflector.specs.declared.TestkitHandled.{TestkitHandled}
+use Rattle.testkit_reflector.specs.declared.TestkitRegistered.{TestkitRegistered}
+use Rattle.testkit_reflector.specs.declared.TestkitRemoved.{TestkitRemoved}
+
+pub registered-as : (r : Registered) {x : Registration} → r .registration ≡ x → registeredNumbers (record { registration = x; used = r .used }) ≡ registeredNumbers r
+registered-as r e = ap (λ (x : Registration). registeredNumbers (record { registration = x; used = r .used })) (sym e)
+
+pub removed-as : (r : RemovedSession) {x : Removal} → r .removal ≡ x → removedNumbers (record { removal = x; used = r .used; session = r .session }) ≡ removedNumbers r
+removed-as r e = ap (λ (x : Removal). removedNumbers (record { removal = x; used = r .used; session = r .session })) (sym e)
+
+pub acted-noop : {n : ℕ} {reason : ReflectorNoopReason} {action : ReflectorAction} → n ≡ noopNumber reason → action ≡ Noop reason
+    → record { number = 0; action = 1; reason = n; bytes = 0 } ≡ actionNumbers action
+acted-noop e told = ap (λ (n : ℕ). record { number = 0; action = 1; reason = n; bytes = 0 }) e ∙ ap actionNumbers (sym told)
+
+pub acted-send : {n bytes : ℕ} {reason : ReflectorSendReason} {action : ReflectorAction} → n ≡ sendNumber reason → action ≡ Send reason bytes
+    → record { number = 0; action = 2; reason = n; bytes = bytes } ≡ actionNumbers action
+acted-send {bytes = bytes} e told = ap (λ (n : ℕ). record { number = 0; action = 2; reason = n; bytes = bytes }) e ∙ ap actionNumbers (sym told)
+
+-- what each call promises, in numbers
+pub registers-numbers : (r : TestkitRegistered) (x : Registered) (rows : List ReflectorSession) (to : Registering) → r ≡ registeredNumbers x → Registers x rows to → RegistersNumbers r rows to
+registers-numbers r x rows to e p = (e ∙ ap registeredNumbers (p .0), p .1)
+
+pub removes-numbers : (r : TestkitRemoved) (x : RemovedSession) (rows : List ReflectorSession) (to : Removing) → r ≡ removedNumbers x → Removes x rows to → RemovesNumbers r rows to
+removes-numbers r x rows to e p = (e ∙ ap removedNumbers (p .0), p .1)
+
+pub answers-numbers : (r : TestkitHandled) (x : Handled) (after : List ℕ) (a : Answer) (before : List ℕ) → r ≡ handledNumbers x → Answers x after a before → AnswersNumbers r after a before
+answers-numbers r x after a before e p = (e ∙ ap handledNumbers (p .0), p .1)

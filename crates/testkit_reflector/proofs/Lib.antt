@@ -1,0 +1,2 @@
+-- The laws of the reflector's calls.
+pub mod Calls

@@ -1,0 +1,180 @@
+-- How the C interface puts the reflector's values: a policy and a version as numbers, an answer as a number and values beside it.
+use Prim.Native.Nat.{ℕ}
+use mathlib.Core.Path.{_≡_}
+use mathlib.Core.List.{List}
+use mathlib.Core.Bool.{Bool, true, false}
+use lib.Dec.{eqb}
+use Rattle.reflector_sessions.specs.Session.{valueOf}
+use Rattle.reflector_sessions.specs.Register.{Registering, registrationOf}
+use Rattle.reflector_sessions.specs.Remove.{Removing, removalOf, sessionOf}
+use Rattle.reflector_sessions.specs.declared.ReflectorSession.{ReflectorSession}
+use Rattle.reflector_sessions.specs.declared.Registered.{Registered}
+use Rattle.reflector_sessions.specs.declared.Registration.{Registration}
+use Rattle.reflector_sessions.specs.declared.Registration.the-variants as registration
+use Rattle.reflector_sessions.specs.declared.Removal.{Removal}
+use Rattle.reflector_sessions.specs.declared.Removal.the-variants as removal
+use Rattle.reflector_sessions.specs.declared.RemovedSession.{RemovedSession}
+use Rattle.reflector_sessions.specs.declared.LentSocketAddr.{LentSocketAddr}
+use Rattle.reflector_sessions.specs.declared.SocketAddr.{SocketAddr}
+use Rattle.reflector_answer.specs.Answer.{Answer}
+use Rattle.reflector_answer.specs.Handle.{handledOf, placed}
+use Rattle.reflector_answer.specs.declared.GtpuMessage.{GtpuMessage}
+use Rattle.reflector_answer.specs.declared.Handled.{Handled}
+use Rattle.reflector_answer.specs.declared.MultiSessionReflectorConfig.{MultiSessionReflectorConfig}
+use Rattle.reflector_answer.specs.declared.OutboundMessage.{OutboundMessage}
+use Rattle.reflector_answer.specs.declared.ReflectorAction.{ReflectorAction}
+use Rattle.reflector_answer.specs.declared.ReflectorAction.the-variants as action
+use Rattle.reflector_answer.specs.declared.ReflectorNoopReason.{ReflectorNoopReason}
+use Rattle.reflector_answer.specs.declared.ReflectorNoopReason.the-variants as noop
+use Rattle.reflector_answer.specs.declared.ReflectorPolicy.{ReflectorPolicy}
+use Rattle.reflector_answer.specs.declared.ReflectorPolicy.the-variants.{Echo, SinkAndCount, Route}
+use Rattle.reflector_answer.specs.declared.ReflectorSendReason.{ReflectorSendReason}
+use Rattle.reflector_answer.specs.declared.ReflectorSendReason.the-variants as send
+use Rattle.reflector_answer.specs.declared.ReflectorState.{ReflectorState}
+use Rattle.reflector_answer.specs.declared.SequenceNumber.{SequenceNumber}
+use Rattle.reflector_answer.specs.declared.SequenceNumber.the-variants.{Absent, Present}
+use Rattle.measurement.specs.Packet.{versionNumber}
+use Rattle.testkit_reflector.specs.declared.ActionNumbers.{ActionNumbers}
+use Rattle.testkit_reflector.specs.declared.HandlingArguments.{HandlingArguments}
+use Rattle.testkit_reflector.specs.declared.SequenceNumbers.{SequenceNumbers}
+use Rattle.testkit_reflector.specs.declared.TestkitGtpuMessage.{TestkitGtpuMessage}
+use Rattle.testkit_reflector.specs.declared.TestkitHandled.{TestkitHandled}
+use Rattle.testkit_reflector.specs.declared.TestkitReflectorConfig.{TestkitReflectorConfig}
+use Rattle.testkit_reflector.specs.declared.TestkitReflectorState.{TestkitReflectorState}
+use Rattle.testkit_reflector.specs.declared.TestkitRegistered.{TestkitRegistered}
+use Rattle.testkit_reflector.specs.declared.TestkitRemoved.{TestkitRemoved}
+
+-- Registering: 0 where it was taken, or a refusal's number; and whether the session was added.
+abbrev pub registrationNumber : Registration → ℕ
+registrationNumber registration.Added = 0
+registrationNumber registration.Unchanged = 0
+registrationNumber (registration.Refused number) = number
+
+abbrev pub isAdded : Registration → Bool
+isAdded registration.Added = true
+isAdded registration.Unchanged = false
+isAdded (registration.Refused number) = false
+
+abbrev pub registeredNumbers : Registered → TestkitRegistered
+registeredNumbers r = record { number = registrationNumber (r .registration); added = isAdded (r .registration); used = r .used }
+
+-- The answer and the rows of a registering.
+abbrev pub RegistersNumbers : TestkitRegistered → List ReflectorSession → Registering → Type 0
+RegistersNumbers r rows to =
+    (r ≡ registeredNumbers (record { registration = registrationOf (to .outcome); used = to .table .used })) × (rows ≡ to .table .sessions)
+
+-- Removal: 0 where it was taken, or a refusal's number; and whether a session was removed.
+abbrev pub removalNumber : Removal → ℕ
+removalNumber removal.Removed = 0
+removalNumber removal.NotFound = 0
+removalNumber (removal.Refused number) = number
+
+abbrev pub isRemoved : Removal → Bool
+isRemoved removal.Removed = true
+isRemoved removal.NotFound = false
+isRemoved (removal.Refused number) = false
+
+abbrev pub removedNumbers : RemovedSession → TestkitRemoved
+removedNumbers r = record { number = removalNumber (r .removal); removed = isRemoved (r .removal); used = r .used; session = r .session }
+
+-- The answer and the rows of a removal.
+abbrev pub RemovesNumbers : TestkitRemoved → List ReflectorSession → Removing → Type 0
+RemovesNumbers r rows to =
+    (r ≡ removedNumbers (record { removal = removalOf (to .outcome); used = to .table .used; session = sessionOf (to .outcome) })) × (rows ≡ to .table .sessions)
+
+-- What a message is handled with. Every number is a policy: 0 echo, 1 sink and count, every other route.
+unfoldable pub policyNumbered : ℕ → ReflectorPolicy
+policyNumbered n = elim (eqb n 0) [ true ↦ Echo | false ↦ elim (eqb n 1) [ true ↦ SinkAndCount | false ↦ Route ] ]
+
+-- A message has no sequence where the number beside it is 0.
+unfoldable pub sequenceOf : ℕ → ℕ → SequenceNumber
+sequenceOf has sequence = elim (eqb has 0) [ true ↦ Absent | false ↦ Present sequence ]
+
+abbrev pub configOf : TestkitReflectorConfig → MultiSessionReflectorConfig
+configOf c = record {
+  «max_sessions» = c .«max_sessions»;
+  «recovery_counter» = c .«recovery_counter»;
+  policy = policyNumbered (c .policy);
+  target = record { destination = valueOf (c .target); teid = c .«target_teid» };
+}
+
+abbrev pub stateOf : TestkitReflectorState → ReflectorState
+stateOf s = record {
+  stats = record {
+    «gpdu_received» = s .«gpdu_received»;
+    «gpdu_forwarded» = s .«gpdu_forwarded»;
+    «gpdu_sunk» = s .«gpdu_sunk»;
+    «echo_requests_answered» = s .«echo_requests_answered»;
+    «error_indications_sent» = s .«error_indications_sent»;
+    «malformed_rejected» = s .«malformed_rejected»;
+  };
+  «next_error_sequence» = s .«next_error_sequence»;
+}
+
+abbrev pub messageOf : TestkitGtpuMessage → GtpuMessage
+messageOf m = record { «message_type» = m .«message_type»; teid = m .teid; «sequence_number» = sequenceOf (m .«has_sequence») (m .sequence) }
+
+abbrev pub argumentsOf : TestkitReflectorConfig → TestkitReflectorState → LentSocketAddr → TestkitGtpuMessage → HandlingArguments
+argumentsOf config state source message = record { config = configOf config; state = stateOf state; source = valueOf source; message = messageOf message }
+
+-- Why nothing is sent, and why a message is.
+abbrev pub noopNumber : ReflectorNoopReason → ℕ
+noopNumber noop.GpduSunk = 1
+noopNumber noop.EchoResponseObserved = 2
+noopNumber noop.ErrorIndicationObserved = 3
+noopNumber noop.EndMarkerIgnored = 4
+noopNumber noop.SupportedExtensionHeadersNotificationIgnored = 5
+
+abbrev pub sendNumber : ReflectorSendReason → ℕ
+sendNumber send.ReflectedGpdu = 1
+sendNumber send.RoutedGpdu = 2
+sendNumber send.EchoResponse = 3
+sendNumber send.ErrorIndication = 4
+
+-- A refusal's number, or 0; what is to be done, 0 refused, 1 nothing to send, 2 a message; its reason, or 0; and the bytes in the output.
+abbrev pub actionNumbers : ReflectorAction → ActionNumbers
+actionNumbers (action.Refused number) = record { number = number; action = 0; reason = 0; bytes = 0 }
+actionNumbers (action.Noop reason) = record { number = 0; action = 1; reason = noopNumber reason; bytes = 0 }
+actionNumbers (action.Send reason bytes) = record { number = 0; action = 2; reason = sendNumber reason; bytes = bytes }
+
+abbrev pub sequenceNumbers : SequenceNumber → SequenceNumbers
+sequenceNumbers Absent = record { present = 0; value = 0 }
+sequenceNumbers (Present n) = record { present = 1; value = n }
+
+abbrev pub addressNumbers : SocketAddr → LentSocketAddr
+addressNumbers a = record { version = versionNumber (a .version); address = a .address; port = a .port }
+
+-- A message to send, without its payload: 1 where it has a sequence.
+abbrev pub messageNumbers : OutboundMessage → TestkitGtpuMessage
+messageNumbers m = record {
+  «message_type» = m .«message_type»;
+  teid = m .teid;
+  «has_sequence» = sequenceNumbers (m .«sequence_number») .present;
+  sequence = sequenceNumbers (m .«sequence_number») .value;
+}
+
+abbrev pub stateNumbers : ReflectorState → TestkitReflectorState
+stateNumbers s = record {
+  «gpdu_received» = s .stats .«gpdu_received»;
+  «gpdu_forwarded» = s .stats .«gpdu_forwarded»;
+  «gpdu_sunk» = s .stats .«gpdu_sunk»;
+  «echo_requests_answered» = s .stats .«echo_requests_answered»;
+  «error_indications_sent» = s .stats .«error_indications_sent»;
+  «malformed_rejected» = s .stats .«malformed_rejected»;
+  «next_error_sequence» = s .«next_error_sequence»;
+}
+
+abbrev pub handledNumbers : Handled → TestkitHandled
+handledNumbers h = record {
+  number = actionNumbers (h .action) .number;
+  action = actionNumbers (h .action) .action;
+  reason = actionNumbers (h .action) .reason;
+  bytes = actionNumbers (h .action) .bytes;
+  destination = addressNumbers (h .message .destination);
+  message = messageNumbers (h .message);
+  state = stateNumbers (h .state);
+}
+
+-- The answer and the output of a message handled on this output.
+abbrev pub AnswersNumbers : TestkitHandled → List ℕ → Answer → List ℕ → Type 0
+AnswersNumbers r after a before = (r ≡ handledNumbers (handledOf a)) × (after ≡ placed (a .outcome) before)

@@ -1,0 +1,2 @@
+-- How the C interface puts what the reflector's calls answer.
+pub mod Interface

@@ -1,0 +1,23 @@
+-- What the verdict for C has to do with the report that it is about.
+use Prim.Native.Nat.{ℕ}
+use mathlib.Core.Path.{_≡_}
+use Rattle.error.specs.Outcome.{Outcome, refused, gives}
+use Rattle.evidence.specs.declared.PacketContinuityBudget.{PacketContinuityBudget}
+use Rattle.evidence.specs.declared.PacketContinuityReport.{PacketContinuityReport}
+use Rattle.observer.specs.Observer.{Observer}
+use Rattle.report.specs.Report.{reporting}
+use Rattle.verdict.specs.Verdict.{verdictOf}
+use Rattle.testkit_sheet.specs.Interface.{reportNumbers}
+use Rattle.testkit_sheet.specs.Verdict.{noReport, verdictNumbers, judging}
+use Rattle.testkit_sheet.specs.declared.TestkitVerdict.{TestkitVerdict}
+
+-- The verdict on a report by what it says itself, or that there is none.
+abbrev pub saysItself : Outcome PacketContinuityReport → TestkitVerdict
+saysItself (refused n) = noReport
+saysItself (gives report) = verdictNumbers (verdictOf report)
+
+-- Judged against the budget that it was asked for, a report gets the verdict that it says itself: nothing of it is lost on its way through C.
+abbrev pub OwnBudget : Type 0
+OwnBudget =
+    (o : Observer) (windowStart windowEnd : ℕ) (budget : PacketContinuityBudget)
+    → judging (reportNumbers (reporting o windowStart windowEnd budget)) budget ≡ saysItself (reporting o windowStart windowEnd budget)

@@ -1,0 +1,134 @@
+-- How the C interface puts a run sheet: an outcome as a number and values beside it, the counts as the sheet has them.
+use Prim.Native.Nat.{ℕ}
+use mathlib.Core.Path.{_≡_}
+use mathlib.Core.List.{List}
+use mathlib.Core.Bool.{true, false}
+use mathlib.Core.Option.{Option, some, none}
+use Rattle.error.specs.Outcome.{Outcome, refused, gives, outcomeNumber}
+use Rattle.observer.specs.Judge.{Step}
+use Rattle.observer.specs.declared.ObserverCounts.{ObserverCounts}
+use Rattle.continuity.specs.Returns.{MessageStep}
+use Rattle.continuity.specs.Batch.{ReceivedAll}
+use Rattle.continuity.specs.declared.GtpuReturnDatagramOutcome.{GtpuReturnDatagramOutcome}
+use Rattle.continuity.specs.declared.GtpuReturnDatagramOutcome.the-variants.{MeasurementTpdu, ErrorIndication, EchoResponse, Ignored}
+use Rattle.evidence.specs.Budget.{zeroLoss}
+use Rattle.evidence.specs.Latency.{latencyMeans}
+use Rattle.evidence.specs.declared.LatencySummary.{LatencySummary}
+use Rattle.evidence.specs.declared.PacketContinuityReport.{PacketContinuityReport}
+use Rattle.testkit_sheet.specs.declared.LatencyNumbers.{LatencyNumbers}
+use Rattle.testkit_sheet.specs.declared.TestkitContinuityReport.{TestkitContinuityReport}
+use Rattle.testkit_sheet.specs.declared.TestkitDatagramRecorded.{TestkitDatagramRecorded}
+use Rattle.testkit_sheet.specs.declared.TestkitRecorded.{TestkitRecorded}
+use Rattle.testkit_sheet.specs.declared.TestkitReturnsRecorded.{TestkitReturnsRecorded}
+
+-- 0 or a refusal's number, and the counts.
+abbrev pub recordedNumbers : Outcome (Unit {0}) → ObserverCounts → TestkitRecorded
+recordedNumbers outcome counts = record { number = outcomeNumber outcome; counts = counts }
+
+-- The answer and the four columns of an observer's call, as its step has them.
+pub record RecordedStep (r : TestkitRecorded) (qs ts ls ms : List ℕ) (s : Step) : Type 0 where
+  pub answer : r ≡ recordedNumbers (s .outcome) (s .observer .counts)
+  pub sequences : qs ≡ s .observer .sequences
+  pub send-times : ts ≡ s .observer .sendTimes
+  pub latencies : ls ≡ s .observer .latencies
+  pub marks : ms ≡ s .observer .marks
+
+abbrev pub countGiven : Outcome ℕ → ℕ
+countGiven (refused n) = 0
+countGiven (gives count) = count
+
+-- A list of returns: 0 and how many there were, or the number of a refusal of the whole list and 0.
+abbrev pub returnsNumbers : Outcome ℕ → ObserverCounts → TestkitReturnsRecorded
+returnsNumbers outcome counts = record { number = outcomeNumber outcome; returns = countGiven outcome; counts = counts }
+
+-- Its answer, the two columns that are lent for it, and the four of the sheet.
+pub record ReturnsNumbers (r : TestkitReturnsRecorded) (returned numbers qs ts ls ms : List ℕ) (s : ReceivedAll) : Type 0 where
+  pub answer : r ≡ returnsNumbers (s .arrived .outcome) (s .arrived .observer .counts)
+  pub returns-read : returned ≡ s .returned
+  pub returns-answered : numbers ≡ s .arrived .numbers
+  pub sequences : qs ≡ s .arrived .observer .sequences
+  pub send-times : ts ≡ s .arrived .observer .sendTimes
+  pub latencies : ls ≡ s .arrived .observer .latencies
+  pub marks : ms ≡ s .arrived .observer .marks
+
+-- What a datagram was: 0 where it was refused.
+abbrev pub codeOf : GtpuReturnDatagramOutcome → ℕ
+codeOf MeasurementTpdu = 1
+codeOf ErrorIndication = 2
+codeOf EchoResponse = 3
+codeOf (Ignored messageType) = 4
+
+abbrev pub outcomeCode : Outcome GtpuReturnDatagramOutcome → ℕ
+outcomeCode (refused n) = 0
+outcomeCode (gives was) = codeOf was
+
+-- The type of an ignored message, else 0.
+abbrev pub typeOf : GtpuReturnDatagramOutcome → ℕ
+typeOf MeasurementTpdu = 0
+typeOf ErrorIndication = 0
+typeOf EchoResponse = 0
+typeOf (Ignored messageType) = messageType
+
+abbrev pub ignoredType : Outcome GtpuReturnDatagramOutcome → ℕ
+ignoredType (refused n) = 0
+ignoredType (gives was) = typeOf was
+
+abbrev pub datagramNumbers : Outcome GtpuReturnDatagramOutcome → ObserverCounts → TestkitDatagramRecorded
+datagramNumbers outcome counts =
+    record { number = outcomeNumber outcome; outcome = outcomeCode outcome; «message_type» = ignoredType outcome; counts = counts }
+
+-- The answer to a datagram and the four columns, as its step has them.
+pub record DatagramStep (r : TestkitDatagramRecorded) (qs ts ls ms : List ℕ) (s : MessageStep) : Type 0 where
+  pub answer : r ≡ datagramNumbers (s .outcome) (s .observer .counts)
+  pub sequences : qs ≡ s .observer .sequences
+  pub send-times : ts ≡ s .observer .sendTimes
+  pub latencies : ls ≡ s .observer .latencies
+  pub marks : ms ≡ s .observer .marks
+
+-- Latencies: absent is false and zeros.
+abbrev pub latencyNumbers : Option LatencySummary → LatencyNumbers
+latencyNumbers none = record { present = false; summary = record { «min_ns» = 0; «max_ns» = 0; «avg_ns» = 0 } }
+latencyNumbers (some s) = record { present = true; summary = s }
+
+-- 0 and the report, or a refusal's number and zeros.
+abbrev pub reportNumbers : Outcome PacketContinuityReport → TestkitContinuityReport
+reportNumbers (refused n) = record {
+  number = n;
+  «window_start_ns» = 0;
+  «window_end_ns» = 0;
+  «sent_packets» = 0;
+  «received_packets» = 0;
+  «lost_packets» = 0;
+  «duplicate_packets» = 0;
+  «out_of_order_packets» = 0;
+  «gtpu_error_indications» = 0;
+  «max_consecutive_lost_packets» = 0;
+  «max_gap_duration_ns» = 0;
+  «has_latency» = false;
+  «min_ns» = 0;
+  «max_ns» = 0;
+  «avg_ns» = 0;
+  budget = zeroLoss;
+  «forwarding_proven» = false;
+  «packet_continuity_proven» = false;
+}
+reportNumbers (gives r) = record {
+  number = 0;
+  «window_start_ns» = r .«window_start_ns»;
+  «window_end_ns» = r .«window_end_ns»;
+  «sent_packets» = r .«sent_packets»;
+  «received_packets» = r .«received_packets»;
+  «lost_packets» = r .«lost_packets»;
+  «duplicate_packets» = r .«duplicate_packets»;
+  «out_of_order_packets» = r .«out_of_order_packets»;
+  «gtpu_error_indications» = r .«gtpu_error_indications»;
+  «max_consecutive_lost_packets» = r .«max_consecutive_lost_packets»;
+  «max_gap_duration_ns» = r .«max_gap_duration_ns»;
+  «has_latency» = latencyNumbers (latencyMeans (r .latency)) .present;
+  «min_ns» = latencyNumbers (latencyMeans (r .latency)) .summary .«min_ns»;
+  «max_ns» = latencyNumbers (latencyMeans (r .latency)) .summary .«max_ns»;
+  «avg_ns» = latencyNumbers (latencyMeans (r .latency)) .summary .«avg_ns»;
+  budget = r .budget;
+  «forwarding_proven» = r .«forwarding_proven»;
+  «packet_continuity_proven» = r .«packet_continuity_proven»;
+}

@@ -1,0 +1,986 @@
+/*
+ * Every field of every answer, and every field that is handed in, with a value of its own: so that a field which the
+ * archive has at another place than the header is seen. fields.h is made from the proved source (layout.awk): for each
+ * struct it has a function that compares all fields, and notes which of them were told apart; in the end every two
+ * fields of one width must have been, and none may always have been 0. Each call over a sheet or a table is run beside
+ * the call with single arguments, and each buffer is also lent as null with length 0. The first argument says how
+ * buffers are placed (lend.h).
+ */
+#include "testkit.h"
+
+#include "lend.h"
+
+#include <inttypes.h>
+#include <stdio.h>
+#include <stdlib.h>
+#include <string.h>
+
+struct leaf {
+    const char *name;
+    int width;
+};
+
+struct told {
+    const char *name;
+    const struct leaf *leaves;
+    int count;
+    const unsigned char *apart;
+};
+
+static unsigned compared;
+
+/* Compares the fields, and notes which differ from each other; on the diagonal, which are not 0. */
+static void compare(
+    const char *what, const char *name, const struct leaf *leaves, int count, const uint64_t *found,
+    const uint64_t *due, unsigned char *apart)
+{
+    for (int k = 0; k < count; k++) {
+        if (found[k] != due[k]) {
+            printf(
+                "surprise: %s: %s.%s is %" PRIu64 ", not %" PRIu64 "\n", what, name, leaves[k].name, found[k], due[k]);
+            fflush(stdout);
+            exit(EXIT_FAILURE);
+        }
+        for (int other = 0; other < count; other++) {
+            if (other == k ? due[k] != 0 : due[k] != due[other]) {
+                apart[k * count + other] = 1;
+            }
+        }
+        compared++;
+    }
+}
+
+#include "fields.h"
+
+/* The value of two fields that are equal in every answer: each says that something returned. */
+static bool never_apart(const char *name, const char *a, const char *b)
+{
+    return strcmp(name, "testkit_continuity_report") == 0 && strcmp(a, "has_latency") == 0 &&
+           strcmp(b, "forwarding_proven") == 0;
+}
+
+static void expect_told_apart(void)
+{
+    bool all = true;
+    for (size_t s = 0; s < sizeof all_told / sizeof *all_told; s++) {
+        const struct told *t = &all_told[s];
+        for (int k = 0; k < t->count; k++) {
+            for (int other = k; other < t->count; other++) {
+                if (t->leaves[k].width == t->leaves[other].width && !t->apart[k * t->count + other] &&
+                    !never_apart(t->name, t->leaves[k].name, t->leaves[other].name)) {
+                    printf(
+                        "surprise: %s: %s and %s were not told apart\n", t->name, t->leaves[k].name,
+                        t->leaves[other].name);
+                    all = false;
+                }
+            }
+        }
+    }
+    expect("that all fields were told apart", all, true);
+}
+
+static void expect_bytes(const char *what, const void *found, const void *due, size_t length)
+{
+    if (memcmp(found, due, length) != 0) {
+        printf("surprise: %s\n", what);
+        fflush(stdout);
+        exit(EXIT_FAILURE);
+    }
+}
+
+/* ---- What is lent ---- */
+
+enum { ROWS = 8, PACKET = TESTKIT_IPV6_TPDU_BYTES };
+
+static uint8_t *src, *dst, *read_src, *read_dst, *packet, *out;
+static uint64_t *next_sequence;
+
+static const uint8_t *copy(const uint8_t *bytes, size_t length) { return lend_copy(bytes, length); }
+
+/* A T-PDU in `packet`: its length. */
+static size_t make(uint8_t version, uint64_t sequence)
+{
+    struct testkit_written written = testkit_build(version, src, dst, 1001, 2002, sequence, 3003, packet, PACKET);
+    expect("a packet's number", written.number, TESTKIT_ACCEPTED);
+    return written.bytes;
+}
+
+static struct testkit_written written_as(uint8_t number, size_t bytes)
+{
+    struct testkit_written made;
+    made.number = number;
+    made.bytes = bytes;
+    return made;
+}
+
+static struct testkit_plan plan_of(uint64_t count, uint64_t rate, uint64_t first)
+{
+    struct testkit_plan made;
+    made.packet_count = count;
+    made.target_rate_pps = rate;
+    made.first_send_timestamp_ns = first;
+    compare_testkit_plan("a plan that is handed in", made, made);
+    return made;
+}
+
+static struct testkit_counts counts_of(size_t used, uint64_t duplicate, uint64_t out_of_order, uint64_t indications)
+{
+    struct testkit_counts made;
+    made.used = used;
+    made.duplicate_packets = duplicate;
+    made.out_of_order_packets = out_of_order;
+    made.gtpu_error_indications = indications;
+    return made;
+}
+
+static struct testkit_budget budget_of(uint64_t lost, uint64_t consecutive, uint64_t outage_ns)
+{
+    struct testkit_budget made;
+    made.max_lost_packets = lost;
+    made.max_consecutive_lost_packets = consecutive;
+    made.outage_budget_ns = outage_ns;
+    compare_testkit_budget("a budget that is handed in", made, made);
+    return made;
+}
+
+/* ---- Packets ---- */
+
+static void numbers(void)
+{
+    static const uint8_t bytes[] = {0x00, 0x01, 0xf2, 0x03, 0xf4, 0xf5, 0xf6, 0xf7, 0x22, 0x0d}; /* RFC 1071, 3 */
+    expect("the version", testkit_version(), TESTKIT_VERSION);
+    expect("a sum", testkit_sum(0, copy(bytes, 8), 8), 0xddf2);
+    expect("a sum with a start", testkit_sum(0x1000, copy(bytes, 8), 8), 0xedf2);
+    expect("a sum of an odd length", testkit_sum(0, copy(bytes, 3), 3), 0xf201);
+    expect("a checksum", testkit_checksum(copy(bytes, 8), 8), 0x220d);
+    expect("that it adds up", testkit_verify(copy(bytes, 10), 10), true);
+    expect("that it does not", testkit_verify(copy(bytes, 8), 8), false);
+    expect("a number's text", strcmp(testkit_number_text(0), "accepted") == 0, true);
+    expect("a number's text", strcmp(testkit_number_text(TESTKIT_TARGET_RATE_IS_ZERO), "rate 0") == 0, true);
+    expect("a text for no number", strcmp(testkit_number_text(38), testkit_number_text(255)) == 0, true);
+    for (unsigned number = 0; number < 256; number++) {
+        expect("a text", testkit_number_text((uint8_t)number)[0] != 0, true);
+    }
+}
+
+static void packets(uint8_t version)
+{
+    size_t length = version == 4 ? TESTKIT_IPV4_TPDU_BYTES : TESTKIT_IPV6_TPDU_BYTES;
+    size_t counted = version == 4 ? 4 : 16;
+    static const uint8_t zeros[16] = {0};
+    struct testkit_tpdu due;
+    memset(packet, 0xA5, PACKET);
+    compare_testkit_written(
+        "build", testkit_build(version, src, dst, 1001, 2002, 5, 3003, packet, PACKET), written_as(0, length));
+    expect("that the rest stays", length == PACKET || packet[length] == 0xA5, true);
+    compare_testkit_written(
+        "build, short", testkit_build(version, src, dst, 1001, 2002, 5, 3003, packet, length - 1),
+        written_as(TESTKIT_OUTPUT_TOO_SHORT, 0));
+
+    memset(&due, 0, sizeof due);
+    due.version = version;
+    due.src_port = 1001;
+    due.dst_port = 2002;
+    due.sequence = 5;
+    due.send_timestamp_ns = 3003;
+    memset(read_src, 0xA5, 16);
+    memset(read_dst, 0xA5, 16);
+    compare_testkit_tpdu("decode", testkit_decode(copy(packet, length), length, read_src, read_dst), due);
+    expect_bytes("the source", read_src, src, counted);
+    expect_bytes("the destination", read_dst, dst, counted);
+    expect_bytes("the source's rest", read_src + counted, zeros, 16 - counted);
+    expect_bytes("the destination's rest", read_dst + counted, zeros, 16 - counted);
+
+    memset(out, 0xA5, PACKET);
+    compare_testkit_written("echo", testkit_echo(copy(packet, length), length, out, PACKET), written_as(0, length));
+    due.src_port = 2002;
+    due.dst_port = 1001;
+    compare_testkit_tpdu("the echo", testkit_decode(out, length, read_src, read_dst), due);
+    expect_bytes("the echo's source", read_src, dst, counted);
+    compare_testkit_written(
+        "echo, short", testkit_echo(copy(packet, length), length, out, length - 1),
+        written_as(TESTKIT_OUTPUT_TOO_SHORT, 0));
+
+    memset(&due, 0, sizeof due);
+    due.version = 4;
+    packet[length - 1] ^= 1;
+    due.number = TESTKIT_INVALID_UDP_CHECKSUM;
+    memset(read_src, 0xA5, 16);
+    compare_testkit_tpdu("decode, damaged", testkit_decode(copy(packet, length), length, read_src, read_dst), due);
+    expect("that the source stays", read_src[0], 0xA5);
+    compare_testkit_written(
+        "echo, damaged", testkit_echo(copy(packet, length), length, out, PACKET),
+        written_as(TESTKIT_INVALID_UDP_CHECKSUM, 0));
+    due.number = TESTKIT_TRUNCATED_IP_HEADER;
+    compare_testkit_tpdu("decode, empty", testkit_decode(copy(packet, 0), 0, read_src, read_dst), due);
+    compare_testkit_tpdu("decode, null", testkit_decode(NULL, 0, read_src, read_dst), due);
+    compare_testkit_written("echo, null", testkit_echo(NULL, 0, NULL, 0), written_as(TESTKIT_TRUNCATED_IP_HEADER, 0));
+    compare_testkit_written(
+        "build, null", testkit_build(version, src, dst, 1001, 2002, 5, 3003, NULL, 0),
+        written_as(TESTKIT_OUTPUT_TOO_SHORT, 0));
+}
+
+static void generator(void)
+{
+    uint8_t *bytes = (uint8_t *)lend(3 * TESTKIT_IPV4_TPDU_BYTES);
+    struct testkit_tpdu due;
+    *next_sequence = 70;
+    compare_testkit_written(
+        "generate", testkit_generate(4, src, dst, 1001, 2002, plan_of(3, 250, 17), next_sequence, bytes, 3 * 52),
+        written_as(0, 3 * 52));
+    expect("the next sequence", *next_sequence, 73);
+    memset(&due, 0, sizeof due);
+    due.version = 4;
+    due.src_port = 1001;
+    due.dst_port = 2002;
+    for (uint64_t k = 0; k < 3; k++) {
+        due.sequence = 70 + k;
+        due.send_timestamp_ns = 17 + k * 4000000;
+        compare_testkit_tpdu("a generated packet", testkit_decode(bytes + 52 * k, 52, read_src, read_dst), due);
+    }
+    compare_testkit_written(
+        "generate, short", testkit_generate(4, src, dst, 1, 2, plan_of(3, 250, 17), next_sequence, bytes, 3 * 52 - 1),
+        written_as(TESTKIT_OUTPUT_TOO_SHORT, 0));
+    compare_testkit_written(
+        "generate, no rate", testkit_generate(4, src, dst, 1, 2, plan_of(3, 0, 17), next_sequence, bytes, 3 * 52),
+        written_as(TESTKIT_TARGET_RATE_IS_ZERO, 0));
+    compare_testkit_written(
+        "generate, high rate",
+        testkit_generate(4, src, dst, 1, 2, plan_of(3, 1000000001, 17), next_sequence, bytes, 3 * 52),
+        written_as(TESTKIT_TARGET_RATE_EXCEEDS_RESOLUTION, 0));
+    compare_testkit_written(
+        "generate, too many", testkit_generate(4, src, dst, 1, 2, plan_of(2049, 250, 17), next_sequence, bytes, 3 * 52),
+        written_as(TESTKIT_TOO_MANY_PACKETS, 0));
+    expect("the next sequence", *next_sequence, 73);
+    compare_testkit_written(
+        "generate, late",
+        testkit_generate(4, src, dst, 1, 2, plan_of(3, 250, UINT64_MAX), next_sequence, bytes, 3 * 52),
+        written_as(TESTKIT_SEND_TIMESTAMP_OVERFLOW, 0));
+    expect("the next sequence after 20", *next_sequence, 75);
+    *next_sequence = UINT64_MAX - 2;
+    compare_testkit_written(
+        "generate, at the top", testkit_generate(4, src, dst, 1, 2, plan_of(3, 250, 17), next_sequence, bytes, 3 * 52),
+        written_as(TESTKIT_SEQUENCE_OVERFLOW, 0));
+    expect("the next sequence after 19", *next_sequence, UINT64_MAX);
+    *next_sequence = 75;
+    compare_testkit_written(
+        "generate, nothing, null", testkit_generate(6, src, dst, 1, 2, plan_of(0, 250, 17), next_sequence, NULL, 0),
+        written_as(0, 0));
+    expect("the next sequence", *next_sequence, 75);
+}
+
+static const uint8_t elements[12] = {16, 1, 2, 3, 4, 133, 0, 4, 10, 0, 0, 2};
+
+static void element_lists(void)
+{
+    uint8_t list[64];
+    expect("elements", testkit_validate_elements(copy(elements, 12), 12), TESTKIT_ACCEPTED);
+    expect("elements, cut", testkit_validate_elements(copy(elements, 11), 11), TESTKIT_TRUNCATED_ELEMENT);
+    expect("elements, no address", testkit_validate_elements(copy(elements, 5), 5), TESTKIT_MISSING_PEER_ADDRESS);
+    expect("elements, no TEID", testkit_validate_elements(copy(elements + 5, 7), 7), TESTKIT_MISSING_TEID_DATA_I);
+    expect("elements, null", testkit_validate_elements(NULL, 0), TESTKIT_MISSING_TEID_DATA_I);
+    memcpy(list, elements, 12);
+    list[7] = 5;
+    expect("elements, length", testkit_validate_elements(copy(list, 12), 12), TESTKIT_INVALID_PEER_ADDRESS_LENGTH);
+    list[0] = 17;
+    expect("elements, type", testkit_validate_elements(copy(list, 12), 12), TESTKIT_UNSUPPORTED_FIXED_LENGTH_ELEMENT);
+}
+
+/* ---- The run sheet ---- */
+
+/* Two sheets: one for the calls over a sheet, the other for those with single arguments. They must stay alike. */
+static struct testkit_sheet one, two;
+
+#define COLUMNS two.sequences, ROWS, two.send_timestamps, ROWS, two.latencies, ROWS, two.marks, ROWS, two.counts
+
+static void open_sheet(struct testkit_sheet *sheet)
+{
+    sheet->sequences = (uint64_t *)lend(ROWS * sizeof(uint64_t));
+    sheet->send_timestamps = (uint64_t *)lend(ROWS * sizeof(uint64_t));
+    sheet->latencies = (uint64_t *)lend(ROWS * sizeof(uint64_t));
+    sheet->marks = (uint8_t *)lend(ROWS);
+    sheet->capacity = ROWS;
+    sheet->counts = counts_of(0, 0, 0, 0);
+}
+
+static void expect_alike(const char *what)
+{
+    expect_bytes(what, one.sequences, two.sequences, ROWS * sizeof(uint64_t));
+    expect_bytes(what, one.send_timestamps, two.send_timestamps, ROWS * sizeof(uint64_t));
+    expect_bytes(what, one.latencies, two.latencies, ROWS * sizeof(uint64_t));
+    expect_bytes(what, one.marks, two.marks, ROWS);
+    compare_testkit_counts(what, one.counts, two.counts);
+}
+
+static struct testkit_recorded recorded_as(uint8_t number, struct testkit_counts counts)
+{
+    struct testkit_recorded made;
+    made.number = number;
+    made.counts = counts;
+    return made;
+}
+
+static void check_recorded(
+    const char *what, struct testkit_recorded over_sheet, struct testkit_recorded single, uint8_t number,
+    struct testkit_counts counts)
+{
+    compare_testkit_recorded(what, over_sheet, recorded_as(number, counts));
+    compare_testkit_recorded(what, single, recorded_as(number, counts));
+    two.counts = single.counts;
+    expect_alike(what);
+}
+
+static void sent(const char *what, uint64_t sequence, uint64_t time, uint8_t number, struct testkit_counts counts)
+{
+    check_recorded(
+        what, testkit_sheet_record_sent(&one, sequence, time), testkit_record_sent(COLUMNS, sequence, time), number,
+        counts);
+}
+
+static void sent_plan(
+    const char *what, struct testkit_plan plan, uint64_t first, uint8_t number, struct testkit_counts counts)
+{
+    check_recorded(
+        what, testkit_sheet_record_sent_plan(&one, plan, first), testkit_record_sent_plan(COLUMNS, plan, first), number,
+        counts);
+}
+
+static void received(const char *what, uint64_t time, size_t length, uint8_t number, struct testkit_counts counts)
+{
+    const uint8_t *tpdu = copy(packet, length);
+    check_recorded(
+        what, testkit_sheet_record_received_tpdu(&one, time, tpdu, length),
+        testkit_record_received_tpdu(COLUMNS, time, tpdu, length), number, counts);
+}
+
+static void message(
+    const char *what, uint64_t time, uint8_t type, const uint8_t *bytes, size_t length, uint8_t number, uint8_t outcome,
+    uint8_t ignored, struct testkit_counts counts)
+{
+    const uint8_t *payload = bytes == NULL ? NULL : copy(bytes, length);
+    struct testkit_datagram_recorded due, single;
+    due.number = number;
+    due.outcome = outcome;
+    due.message_type = ignored;
+    due.counts = counts;
+    compare_testkit_datagram_recorded(
+        what, testkit_sheet_record_return_gtpu_datagram(&one, time, type, payload, length), due);
+    single = testkit_record_return_gtpu_datagram(COLUMNS, time, type, payload, length);
+    compare_testkit_datagram_recorded(what, single, due);
+    two.counts = single.counts;
+    expect_alike(what);
+}
+
+static void row(const char *what, size_t k, uint64_t sequence, uint64_t time, uint64_t latency, uint8_t mark)
+{
+    expect(what, one.sequences[k], sequence);
+    expect(what, one.send_timestamps[k], time);
+    expect(what, one.latencies[k], latency);
+    expect(what, one.marks[k], mark);
+}
+
+/* Rows 11, 12, 13, 14, 20, 21, 22 sent at different times, 12 sent again. */
+static void sending(void)
+{
+    one.counts = two.counts = counts_of(0, 101, 202, 303);
+    sent("a packet sent", 20, 5000, 0, counts_of(1, 101, 202, 303));
+    sent("a packet sent below it", 11, 4000, 0, counts_of(2, 101, 202, 303));
+    sent_plan("a plan sent", plan_of(3, 1000000, 6000), 12, 0, counts_of(5, 101, 202, 303));
+    sent("a packet sent again", 12, 6100, 0, counts_of(5, 101, 202, 303));
+    row("row 0", 0, 11, 4000, 0, 0);
+    row("row 1", 1, 12, 6100, 0, 0);
+    row("row 2", 2, 13, 7000, 0, 0);
+    row("row 3", 3, 14, 8000, 0, 0);
+    row("row 4", 4, 20, 5000, 0, 0);
+    sent_plan("no rate", plan_of(3, 0, 6000), 12, TESTKIT_TARGET_RATE_IS_ZERO, counts_of(5, 101, 202, 303));
+    sent_plan("too large a plan", plan_of(4, 1000, 9000), 21, TESTKIT_OBSERVER_FULL, counts_of(5, 101, 202, 303));
+    sent_plan("a plan that fits", plan_of(3, 1000000000, 9000), 20, 0, counts_of(7, 101, 202, 303));
+    row("row 4", 4, 20, 9000, 0, 0);
+    row("row 6", 6, 22, 9002, 0, 0);
+    sent("the last row", 23, 9003, 0, counts_of(8, 101, 202, 303));
+    sent("a full sheet", 24, 9004, TESTKIT_OBSERVER_FULL, counts_of(8, 101, 202, 303));
+    sent("a full sheet, known", 23, 9005, 0, counts_of(8, 101, 202, 303));
+}
+
+static void returning(void)
+{
+    size_t length = make(6, 13);
+    received("a return", 7070, length, 0, counts_of(8, 101, 202, 303));
+    row("row 2", 2, 13, 7000, 70, 1);
+    received("a return again", 7080, length, 0, counts_of(8, 102, 202, 303));
+    row("row 2", 2, 13, 7000, 70, 1);
+    length = make(4, 11);
+    received("a return of a lower sequence", 4010, length, 0, counts_of(8, 102, 203, 303));
+    row("row 0", 0, 11, 4000, 10, 1);
+    received("no T-PDU", 4010, 0, TESTKIT_TRUNCATED_IP_HEADER, counts_of(8, 102, 203, 303));
+    length = make(4, 19);
+    received("another's", 9999, length, TESTKIT_SEQUENCE_WAS_NOT_SENT, counts_of(8, 102, 203, 303));
+    length = make(4, 14);
+    received("too early", 7999, length, TESTKIT_TIMESTAMP_REVERSED, counts_of(8, 102, 203, 303));
+
+    message(
+        "a message with a T-PDU", 8200, 255, packet, length, 0, TESTKIT_OUTCOME_MEASUREMENT_TPDU, 0,
+        counts_of(8, 102, 203, 303));
+    row("row 3", 3, 14, 8000, 200, 1);
+    message(
+        "an Error Indication", 1, 26, elements, 12, 0, TESTKIT_OUTCOME_ERROR_INDICATION, 0,
+        counts_of(8, 102, 203, 304));
+    message("an Echo Response", 1, 2, elements, 12, 0, TESTKIT_OUTCOME_ECHO_RESPONSE, 0, counts_of(8, 102, 203, 304));
+    message("an End Marker", 1, 254, elements, 12, 0, TESTKIT_OUTCOME_IGNORED, 254, counts_of(8, 102, 203, 304));
+    message("a notification", 1, 31, elements, 12, 0, TESTKIT_OUTCOME_IGNORED, 31, counts_of(8, 102, 203, 304));
+    message(
+        "an unknown type", 1, 77, elements, 12, TESTKIT_UNSUPPORTED_MESSAGE_TYPE, TESTKIT_OUTCOME_REFUSED, 0,
+        counts_of(8, 102, 203, 304));
+    message(
+        "a cut element", 1, 26, elements, 11, TESTKIT_TRUNCATED_ELEMENT, TESTKIT_OUTCOME_REFUSED, 0,
+        counts_of(8, 102, 203, 304));
+    message("an Echo Response, null", 1, 2, NULL, 0, 0, TESTKIT_OUTCOME_ECHO_RESPONSE, 0, counts_of(8, 102, 203, 304));
+    message(
+        "a T-PDU, null", 1, 255, NULL, 0, TESTKIT_TRUNCATED_IP_HEADER, TESTKIT_OUTCOME_REFUSED, 0,
+        counts_of(8, 102, 203, 304));
+}
+
+/* A list of five: a whole packet, a damaged one, one that was not sent, one that the bytes end within, and one behind
+ * their end. */
+static void returning_in_lists(void)
+{
+    enum { RETURNS = 5, BYTES = 3 * 52 + 30 };
+    static const uint64_t when[RETURNS] = {9300, 9301, 9302, 9303, 9304};
+    static const size_t long_as[RETURNS] = {52, 52, 52, 52, SIZE_MAX};
+    uint64_t *times = (uint64_t *)lend(sizeof when);
+    size_t *lengths = (size_t *)lend(sizeof long_as);
+    uint8_t *tpdus = (uint8_t *)lend(BYTES);
+    uint64_t *returned = (uint64_t *)lend((RETURNS + 1) * sizeof(uint64_t));
+    uint8_t *answered = (uint8_t *)lend(RETURNS + 2);
+    struct testkit_returns_recorded due, single;
+    memcpy(times, when, sizeof when);
+    memcpy(lengths, long_as, sizeof long_as);
+    memcpy(tpdus, packet, make(4, 22));
+    make(4, 22);
+    packet[51] ^= 1;
+    memcpy(tpdus + 52, packet, 52);
+    make(4, 19);
+    memcpy(tpdus + 104, packet, 52);
+    make(4, 22);
+    memcpy(tpdus, packet, 52);
+    memcpy(tpdus + 156, packet, 30);
+
+    due.number = 0;
+    due.returns = RETURNS;
+    due.counts = counts_of(8, 102, 203, 304);
+    compare_testkit_returns_recorded(
+        "a list",
+        testkit_sheet_record_received_tpdus(
+            &one, times, RETURNS, lengths, RETURNS, tpdus, BYTES, returned, RETURNS + 1, answered, RETURNS + 2),
+        due);
+    expect("the first", answered[0], TESTKIT_ACCEPTED);
+    expect("the first's sequence", returned[0], 22);
+    expect("the second", answered[1], TESTKIT_INVALID_UDP_CHECKSUM);
+    expect("the second's sequence", returned[1], 0);
+    expect("the third", answered[2], TESTKIT_SEQUENCE_WAS_NOT_SENT);
+    expect("the third's sequence", returned[2], 19);
+    expect("the fourth", answered[3], TESTKIT_INVALID_IPV4_TOTAL_LENGTH);
+    expect("the fifth", answered[4], TESTKIT_TRUNCATED_IP_HEADER);
+    expect("that the rest stays", answered[5], 0xA5);
+    expect("that the rest stays", returned[5], 0xA5A5A5A5A5A5A5A5);
+    single = testkit_record_received_tpdus(
+        COLUMNS, times, RETURNS, lengths, RETURNS, tpdus, BYTES, returned, RETURNS + 1, answered, RETURNS + 2);
+    compare_testkit_returns_recorded("a list", single, due);
+    two.counts = single.counts;
+    expect_alike("a list");
+    row("row 6", 6, 22, 9002, 298, 1);
+
+    /* the same once more, in columns of which another one is the shortest each time */
+    for (size_t shortest = 0; shortest < 4; shortest++) {
+        due.returns = 1;
+        due.counts.duplicate_packets++;
+        compare_testkit_returns_recorded(
+            "a short list",
+            testkit_sheet_record_received_tpdus(
+                &one, times, shortest == 0 ? 1 : 5, lengths, shortest == 1 ? 1 : 5, tpdus, BYTES, returned,
+                shortest == 2 ? 1 : 6, answered, shortest == 3 ? 1 : 7),
+            due);
+    }
+    two.counts = one.counts;
+    due.returns = 0;
+    compare_testkit_returns_recorded(
+        "no list, null", testkit_sheet_record_received_tpdus(&one, NULL, 0, NULL, 0, NULL, 0, NULL, 0, NULL, 0), due);
+    due.returns = 1;
+    compare_testkit_returns_recorded(
+        "no bytes, null",
+        testkit_sheet_record_received_tpdus(&one, times, 1, lengths, 1, NULL, 0, returned, 1, answered, 1), due);
+    expect("the number of no bytes", answered[0], TESTKIT_TRUNCATED_IP_HEADER);
+
+    /* refused whole: nothing is written */
+    one.marks[1] = 2;
+    due.number = TESTKIT_MALFORMED_OBSERVER;
+    due.returns = 0;
+    answered[0] = 0xA5;
+    compare_testkit_returns_recorded(
+        "a list on a malformed sheet",
+        testkit_sheet_record_received_tpdus(&one, times, 1, lengths, 1, tpdus, BYTES, returned, 1, answered, 1), due);
+    expect("that it stays", answered[0], 0xA5);
+    one.marks[1] = 0;
+    expect_alike("after lists");
+}
+
+static void check_report(struct testkit_budget budget, struct testkit_continuity_report due)
+{
+    due.budget = budget;
+    compare_testkit_continuity_report("a report", testkit_sheet_report(&one, 55, 123456, budget), due);
+    compare_testkit_continuity_report("a report", testkit_report(COLUMNS, 55, 123456, budget), due);
+}
+
+static void check_verdict(
+    struct testkit_continuity_report report, struct testkit_budget budget, uint8_t reason, uint64_t measured,
+    uint64_t allowed)
+{
+    struct testkit_verdict due;
+    due.reason = reason;
+    due.measured = measured;
+    due.allowed = allowed;
+    compare_testkit_verdict("a verdict", testkit_judge_report(report, budget), due);
+}
+
+/* Of the rows 11 (latency 10), 13 (70), 14 (200) and 22 (298) returned; 12, 20 with 21, and 23 were lost. */
+static void reporting(void)
+{
+    struct testkit_continuity_report due;
+    memset(&due, 0, sizeof due);
+    due.window_start_ns = 55;
+    due.window_end_ns = 123456;
+    due.sent_packets = 8;
+    due.received_packets = 4;
+    due.lost_packets = 4;
+    due.duplicate_packets = 106;
+    due.out_of_order_packets = 203;
+    due.gtpu_error_indications = 304;
+    due.max_consecutive_lost_packets = 2;
+    due.max_gap_duration_ns = 123456 - 9005;
+    due.has_latency = true;
+    due.min_ns = 10;
+    due.max_ns = 298;
+    due.avg_ns = (10 + 70 + 200 + 298) / 4;
+    due.forwarding_proven = true;
+    check_report(budget_of(401, 402, 403), due);
+    due.budget = budget_of(401, 402, 403);
+    check_verdict(due, budget_of(3, 402, 403403), TESTKIT_VERDICT_TOO_MANY_LOST, 4, 3);
+    check_verdict(due, budget_of(4, 1, 403403), TESTKIT_VERDICT_TOO_MANY_IN_A_ROW, 2, 1);
+    check_verdict(due, budget_of(4, 2, 405), TESTKIT_VERDICT_OUTAGE_TOO_LONG, 123456 - 9005, 405);
+    check_verdict(due, budget_of(4, 2, 123456), TESTKIT_VERDICT_ERROR_INDICATED, 304, 0);
+    due.gtpu_error_indications = 0;
+    check_verdict(due, budget_of(4, 2, 123456), TESTKIT_VERDICT_PASS, 0, 0);
+
+    /* one return more makes lost and received differ; without Error Indications the budget is kept */
+    one.marks[4] = two.marks[4] = 1;
+    one.latencies[4] = two.latencies[4] = 77;
+    one.counts.gtpu_error_indications = two.counts.gtpu_error_indications = 0;
+    due.received_packets = 5;
+    due.lost_packets = 3;
+    due.max_consecutive_lost_packets = 1;
+    due.avg_ns = (10 + 70 + 200 + 298 + 77) / 5;
+    due.packet_continuity_proven = true;
+    check_report(budget_of(401, 402, 123457), due);
+    due.packet_continuity_proven = false;
+    check_report(budget_of(2, 402, 123457), due);
+
+    /* nothing returned */
+    one.counts = two.counts = counts_of(0, 1, 2, 3);
+    memset(&due, 0, sizeof due);
+    due.window_start_ns = 55;
+    due.window_end_ns = 123456;
+    due.duplicate_packets = 1;
+    due.out_of_order_packets = 2;
+    due.gtpu_error_indications = 3;
+    check_report(budget_of(401, 402, 403), due);
+    check_verdict(due, budget_of(401, 402, 403), TESTKIT_VERDICT_NOTHING_RETURNED, 0, 0);
+    one.counts = two.counts = counts_of(0, 0, 0, 0);
+    due.duplicate_packets = due.out_of_order_packets = due.gtpu_error_indications = 0;
+    due.packet_continuity_proven = true;
+    check_report(budget_of(401, 402, 403), due);
+
+    /* refused: the counts come back as they were */
+    one.counts = two.counts = counts_of(99, 101, 202, 303);
+    memset(&due, 0, sizeof due);
+    due.number = TESTKIT_MALFORMED_OBSERVER;
+    compare_testkit_continuity_report("no report", testkit_sheet_report(&one, 55, 123456, budget_of(1, 2, 3)), due);
+    check_verdict(due, budget_of(401, 402, 403), TESTKIT_VERDICT_NO_REPORT, 0, 0);
+    sent("a malformed sheet", 1, 2, TESTKIT_MALFORMED_OBSERVER, counts_of(99, 101, 202, 303));
+    sent_plan("a malformed sheet", plan_of(0, 1, 2), 3, TESTKIT_MALFORMED_OBSERVER, counts_of(99, 101, 202, 303));
+    received("a malformed sheet", 1, 0, TESTKIT_MALFORMED_OBSERVER, counts_of(99, 101, 202, 303));
+    message(
+        "a malformed sheet", 1, 77, elements, 12, TESTKIT_MALFORMED_OBSERVER, TESTKIT_OUTCOME_REFUSED, 0,
+        counts_of(99, 101, 202, 303));
+}
+
+/* Columns of length 0, by null. */
+static void no_columns(void)
+{
+    struct testkit_sheet none;
+    struct testkit_continuity_report due;
+    memset(&none, 0, sizeof none);
+    compare_testkit_recorded(
+        "no columns", testkit_sheet_record_sent(&none, 1, 2),
+        recorded_as(TESTKIT_OBSERVER_FULL, counts_of(0, 0, 0, 0)));
+    compare_testkit_recorded(
+        "no columns", testkit_sheet_record_sent_plan(&none, plan_of(1, 2, 3), 4),
+        recorded_as(TESTKIT_OBSERVER_FULL, counts_of(0, 0, 0, 0)));
+    compare_testkit_recorded(
+        "no columns", testkit_sheet_record_received_tpdu(&none, 1, NULL, 0),
+        recorded_as(TESTKIT_TRUNCATED_IP_HEADER, counts_of(0, 0, 0, 0)));
+    expect(
+        "no columns", testkit_sheet_record_return_gtpu_datagram(&none, 1, 26, elements, 12).outcome,
+        TESTKIT_OUTCOME_ERROR_INDICATION);
+    none.counts = counts_of(0, 0, 0, 0);
+    memset(&due, 0, sizeof due);
+    due.window_start_ns = 1;
+    due.window_end_ns = 2;
+    due.budget = budget_of(3, 4, 5);
+    due.packet_continuity_proven = true;
+    compare_testkit_continuity_report("no columns", testkit_sheet_report(&none, 1, 2, budget_of(3, 4, 5)), due);
+    expect("no bytes", testkit_sum(7, NULL, 0), 7);
+    expect("no bytes", testkit_checksum(NULL, 0), 0xffff);
+    expect("no bytes", testkit_verify(NULL, 0), false);
+}
+
+/* ---- The reflector ---- */
+
+static struct testkit_table table, twin;
+
+static struct testkit_socket_addr address_of(uint8_t version, uint8_t first, uint16_t port)
+{
+    struct testkit_socket_addr made;
+    made.version = version;
+    for (uint8_t k = 0; k < 16; k++) {
+        made.address[k] = (uint8_t)(first + k); /* behind an IPv4 address too */
+    }
+    made.port = port;
+    compare_testkit_socket_addr("an address that is handed in", made, made);
+    return made;
+}
+
+static struct testkit_reflector_session session_of(
+    uint32_t local_teid, uint32_t peer_teid, struct testkit_socket_addr peer)
+{
+    struct testkit_reflector_session made;
+    made.local_teid = local_teid;
+    made.peer_teid = peer_teid;
+    made.peer_addr = peer;
+    compare_testkit_reflector_session("a session that is handed in", made, made);
+    return made;
+}
+
+static void registered(
+    const char *what, struct testkit_reflector_session session, uint8_t number, bool added, size_t used)
+{
+    struct testkit_registered due;
+    due.number = number;
+    due.added = added;
+    due.used = used;
+    compare_testkit_registered(what, testkit_table_register_session(&table, session), due);
+    compare_testkit_registered(
+        what, testkit_register_session(twin.sessions, twin.capacity, twin.used, twin.config.max_sessions, session),
+        due);
+    twin.used = due.used;
+    expect(what, table.used, used);
+    expect_bytes(what, table.sessions, twin.sessions, table.capacity * sizeof *table.sessions);
+}
+
+static void removed(
+    const char *what, uint32_t local_teid, uint8_t number, bool was, size_t used,
+    struct testkit_reflector_session session)
+{
+    struct testkit_removed due;
+    due.number = number;
+    due.removed = was;
+    due.used = used;
+    due.session = session;
+    compare_testkit_removed(what, testkit_table_remove_session(&table, local_teid), due);
+    compare_testkit_removed(
+        what, testkit_remove_session(twin.sessions, twin.capacity, twin.used, twin.config.max_sessions, local_teid),
+        due);
+    twin.used = due.used;
+    expect(what, table.used, used);
+    expect_bytes(what, table.sessions, twin.sessions, table.capacity * sizeof *table.sessions);
+}
+
+static void open_table(struct testkit_table *opened)
+{
+    opened->sessions = (struct testkit_reflector_session *)lend(3 * sizeof *opened->sessions);
+    opened->capacity = 3;
+    opened->used = 0;
+    opened->config.max_sessions = 2;
+    opened->config.recovery_counter = 44;
+    opened->config.policy = TESTKIT_POLICY_ECHO;
+    opened->config.target = address_of(9, 60, 6060);
+    opened->config.target_teid = 0x66;
+    opened->state.gpdu_received = 1000;
+    opened->state.gpdu_forwarded = 2000;
+    opened->state.gpdu_sunk = 3000;
+    opened->state.echo_requests_answered = 4000;
+    opened->state.error_indications_sent = 5000;
+    opened->state.malformed_rejected = 6000;
+    opened->state.next_error_sequence = 65535;
+    compare_testkit_reflector_config("a configuration that is handed in", opened->config, opened->config);
+    compare_testkit_reflector_state("a state that is handed in", opened->state, opened->state);
+}
+
+static void session_table(void)
+{
+    static const struct testkit_reflector_session no_session = {0, 0, {0, {0}, 0}};
+    struct testkit_reflector_session first = session_of(0x11, 0x12, address_of(4, 20, 2020));
+    struct testkit_reflector_session second = session_of(0x21, 0x22, address_of(6, 40, 4040));
+    struct testkit_reflector_session other = first;
+    registered("a session", first, 0, true, 1);
+    other.peer_addr.address[9] ^= 1; /* behind the 4 bytes that count */
+    registered("the same session", other, 0, false, 1);
+    other.peer_addr.address[3] ^= 1;
+    registered("another of its TEID", other, TESTKIT_REFLECTOR_SESSION_CONFLICT, false, 1);
+    other = first;
+    other.peer_addr.port = 0;
+    registered("no port", other, TESTKIT_INVALID_REFLECTOR_SESSION, false, 1);
+    registered("a second session", second, 0, true, 2);
+    compare_testkit_reflector_session("the first row", table.sessions[0], first);
+    compare_testkit_reflector_session("the second row", table.sessions[1], second);
+    registered(
+        "a third session", session_of(0x31, 0x32, address_of(4, 1, 1)), TESTKIT_REFLECTOR_SESSION_CAPACITY_EXCEEDED,
+        false, 2);
+    removed("no session", 0x31, 0, false, 2, no_session);
+    removed("the first session", 0x11, 0, true, 1, first);
+    compare_testkit_reflector_session("the last row moved", table.sessions[0], second);
+    removed("the second session", 0x21, 0, true, 0, second);
+    registered("a session", first, 0, true, 1);
+    registered("a session", second, 0, true, 2);
+
+    table.config.max_sessions = twin.config.max_sessions = 0;
+    registered("no maximum", first, TESTKIT_INVALID_REFLECTOR_CAPACITY, false, 2);
+    removed("no maximum", 0x11, TESTKIT_INVALID_REFLECTOR_CAPACITY, false, 2, no_session);
+    table.config.max_sessions = twin.config.max_sessions = 4;
+    registered("too few rows", first, TESTKIT_MALFORMED_REFLECTOR_TABLE, false, 2);
+    removed("too few rows", 0x11, TESTKIT_MALFORMED_REFLECTOR_TABLE, false, 2, no_session);
+    table.config.max_sessions = twin.config.max_sessions = 2;
+}
+
+static struct testkit_gtpu_message message_of(uint8_t type, uint32_t teid, uint8_t has_sequence, uint16_t sequence)
+{
+    struct testkit_gtpu_message made;
+    made.message_type = type;
+    made.teid = teid;
+    made.has_sequence = has_sequence;
+    made.sequence = sequence;
+    compare_testkit_gtpu_message("a message that is handed in", made, made);
+    return made;
+}
+
+/* What is due where nothing is sent. */
+static struct testkit_handled nothing(uint8_t number, uint8_t action, uint8_t reason)
+{
+    struct testkit_handled made;
+    memset(&made, 0, sizeof made);
+    made.number = number;
+    made.action = action;
+    made.reason = reason;
+    made.destination.version = 4;
+    return made;
+}
+
+static struct testkit_handled sends(
+    uint8_t reason, size_t bytes, struct testkit_socket_addr destination, struct testkit_gtpu_message header)
+{
+    struct testkit_handled made = nothing(0, TESTKIT_ACTION_SEND, reason);
+    made.bytes = bytes;
+    made.destination = destination;
+    made.message = header;
+    return made;
+}
+
+/* A message on both tables; `state` is the state that is due afterwards. */
+static void handle(
+    const char *what, struct testkit_gtpu_message header, const uint8_t *bytes, size_t length,
+    struct testkit_handled due, struct testkit_reflector_state state)
+{
+    struct testkit_socket_addr source = address_of(7, 80, 8080);
+    const uint8_t *payload = bytes == NULL ? NULL : copy(bytes, length);
+    due.state = state;
+    compare_testkit_reflector_config("a configuration that is handed in", table.config, twin.config);
+    memset(out, 0xA5, PACKET);
+    compare_testkit_handled(
+        what, testkit_table_handle_datagram(&table, source, header, payload, length, out, PACKET), due);
+    compare_testkit_reflector_state(what, table.state, state);
+    compare_testkit_handled(
+        what,
+        testkit_handle_datagram(
+            twin.sessions, twin.capacity, twin.used, twin.config, twin.state, source, header, payload, length, out,
+            PACKET),
+        due);
+    twin.state = due.state;
+    expect("that the rest stays", due.bytes == PACKET || out[due.bytes] == 0xA5, true);
+}
+
+static void handling(void)
+{
+    struct testkit_reflector_state s = table.state;
+    struct testkit_socket_addr source = address_of(6, 80, 8080); /* every version but 4 is 6 in an answer */
+    struct testkit_socket_addr target = address_of(6, 60, 6060);
+    struct testkit_handled due;
+    size_t length = make(4, 5);
+
+    s.gpdu_received++;
+    s.gpdu_forwarded++;
+    handle(
+        "echo", message_of(255, 0x11, 9, 77), packet, length,
+        sends(TESTKIT_SEND_REFLECTED_GPDU, 52, address_of(4, 20, 2020), message_of(255, 0x12, 0, 0)), s);
+    expect("the echo's number", testkit_decode(out, 52, read_src, read_dst).number, TESTKIT_ACCEPTED);
+    expect_bytes("the echo's source", read_src, dst, 4);
+    s.gpdu_received++;
+    handle(
+        "echo, refused", message_of(255, 0x21, 0, 0), packet, length - 1,
+        nothing(TESTKIT_INVALID_IPV4_TOTAL_LENGTH, TESTKIT_ACTION_REFUSED, 0), s);
+    s.gpdu_received++;
+    handle(
+        "echo, null", message_of(255, 0x21, 0, 0), NULL, 0,
+        nothing(TESTKIT_TRUNCATED_IP_HEADER, TESTKIT_ACTION_REFUSED, 0), s);
+
+    s.error_indications_sent++;
+    s.next_error_sequence = 1;
+    handle(
+        "unknown", message_of(255, 0x01020304, 0, 0), packet, length,
+        sends(TESTKIT_SEND_ERROR_INDICATION, 24, source, message_of(26, 0, 1, 65535)), s);
+    expect("its elements", testkit_validate_elements(out, 24), TESTKIT_ACCEPTED);
+    expect_bytes("its TEID", out + 1, "\1\2\3\4", 4);
+    expect_bytes("its address", out + 8, source.address, 16);
+    s.error_indications_sent++;
+    s.next_error_sequence = 2;
+    handle(
+        "unknown, again", message_of(255, 0x31, 0, 0), packet, length,
+        sends(TESTKIT_SEND_ERROR_INDICATION, 24, source, message_of(26, 0, 1, 1)), s);
+
+    s.echo_requests_answered++;
+    handle(
+        "an Echo Request", message_of(1, 0, 200, 777), packet, 0,
+        sends(TESTKIT_SEND_ECHO_RESPONSE, 2, source, message_of(2, 0, 1, 777)), s);
+    expect("its recovery", out[0], 14);
+    expect("its recovery counter", out[1], 44);
+    s.malformed_rejected++;
+    handle(
+        "an Echo Request with a TEID", message_of(1, 5, 1, 777), packet, 0,
+        nothing(TESTKIT_ECHO_REQUEST_TEID_NOT_ZERO, TESTKIT_ACTION_REFUSED, 0), s);
+    s.malformed_rejected++;
+    handle(
+        "an Echo Request without sequence", message_of(1, 0, 0, 777), packet, 0,
+        nothing(TESTKIT_ECHO_REQUEST_MISSING_SEQUENCE, TESTKIT_ACTION_REFUSED, 0), s);
+    s.malformed_rejected++;
+    handle(
+        "an unknown type", message_of(77, 0, 0, 0), packet, 0,
+        nothing(TESTKIT_UNSUPPORTED_MESSAGE_TYPE, TESTKIT_ACTION_REFUSED, 0), s);
+    handle(
+        "an Echo Response", message_of(2, 0, 0, 0), packet, 0,
+        nothing(0, TESTKIT_ACTION_NOOP, TESTKIT_NOOP_ECHO_RESPONSE_OBSERVED), s);
+    handle(
+        "an Error Indication", message_of(26, 0, 0, 0), packet, 0,
+        nothing(0, TESTKIT_ACTION_NOOP, TESTKIT_NOOP_ERROR_INDICATION_OBSERVED), s);
+    handle(
+        "an End Marker", message_of(254, 0, 0, 0), packet, 0,
+        nothing(0, TESTKIT_ACTION_NOOP, TESTKIT_NOOP_END_MARKER_IGNORED), s);
+    handle(
+        "a notification", message_of(31, 0, 0, 0), packet, 0,
+        nothing(0, TESTKIT_ACTION_NOOP, TESTKIT_NOOP_SUPPORTED_EXTENSION_HEADERS_NOTIFICATION_IGNORED), s);
+
+    table.config.policy = twin.config.policy = TESTKIT_POLICY_SINK_AND_COUNT;
+    s.gpdu_received++;
+    s.gpdu_sunk++;
+    handle(
+        "sink", message_of(255, 0x21, 0, 0), packet, length, nothing(0, TESTKIT_ACTION_NOOP, TESTKIT_NOOP_GPDU_SUNK),
+        s);
+    table.config.policy = twin.config.policy = TESTKIT_POLICY_ROUTE;
+    s.gpdu_received++;
+    s.gpdu_forwarded++;
+    handle(
+        "route", message_of(255, 0x21, 0, 0), packet, length,
+        sends(TESTKIT_SEND_ROUTED_GPDU, 0, target, message_of(255, 0x66, 0, 0)), s);
+    table.config.policy = twin.config.policy = 200;
+    s.gpdu_received++;
+    s.gpdu_forwarded++;
+    handle(
+        "route, by another number", message_of(255, 0x21, 0, 0), packet, length,
+        sends(TESTKIT_SEND_ROUTED_GPDU, 0, target, message_of(255, 0x66, 0, 0)), s);
+
+    due = nothing(TESTKIT_OUTPUT_TOO_SHORT, TESTKIT_ACTION_REFUSED, 0);
+    due.state = s;
+    compare_testkit_handled(
+        "a short output",
+        testkit_table_handle_datagram(
+            &table, source, message_of(1, 0, 1, 2), packet, 0, out, TESTKIT_REFLECTOR_BYTES - 1),
+        due);
+    compare_testkit_handled(
+        "no output, null", testkit_table_handle_datagram(&table, source, message_of(1, 0, 1, 2), NULL, 0, NULL, 0),
+        due);
+    table.sessions = NULL;
+    table.capacity = 0;
+    table.used = 0;
+    due.number = TESTKIT_MALFORMED_REFLECTOR_TABLE;
+    compare_testkit_handled(
+        "no table, null", testkit_table_handle_datagram(&table, source, message_of(1, 0, 1, 2), NULL, 0, NULL, 0), due);
+    expect(
+        "no table, null", testkit_table_register_session(&table, twin.sessions[0]).number,
+        TESTKIT_MALFORMED_REFLECTOR_TABLE);
+    expect("no table, null", testkit_table_remove_session(&table, 1).number, TESTKIT_MALFORMED_REFLECTOR_TABLE);
+    table.config.max_sessions = 4097;
+    due.number = TESTKIT_INVALID_REFLECTOR_CAPACITY;
+    compare_testkit_handled(
+        "too large a maximum", testkit_table_handle_datagram(&table, source, message_of(1, 0, 1, 2), NULL, 0, NULL, 0),
+        due);
+}
+
+/* One byte outside what may be read or written, on either side: the pages stop it. */
+static const char *way = "plain";
+
+static void reads_outside(void)
+{
+    static const uint8_t bytes[4] = {1, 2, 3, 4};
+    const uint8_t *lent = copy(bytes, sizeof bytes);
+    testkit_sum(0, strcmp(way, "behind") == 0 ? lent - 1 : lent, sizeof bytes + 1);
+}
+
+static void writes_outside(void)
+{
+    testkit_build(6, src, dst, 1, 2, 3, 4, strcmp(way, "behind") == 0 ? out - 1 : out + 1, PACKET);
+}
+
+int main(int argc, char **argv)
+{
+    way = argc > 1 ? argv[1] : way;
+    lend_as(way);
+    src = (uint8_t *)lend(16);
+    dst = (uint8_t *)lend(16);
+    read_src = (uint8_t *)lend(16);
+    read_dst = (uint8_t *)lend(16);
+    packet = (uint8_t *)lend(PACKET);
+    out = (uint8_t *)lend(PACKET);
+    next_sequence = (uint64_t *)lend(sizeof *next_sequence);
+    for (uint8_t k = 0; k < 16; k++) {
+        src[k] = (uint8_t)(k + 1);
+        dst[k] = (uint8_t)(k + 101);
+    }
+    expect("that a byte outside is seen", stopped(reads_outside), true);
+    expect("that a byte outside is seen", stopped(writes_outside), true);
+    numbers();
+    packets(4);
+    packets(6);
+    generator();
+    element_lists();
+    open_sheet(&one);
+    open_sheet(&two);
+    sending();
+    returning();
+    returning_in_lists();
+    reporting();
+    no_columns();
+    open_table(&table);
+    open_table(&twin);
+    session_table();
+    handling();
+    expect_told_apart();
+    printf("%u fields compared, each with a value of its own\n", compared);
+    return EXIT_SUCCESS;
+}
