@@ -137,12 +137,15 @@ module _ (start end : ℕ) where
   abbrev longestOf : ℕ → Observer → Outcome (List Figure)
   longestOf until o = figures longest (reporting o start until zeroLoss)
 
+-- the rows of case 4
+case-4 : {o x : Outcome ℕ} → o ≡ x → figures (λ i. number i ∷ []) o ≡ figures (λ i. number i ∷ []) x
+case-4 e = ap (figures (λ i. number i ∷ [])) e
+
 pub eight-cases : EightCases
 unfolding EmptyList firstCause sumOf folding foldOf checksumOf addressLength address padded ipv4 ipv4Header ipv6 ipHeader pseudoHeader measurementMagic probe udpSegment nonzero udp buildOf payload lengthWrong covered sumWrong probeCauses udpCauses readProbe readUdp ipv6Causes readIpv6 tpduCauses readOf echoOf capacity rows wellFormed judged reportOf reporting
 eight-cases start end =
     let five = ap (longestOf start end end) returned-5 ∙ case-5 start end in
     let six = ap (longestOf start end 100) returned-2 ∙ case-6 start end in
     let six-early = ap (longestOf start end 15) returned-2 ∙ case-6-early start end in
-    let four : (o : Outcome ℕ) {x : Outcome ℕ} → o ≡ x → _≡_ {A = Outcome (List Figure)} (figures (λ i. number i ∷ []) o) (figures (λ i. number i ∷ []) x) = λ o e. ap (figures (λ i. number i ∷ [])) e in
     let eight : figures (λ u. []) (elementsOf []) ≡ refused 28 = ap (figures (λ u. [])) empty-list in
-    (refl, (refl, (refl, (refl, (four _ (intervals .one), (four _ (intervals .too-fast), (four _ (intervals .third), (five, (six, (six-early, (refl, (eight, tt))))))))))))
+    (refl, (refl, (refl, (refl, (case-4 (intervals .one), (case-4 (intervals .too-fast), (case-4 (intervals .third), (five, (six, (six-early, (refl, (eight, tt))))))))))))
