@@ -2,21 +2,24 @@
 -- Assumes nothing.
 use Prim.Native.Nat.{ℕ, _+_, _-_, _*_, _/_, _%_, _<_, _≤_}
 use native.Mathlib.Omega.{arith}
+use native.Mathlib.Nat.{min-le-left}
 use mathlib.Core.Path.{_≡_, refl, sym, ap, _∙_}
 use mathlib.Core.List.{List, [], _∷_, _++_}
 use mathlib.Core.Bool.{Bool, true, false, not}
 use lib.Dec.{ltb}
-use lib.ListN.{length, getD, replicate, length-append, length-replicate}
+use lib.ListN.{length, take, drop, getD, replicate, length-append, length-take, length-replicate}
+use lib.Seq.{take-at, drop-append-add}
 use borrow.Author.Tests.{ltb-true, ltb-false}
 use Rattle.field.specs.Field.{Bytes}
 use Rattle.checksum.specs.Sum.{sumOf, folding, foldOf, checksumOf, onesAdd, onesSum}
-use Rattle.checksum.specs.Damage.{isOne, lowBits, bits, Turned}
+use Rattle.checksum.specs.Damage.{isOne, lowBits, bits, bitsIn, Turned, TurnedWithin}
 use Rattle.checksum.specs.Claims.{Verifies, FoldedSum, SumInParts, PlacedVerifies, DamageFound, Undamaged, Clipped, DamageIs, Sharp, Examples}
 use Rattle.checksum.proofs.Carries.{fold-add, fold-low, fold-is, fold-like, Like, like-add, like-refl}
 use Rattle.checksum.proofs.Bits.{bit, length-bits}
 use Rattle.checksum.proofs.Sums.{sum-append, sealed}
 use Rattle.checksum.proofs.Burst.{burst}
 use Rattle.checksum.proofs.Clip.{turned-take, turned-drop, turned-front, turned-behind}
+use Rattle.checksum.proofs.Spans.{every-span, only-spans}
 
 -- ones' complement addition folds the carry of a plain sum
 ones-add : (a b : ℕ) → a < 65536 → b < 65536 → foldOf (a + b) ≡ onesAdd a b
@@ -80,109 +83,39 @@ same-sums x y e = omega (arith, fold-low (sumOf x), fold-low (sumOf y))
 unfound : (sent arrived : List ℕ) → Bytes sent → checksumOf arrived ≡ checksumOf sent → Turned sent arrived → arrived ≡ sent
 unfound sent arrived b e t = burst sent arrived b t (sym (same-sums arrived sent e))
 
-same-length : (sent arrived : List ℕ) (x y : List Bool) → length x ≡ length y → bits sent ≡ x → bits arrived ≡ y → length arrived ≡ length sent
-same-length sent arrived x y e p q = omega (arith, length-bits sent, length-bits arrived, ap length p, ap length q)
-
-one-bit : (sent arrived : List ℕ) → Bytes arrived → (before after : List Bool) (b : Bool)
-    → bits sent ≡ before ++ (b ∷ after) → bits arrived ≡ before ++ (not b ∷ after) → Turned sent arrived
-one-bit sent arrived bytes before after b p q = record {
-  same-length = same-length sent arrived (before ++ (b ∷ after)) (before ++ (not b ∷ after))
-      (length-append before (b ∷ after) ∙ sym (length-append before (not b ∷ after))) p q;
-  bytes = bytes;
-  before = before;
-  span = b ∷ [];
-  turned = not b ∷ [];
-  after = after;
-  sent-bits = p;
-  arrived-bits = q;
-  same-span = refl;
-  short = omega arith;
-  not-all = λ c e f. fewer (b ∷ []) c (omega arith) e;
-}
-
 -- bits of which the first two differ are not all equal
 unlike : (x c : Bool) (l m : List Bool) → x ∷ not x ∷ l ≡ c ∷ c ∷ m → ⊥
 unlike true c l m e = omega (arith, ap (λ (x : List Bool). bit (getD x 0 c)) e, ap (λ (x : List Bool). bit (getD x 1 c)) e)
 unlike false c l m e = omega (arith, ap (λ (x : List Bool). bit (getD x 0 c)) e, ap (λ (x : List Bool). bit (getD x 1 c)) e)
 
-abbrev zeroOnes : List Bool
-zeroOnes = false ∷ true ∷ false ∷ true ∷ false ∷ true ∷ false ∷ true ∷ []
+-- bits turned in a span of bytes that are written out
+in-span : (from width : ℕ) (sent arrived : List ℕ) → TurnedWithin from width sent arrived → width ≤ 16
+    → ((b : Bool) → bitsIn from width sent ≡ replicate 16 b → bitsIn from width arrived ≡ replicate 16 (not b) → ⊥) → Turned sent arrived
+in-span from width sent arrived t h n = every-span (record { from = from; width = width; within = t; short = h; not-all = n })
 
-abbrev oneZeros : List Bool
-oneZeros = true ∷ false ∷ true ∷ false ∷ true ∷ false ∷ true ∷ false ∷ []
-
-abbrev fourZeros : List Bool
-fourZeros = false ∷ false ∷ false ∷ false ∷ []
-
-sixteen-unequal : (sent arrived : List ℕ) → Bytes arrived → length arrived ≡ length sent → (before after : List Bool)
-    → bits sent ≡ before ++ ((zeroOnes ++ zeroOnes) ++ after) → bits arrived ≡ before ++ ((oneZeros ++ oneZeros) ++ after) → Turned sent arrived
-sixteen-unequal sent arrived bytes same before after p q = record {
-  same-length = same;
-  bytes = bytes;
-  before = before;
-  span = zeroOnes ++ zeroOnes;
-  turned = oneZeros ++ oneZeros;
-  after = after;
-  sent-bits = p;
-  arrived-bits = q;
-  same-span = refl;
-  short = omega arith;
-  not-all = λ c e f. unlike false c _ _ e;
-}
-
-fifteen-equal : Turned (0 ∷ 0 ∷ []) (127 ∷ 255 ∷ [])
-unfolding bits lowBits isOne
-fifteen-equal = record {
-  same-length = refl;
-  bytes = omega arith;
-  before = false ∷ [];
-  span = replicate 15 false;
-  turned = replicate 15 true;
-  after = [];
-  sent-bits = refl;
-  arrived-bits = refl;
-  same-span = refl;
-  short = omega arith;
-  not-all = λ c e f. fewer (replicate 15 false) c (omega arith) e;
-}
-
-sixteen-not-all : Turned (0 ∷ 0 ∷ []) (128 ∷ 1 ∷ [])
-unfolding bits lowBits isOne
-sixteen-not-all = record {
-  same-length = refl;
-  bytes = omega arith;
-  before = [];
-  span = replicate 16 false;
-  turned = true ∷ (replicate 14 false ++ (true ∷ []));
-  after = [];
-  sent-bits = refl;
-  arrived-bits = refl;
-  same-span = refl;
-  short = omega arith;
-  not-all = λ c e f. unlike true (not c) _ _ f;
-}
+one-bit : (sent arrived : List ℕ) → Bytes arrived → (before after : List Bool) (b : Bool)
+    → bits sent ≡ before ++ (b ∷ after) → bits arrived ≡ before ++ (not b ∷ after) → Turned sent arrived
+one-bit sent arrived bytes before after b p q =
+    let n = length before in
+    let behind : (x : Bool) → drop (n + 1) (before ++ (x ∷ after)) ≡ after = λ x. drop-append-add before (x ∷ after) 1 in
+    in-span n 1 sent arrived (record {
+      same-length = omega (arith, length-bits sent, length-bits arrived, ap length p, ap length q, length-append before (b ∷ after), length-append before (not b ∷ after));
+      bytes = bytes;
+      kept-before = rw (p, q) (take-at before (not b ∷ after) n refl ∙ sym (take-at before (b ∷ after) n refl));
+      kept-behind = rw (p, q) (behind (not b) ∙ sym (behind b));
+    }) (omega arith) (λ c e f. fewer (bitsIn n 1 sent) c (omega (arith, length-take 1 (drop n (bits sent)), min-le-left 1 (length (drop n (bits sent))))) e)
 
 pub damage-is : DamageIs
 unfolding bits lowBits isOne
 damage-is = record {
-  none = λ sent b. record {
-    same-length = refl;
-    bytes = b;
-    before = [];
-    span = [];
-    turned = [];
-    after = bits sent;
-    sent-bits = refl;
-    arrived-bits = refl;
-    same-span = refl;
-    short = omega arith;
-    not-all = λ c e f. fewer [] c (omega arith) e;
-  };
+  every-span = λ sent arrived g. every-span g;
+  only-spans = λ sent arrived t. only-spans t;
+  none = λ sent b. in-span 0 0 sent sent (record { same-length = refl; bytes = b; kept-before = refl; kept-behind = refl }) (omega arith) (λ c e f. fewer [] c (omega arith) e);
   one-bit = one-bit;
-  sixteen-unequal = sixteen-unequal _ _ (omega arith) refl [] [] refl refl;
-  over-three-bytes = sixteen-unequal _ _ (omega arith) refl fourZeros fourZeros refl refl;
-  fifteen-equal = fifteen-equal;
-  sixteen-not-all = sixteen-not-all;
+  sixteen-unequal = in-span 0 16 _ _ (record { same-length = refl; bytes = omega arith; kept-before = refl; kept-behind = refl }) (omega arith) (λ c e f. unlike false c _ _ e);
+  over-three-bytes = in-span 4 16 _ _ (record { same-length = refl; bytes = omega arith; kept-before = refl; kept-behind = refl }) (omega arith) (λ c e f. unlike false c _ _ e);
+  fifteen-equal = in-span 1 15 _ _ (record { same-length = refl; bytes = omega arith; kept-before = refl; kept-behind = refl }) (omega arith) (λ c e f. fewer _ c (omega arith) e);
+  sixteen-not-all = in-span 0 16 _ _ (record { same-length = refl; bytes = omega arith; kept-before = refl; kept-behind = refl }) (omega arith) (λ c e f. unlike true (not c) _ _ f);
   not-sixteen-equal = λ t. differ 255 0 (ap first (unfound _ _ (omega arith) (sharp .sixteen-equal) t)) (omega arith);
   not-sixteen-across = λ t. differ 0 255 (ap second (unfound _ _ (omega arith) (sharp .sixteen-across) t)) (omega arith);
   not-seventeen = λ t. differ 0 1 (ap second (unfound _ _ (omega arith) (sharp .seventeen) t)) (omega arith);

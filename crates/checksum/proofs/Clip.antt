@@ -102,7 +102,7 @@ turned-front x {s} {a} p t =
       after = t .after;
       sent-bits = bits-append x s ∙ rw (t .sent-bits, append-assoc);
       arrived-bits = bits-append x a ∙ rw (t .arrived-bits, append-assoc);
-      short = t .short;
+      short = omega (arith, t .short);
       same-span = t .same-span;
       not-all = t .not-all;
     }

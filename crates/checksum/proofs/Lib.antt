@@ -2,6 +2,7 @@
 pub mod Carries
 pub mod Bits
 pub mod Clip
+pub mod Spans
 pub mod Spot
 pub mod Sums
 pub mod Burst

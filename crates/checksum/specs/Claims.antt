@@ -1,13 +1,13 @@
 -- What is claimed of the checksum. proofs/Claims.antt proves each claim, for a list of bytes of every length.
 -- Assumes nothing.
-use Prim.Native.Nat.{ℕ, _+_, _-_, _/_, _%_}
+use Prim.Native.Nat.{ℕ, _+_, _-_, _/_, _%_, _≤_}
 use mathlib.Core.Path.{_≡_}
 use mathlib.Core.List.{List, [], _∷_, _++_}
 use mathlib.Core.Bool.{Bool, not}
-use lib.ListN.{length, take, drop}
+use lib.ListN.{length, take, drop, replicate}
 use Rattle.field.specs.Field.{Bytes}
 use Rattle.checksum.specs.Sum.{sumOf, foldOf, checksumOf, onesSum}
-use Rattle.checksum.specs.Damage.{bits, Turned}
+use Rattle.checksum.specs.Damage.{bits, bitsIn, Turned, TurnedWithin}
 
 -- RFC 1071 (3): "If the result is all 1 bits .., the check succeeds."
 abbrev pub Verifies : List ℕ → Type 0
@@ -42,9 +42,20 @@ pub record Clipped : Type 0 where
   pub behind : (front sent arrived : List ℕ) → Bytes front → Turned sent arrived → Turned (front ++ sent) (front ++ arrived)
   pub ahead : (back sent arrived : List ℕ) → Bytes back → Turned sent arrived → Turned (sent ++ back) (arrived ++ back)
 
+-- Every bit that is turned lies in one span, from whatever bit on, of at most 16 bits, which is not 16 equal bits all turned.
+pub record SpanTurned (sent arrived : List ℕ) : Type 0 where
+  pub from : ℕ
+  pub width : ℕ
+  pub within : TurnedWithin from width sent arrived
+  pub short : width ≤ 16
+  pub not-all : (b : Bool) → bitsIn from width sent ≡ replicate 16 b → bitsIn from width arrived ≡ replicate 16 (not b) → ⊥
+
 -- What counts as damage, and what does not.
 pub record DamageIs : Type 0 where
-  -- no bit turned
+  -- for every list of bytes: what is turned in such a span, and nothing else
+  pub every-span : (sent arrived : List ℕ) → SpanTurned sent arrived → Turned sent arrived
+  pub only-spans : (sent arrived : List ℕ) → Turned sent arrived → SpanTurned sent arrived
+  -- so: no bit turned
   pub none : (sent : List ℕ) → Bytes sent → Turned sent sent
   -- any one bit turned, wherever it stands
   pub one-bit : (sent arrived : List ℕ) → Bytes arrived → (before after : List Bool) (b : Bool)

@@ -1,11 +1,11 @@
 -- Damage as demand 3 has it: bits turn "within one span of at most 16 neighbouring bits .., length kept, and the span not 16 equal bits
 -- all turned".
 -- Assumes nothing.
-use Prim.Native.Nat.{ℕ, zero, suc, _+_, _*_, _/_, _%_, _≤_}
+use Prim.Native.Nat.{ℕ, zero, suc, _+_, _/_, _%_, _≤_}
 use mathlib.Core.Path.{_≡_}
 use mathlib.Core.List.{List, [], _∷_, _++_}
 use mathlib.Core.Bool.{Bool, true, false, not}
-use lib.ListN.{length, replicate}
+use lib.ListN.{length, take, drop, replicate}
 use Rattle.field.specs.Field.{Bytes}
 
 -- A binary digit as a bit.
@@ -40,3 +40,14 @@ pub record Turned (sent arrived : List ℕ) : Type 0 where
   pub short : length span ≤ 16
   -- "not 16 equal bits all turned": 0x0000 and 0xffff are one number to a ones' complement sum
   pub not-all : (b : Bool) → span ≡ replicate 16 b → turned ≡ replicate 16 (not b) → ⊥
+
+-- The bits of a message in a span: `width` neighbouring bits from bit `from` on.
+abbrev pub bitsIn : ℕ → ℕ → List ℕ → List Bool
+bitsIn from width message = take width (drop from (bits message))
+
+-- No bit outside the span is turned, and the length is kept.
+pub record TurnedWithin (from width : ℕ) (sent arrived : List ℕ) : Type 0 where
+  pub same-length : length arrived ≡ length sent
+  pub bytes : Bytes arrived
+  pub kept-before : take from (bits arrived) ≡ take from (bits sent)
+  pub kept-behind : drop (from + width) (bits arrived) ≡ drop (from + width) (bits sent)

@@ -6,9 +6,11 @@ use native.Mathlib.Decide.{decLt}
 use native.Mathlib.Nat.{div-div-eq-div-mul, div-one, div-eq-of-lt, pow-suc, add-suc, add-zero}
 use mathlib.Core.Path.{_≡_, refl, sym, ap, ap₂, _∙_}
 use mathlib.Core.List.{List, [], _∷_, _++_}
+use mathlib.Core.Bool.{true}
+use borrow.Author.Tests.{eq-eqb}
 use lib.ListN.{length, take, drop, getD}
 use lib.Seq.{drop-cons, getD-take, getD-drop, take-at, take-all}
-use Rattle.field.specs.Field.{Bytes, bigEndian, number, bytesAt, field}
+use Rattle.field.specs.Field.{Bytes, sameBytes, bigEndian, number, bytesAt, field}
 
 -- bytes
 pub bytes-take : (n : ℕ) (l : List ℕ) → Bytes l → Bytes (take n l)
@@ -33,6 +35,10 @@ byte-of (b ∷ l) (suc i) h = byte-of l i (h .1)
 pub bytes-at : (width at : ℕ) (l : List ℕ) → Bytes l → Bytes (bytesAt width at l)
 bytes-at zero at l h = tt
 bytes-at (suc width) at l h = (byte-of l at h, bytes-at width (suc at) l h)
+
+pub same-as-itself : (l : List ℕ) → sameBytes l l ≡ true
+same-as-itself [] = refl
+same-as-itself (x ∷ l) = rw (eq-eqb x x refl) (same-as-itself l)
 
 -- what a slice of bytes tells of its elements
 pub bytes-of : (l : List ℕ) → ((i : ℕ) → getD l i 0 < 256) → Bytes l

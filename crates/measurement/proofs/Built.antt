@@ -16,8 +16,8 @@ use Rattle.field.proofs.Fields.{number-big-endian, length-bytesAt, bytes-at, by
 use Rattle.checksum.specs.Sum.{sumOf, foldOf, checksumOf}
 use Rattle.checksum.proofs.Carries.{fold-low, fold-ones, fold-whole}
 use Rattle.checksum.proofs.Sums.{sum-append}
-use Rattle.measurement.specs.Packet.{addressLength, padded, ipv4, ipv4Header, ipv6, ipHeader, ipHeaderLength, pseudoHeader, udp, udpSegment, probe, measurementMagic, nonzero}
-use Rattle.measurement.specs.Read.{payload, lengthWrong, covered, sumWrong, probeCauses, tpduOf, readProbe, readUdp, ihl, readOf}
+use Rattle.measurement.specs.Packet.{addressLength, ipv4, ipv4Header, ipv6, ipHeader, ipHeaderLength, pseudoHeader, udp, udpSegment, probe, measurementMagic, nonzero}
+use Rattle.measurement.specs.Read.{payload, lengthWrong, covered, sumWrong, probeCauses, tpduWith, tpduOf, readProbe, readUdp, ihl, readOf}
 use Rattle.measurement.specs.declared.DecodedTpdu.{DecodedTpdu}
 use Rattle.measurement.specs.declared.IpVersion.{IpVersion}
 use Rattle.measurement.specs.declared.IpVersion.the-variants.{V4, V6}
@@ -184,23 +184,15 @@ module _ (v : IpVersion) (S D : List ℕ) (sport dport s t : ℕ) where
   packet-bytes p q = bytes-append (ipHeader v source destination) (udp pseudo sport dport s t) (header-bytes v S D p q) (segment-bytes pseudo packet-even sport dport s t)
 
   abbrev pub tpdu : DecodedTpdu
-  tpdu = record {
-    flow = record { version = v; src = padded source; dst = padded destination; «src_port» = sport; «dst_port» = dport };
-    measurement = record { sequence = s; «send_timestamp_ns» = t };
-  }
+  tpdu = tpduWith v source destination sport dport s t
 
   -- the fields of the segment are the numbers that were put there
   pub tpdu-is : sport < 65536 → dport < 65536 → s < 2 ^ 64 → t < 2 ^ 64 → tpduOf v source destination (udp pseudo sport dport s t) ≡ tpdu
   unfolding udp udpSegment probe measurementMagic payload
   tpdu-is hs hd ss st =
-      ap₂ (λ (a b : ℕ). record {
-        flow = record { version = v; src = padded source; dst = padded destination; «src_port» = a; «dst_port» = b };
-        measurement = record { sequence = number (bigEndian 8 s); «send_timestamp_ns» = number (bigEndian 8 t) };
-      }) (number-big-endian 2 sport hs) (number-big-endian 2 dport hd)
-      ∙ ap₂ (λ (a b : ℕ). record {
-        flow = record { version = v; src = padded source; dst = padded destination; «src_port» = sport; «dst_port» = dport };
-        measurement = record { sequence = a; «send_timestamp_ns» = b };
-      }) (number-big-endian 8 s ss) (number-big-endian 8 t st)
+      ap₂ (λ (a b : ℕ). tpduWith v source destination a b (number (bigEndian 8 s)) (number (bigEndian 8 t)))
+      (number-big-endian 2 sport hs) (number-big-endian 2 dport hd)
+      ∙ ap₂ (λ (a b : ℕ). tpduWith v source destination sport dport a b) (number-big-endian 8 s ss) (number-big-endian 8 t st)
 
   part-of-packet : sport < 65536 → dport < 65536 → s < 2 ^ 64 → t < 2 ^ 64 → gives tpdu ≡ readUdp v source destination (udp pseudo sport dport s t)
   part-of-packet hs hd ss st =

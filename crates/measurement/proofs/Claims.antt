@@ -160,6 +160,7 @@ read-in-range b r bytes e = go (accepted b r e)
 -- and its flow is canonical, so building and reading give it back
 part-canonical : (v : IpVersion) (src dst u : List ℕ) (r : DecodedTpdu) → padded (address v (padded src)) ≡ padded src → padded (address v (padded dst)) ≡ padded dst
     → readUdp v src dst u ≡ gives r → canonical (r .flow) ≡ r .flow
+unfolding address padded addressLength
 part-canonical v src dst u r hs hd e =
     rw (part-accepted src dst u r v e .is)
     (ap₂ (λ (x y : List ℕ). record { version = v; src = x; dst = y; «src_port» = field 2 0 u; «dst_port» = field 2 2 u }) hs hd)
@@ -200,9 +201,10 @@ module _ (d : DecodedTpdu) (x a : List ℕ) (w : Build d x) (q : Turned x a) whe
   whole-read : readOf x ≡ gives d
   whole-read = ap readOf (w .is) ∙ reads-back-alone (w .flow) (w .sequence) (w .time) (w .in-range) ∙ ap gives (w .begins)
 
-  same : (r : DecodedTpdu) → readOf a ≡ gives r → r ≡ d
+  -- what is read of the damaged T-PDU is what the leg began with
+  gives-what-began : (r : DecodedTpdu) → readOf a ≡ gives r → r ≡ d
   unfolding buildOf address
-  same r e =
+  gives-what-began r e =
       let f = w .flow in
       let g = w .in-range in
       leg (f .src) (f .dst) (f .«src_port») (f .«dst_port») (w .sequence) (w .time) (g .source) (g .destination) (g .source-port) (g .destination-port) (g .sequence) (g .time)
@@ -214,8 +216,8 @@ module _ (d : DecodedTpdu) (x a : List ℕ) (w : Build d x) (q : Turned x a) whe
       go : (o : Outcome DecodedTpdu) → readOf a ≡ o → DamageOfOneLeg d x a
       go (refused n) e = record { reading = rw e tt; echoing = rw (echo-refused a n e) tt; undamaged-echo = echo-given x d whole-read }
       go (gives r) e = record {
-        reading = rw e (ap gives (same r e));
-        echoing = rw (echo-given a r e) (ap (λ (c : DecodedTpdu). gives (echoOfTpdu c)) (same r e) ∙ sym (echo-given x d whole-read));
+        reading = rw e (ap gives (gives-what-began r e));
+        echoing = rw (echo-given a r e) (ap (λ (c : DecodedTpdu). gives (echoOfTpdu c)) (gives-what-began r e) ∙ sym (echo-given x d whole-read));
         undamaged-echo = echo-given x d whole-read;
       }
 

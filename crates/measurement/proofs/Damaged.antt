@@ -18,8 +18,8 @@ use Rattle.checksum.proofs.Carries.{Same, split, fold-same, fold-low}
 use Rattle.checksum.proofs.Sums.{sum-append}
 use Rattle.checksum.proofs.Burst.{burst-same}
 use Rattle.checksum.proofs.Spot.{spot, kept-ahead, kept-behind}
-use Rattle.measurement.specs.Packet.{addressLength, pseudoHeader, padded}
-use Rattle.measurement.specs.Read.{payload, lengthWrong, covered, sumWrong, tpduOf}
+use Rattle.measurement.specs.Packet.{addressLength, pseudoHeader}
+use Rattle.measurement.specs.Read.{payload, lengthWrong, covered, sumWrong, tpduWith, tpduOf}
 use Rattle.measurement.specs.declared.DecodedTpdu.{DecodedTpdu}
 use Rattle.measurement.specs.declared.IpVersion.{IpVersion}
 use Rattle.measurement.specs.declared.IpVersion.the-variants.{V4, V6}
@@ -114,10 +114,7 @@ whole-length u h r k =
     omega (arith, length-take (field 2 4 u - 8) (drop 8 u), min-le-left (field 2 4 u - 8) (length (drop 8 u)))
 
 abbrev made : List ℕ → List ℕ → List ℕ → List ℕ → List ℕ → List ℕ → DecodedTpdu
-made src dst sp dp s t = record {
-  flow = record { version = V4; src = padded src; dst = padded dst; «src_port» = number sp; «dst_port» = number dp };
-  measurement = record { sequence = number s; «send_timestamp_ns» = number t };
-}
+made src dst sp dp s t = tpduWith V4 src dst (number sp) (number dp) (number s) (number t)
 
 zero-field : (l l' : List ℕ) → Bytes l → Turned l l' → length (drop 8 l') ≡ 32 → (field 2 6 (drop 8 l) ≡ 0 → ⊥) → field 2 6 (drop 8 l') ≡ 0
     → field 2 4 (drop 8 l) ≡ 32 → lengthWrong (drop 8 l') ≡ false → 24 ≤ length (payload (drop 8 l'))

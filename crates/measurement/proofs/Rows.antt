@@ -13,7 +13,7 @@ use Rattle.error.proofs.Causes.{here, later, none, past, refuses, passes}
 use Rattle.error.proofs.Tests.{or-left, or-right, or-none, or-neither, and-left, and-right, and-both, differs, equals}
 use Rattle.field.specs.Field.{number, bytesAt, field}
 use Rattle.checksum.specs.Sum.{checksumOf}
-use Rattle.measurement.specs.Packet.{measurementMagic, padded}
+use Rattle.measurement.specs.Packet.{measurementMagic}
 use Rattle.measurement.specs.Read.{payload, lengthWrong, sumWrong, probeCauses, udpCauses, tpduOf, readProbe, readUdp, ihl, ipv4Causes, readIpv4, ipv6Causes, readIpv6, tpduCauses, readOf}
 use Rattle.measurement.specs.declared.DecodedTpdu.{DecodedTpdu}
 use Rattle.measurement.specs.declared.IpVersion.{IpVersion}
@@ -61,23 +61,6 @@ module _ (v : IpVersion) (src dst u : List ℕ) {n : ℕ} (en : n ≡ field 2 4 
     pub probe-gives : x ≡ 0x4f50434450544b31 → gives (tpduOf v src dst u) ≡ readProbe v src dst u
     unfolding readProbe probeCauses measurementMagic
     probe-gives h = passes _ (past not-short (past (equals (field 8 0 (payload u)) 0x4f50434450544b31 (sym first ∙ h)) none))
-
-    -- with the values as the code read them
-    pub probe-made : {a b s t : ℕ} → x ≡ 0x4f50434450544b31 → a ≡ field 2 0 u → b ≡ field 2 2 u → s ≡ field 8 8 body → t ≡ field 8 16 body
-        → gives (record {
-          flow = record { version = v; src = padded src; dst = padded dst; «src_port» = a; «dst_port» = b };
-          measurement = record { sequence = s; «send_timestamp_ns» = t };
-        }) ≡ readProbe v src dst u
-    probe-made {a} {b} {s} {t} h ea eb es et =
-        ap₂ (λ (a b : ℕ). gives (made a b s t)) ea eb
-        ∙ ap₂ (λ (s t : ℕ). gives (made (field 2 0 u) (field 2 2 u) s t)) (es ∙ ap (λ (l : List ℕ). field 8 8 l) body-is) (et ∙ ap (λ (l : List ℕ). field 8 16 l) body-is)
-        ∙ probe-gives h
-      where
-        made : ℕ → ℕ → ℕ → ℕ → DecodedTpdu
-        made a b s t = record {
-          flow = record { version = v; src = padded src; dst = padded dst; «src_port» = a; «dst_port» = b };
-          measurement = record { sequence = s; «send_timestamp_ns» = t };
-        }
 
 -- the UDP part: IPv4 judges 10, then 12 unless the field is 0; IPv6 judges 11, 12, then 10
 module _ (v : IpVersion) (src dst u : List ℕ) where

@@ -52,12 +52,17 @@ udpCauses V6 source destination part =
     ∷ (lengthWrong part ⇒ invalidUdpLength)
     ∷ []
 
--- What a part gives, where it is not refused: the flow with its addresses padded, the sequence and the send time.
-abbrev pub tpduOf : IpVersion → List ℕ → List ℕ → List ℕ → DecodedTpdu
-tpduOf v source destination part = record {
-  flow = record { version = v; src = padded source; dst = padded destination; «src_port» = field 2 0 part; «dst_port» = field 2 2 part };
-  measurement = record { sequence = field 8 8 (payload part); «send_timestamp_ns» = field 8 16 (payload part) };
+-- What is given of these values: the flow with its addresses padded, the sequence and the send time.
+abbrev pub tpduWith : IpVersion → List ℕ → List ℕ → ℕ → ℕ → ℕ → ℕ → DecodedTpdu
+tpduWith v source destination sourcePort destinationPort sequence time = record {
+  flow = record { version = v; src = padded source; dst = padded destination; «src_port» = sourcePort; «dst_port» = destinationPort };
+  measurement = record { sequence = sequence; «send_timestamp_ns» = time };
 }
+
+-- What a part gives, where it is not refused: the values that stand in it.
+abbrev pub tpduOf : IpVersion → List ℕ → List ℕ → List ℕ → DecodedTpdu
+tpduOf v source destination part =
+    tpduWith v source destination (field 2 0 part) (field 2 2 part) (field 8 8 (payload part)) (field 8 16 (payload part))
 
 unfoldable pub readProbe : IpVersion → List ℕ → List ℕ → List ℕ → Outcome DecodedTpdu
 readProbe v source destination part = firstCause (probeCauses (payload part)) (gives (tpduOf v source destination part))

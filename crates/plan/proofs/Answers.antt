@@ -5,9 +5,10 @@ use native.Mathlib.Omega.{arith}
 use mathlib.Core.Path.{_≡_, refl, sym, ap, _∙_}
 use mathlib.Core.List.{List}
 use Rattle.error.specs.Outcome.{Outcome, refused, gives}
+use Rattle.error.proofs.Causes.{refused-gives}
 use Rattle.measurement.specs.declared.MeasurementHeader.{MeasurementHeader}
-use Rattle.plan.specs.Plan.{top, interval, timeAt, judgePlan}
-use Rattle.plan.specs.Judge.{intervalAnswer, judgedPlan, Planned}
+use Rattle.plan.specs.Plan.{top, interval, intervalMeans, timeAt, judgePlan}
+use Rattle.plan.specs.Judge.{intervalJudged, Judges, Planned}
 use Rattle.plan.specs.Claims.{Acceptable, accepted}
 use Rattle.plan.specs.declared.Interval.the-variants as answer
 use Rattle.plan.specs.declared.JudgedPlan.{JudgedPlan}
@@ -19,41 +20,30 @@ behind-last : (n next : ℕ) → next ≤ top → ((k : ℕ) → k < n → next 
 behind-last zero next low all = omega arith
 behind-last (suc n) next low all = omega (arith, all n (omega arith))
 
-module _ (plan : TrafficPlan) (next : ℕ) (r : JudgedPlan) (e : r ≡ judgedPlan plan (judgePlan plan next)) where
-  interval-is : r .interval ≡ intervalAnswer (interval (plan .«target_rate_pps»)) (judgePlan plan next .outcome)
-  interval-is = ap (λ (x : JudgedPlan). x .interval) e
-
+module _ (plan : TrafficPlan) (next : ℕ) (r : JudgedPlan) (e : Judges plan r (judgePlan plan next)) where
   pub next-is : r .«next_sequence» ≡ judgePlan plan next .next
-  next-is = ap (λ (x : JudgedPlan). x .«next_sequence») e
+  next-is = e .next
 
   pub answer-refused : (n : ℕ) → r .interval ≡ answer.Refused n → judgePlan plan next .outcome ≡ refused n
-  unfolding intervalAnswer
-  answer-refused n a = go (judgePlan plan next .outcome) refl (sym a ∙ interval-is)
+  answer-refused n a = go (judgePlan plan next .outcome) refl (sym (ap intervalMeans a) ∙ e .outcome)
     where
-      go : (o : Outcome (List MeasurementHeader)) → judgePlan plan next .outcome ≡ o
-          → answer.Refused n ≡ intervalAnswer (interval (plan .«target_rate_pps»)) (judgePlan plan next .outcome)
+      go : (o : Outcome (List MeasurementHeader)) → judgePlan plan next .outcome ≡ o → refused n ≡ intervalJudged plan (judgePlan plan next .outcome)
           → judgePlan plan next .outcome ≡ refused n
       go (refused m) q f =
-          let g : answer.Refused n ≡ answer.Refused m = f ∙ ap (intervalAnswer (interval (plan .«target_rate_pps»))) q in
+          let g : _≡_ {A = Outcome ℕ} (refused n) (refused m) = f ∙ ap (intervalJudged plan) q in
           let same : m ≡ n = cc in
           q ∙ ap refused same
-      go (gives p) q f =
-          let g : answer.Refused n ≡ answer.Nanoseconds (interval (plan .«target_rate_pps»)) = f ∙ ap (intervalAnswer (interval (plan .«target_rate_pps»))) q in
-          let z : _≡_ {A = ℕ} 0 1 = cc in absurd (omega arith)
+      go (gives p) q f = absurd (refused-gives (f ∙ ap (intervalJudged plan) q))
 
   pub answer-accepted : (i : ℕ) → r .interval ≡ answer.Nanoseconds i
       → (i ≡ interval (plan .«target_rate_pps»)) × Acceptable plan next × (judgePlan plan next ≡ accepted plan next)
-  unfolding intervalAnswer
-  answer-accepted i a = go (judgePlan plan next .outcome) refl (sym a ∙ interval-is)
+  answer-accepted i a = go (judgePlan plan next .outcome) refl (sym (ap intervalMeans a) ∙ e .outcome)
     where
-      go : (o : Outcome (List MeasurementHeader)) → judgePlan plan next .outcome ≡ o
-          → answer.Nanoseconds i ≡ intervalAnswer (interval (plan .«target_rate_pps»)) (judgePlan plan next .outcome)
+      go : (o : Outcome (List MeasurementHeader)) → judgePlan plan next .outcome ≡ o → gives i ≡ intervalJudged plan (judgePlan plan next .outcome)
           → (i ≡ interval (plan .«target_rate_pps»)) × Acceptable plan next × (judgePlan plan next ≡ accepted plan next)
-      go (refused m) q f =
-          let g : answer.Nanoseconds i ≡ answer.Refused m = f ∙ ap (intervalAnswer (interval (plan .«target_rate_pps»))) q in
-          let z : _≡_ {A = ℕ} 0 1 = cc in absurd (omega arith)
+      go (refused m) q f = absurd (refused-gives (sym (f ∙ ap (intervalJudged plan) q)))
       go (gives p) q f =
-          let g : answer.Nanoseconds i ≡ answer.Nanoseconds (interval (plan .«target_rate_pps»)) = f ∙ ap (intervalAnswer (interval (plan .«target_rate_pps»))) q in
+          let g : gives i ≡ gives (interval (plan .«target_rate_pps»)) = f ∙ ap (intervalJudged plan) q in
           let same : i ≡ interval (plan .«target_rate_pps») = cc in
           let h = plan-accepted plan next p q in
           (same, h .0, h .1)

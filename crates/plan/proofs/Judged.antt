@@ -3,7 +3,7 @@
 -- Assumes nothing.
 use Prim.Native.Nat.{ℕ, zero, suc, _+_, _-_, _*_, _/_, _<_, _≤_}
 use native.Mathlib.Omega.{arith}
-use mathlib.Core.Path.{_≡_, refl, sym, ap, _∙_}
+use mathlib.Core.Path.{_≡_, refl, sym, ap, subst, _∙_}
 use mathlib.Core.List.{List, [], _∷_}
 use mathlib.Core.Bool.{Bool, true, false}
 use lib.Dec.{ltb}
@@ -13,10 +13,11 @@ use Rattle.error.specs.Outcome.{refused, gives, Cause, _⇒_}
 use Rattle.error.proofs.Causes as causes
 use Rattle.error.proofs.Causes.{refuses-front, refuses-behind, passes-both}
 use Rattle.measurement.specs.declared.MeasurementHeader.{MeasurementHeader}
-use Rattle.plan.specs.Plan.{top, interval, rateCauses, intervalOf, timeAt, leaving, causesAt, causesFrom, judgePackets, planCauses, judgePlan}
-use Rattle.plan.specs.Judge.{InTime, Timed, intervalAnswer, judgedPlan}
+use Rattle.plan.specs.Plan.{top, interval, rateCauses, intervalOf, timeAt, Judged, leaving, causesAt, causesFrom, judgePackets, planCauses, judgePlan}
+use Rattle.plan.specs.Judge.{InTime, Timed, Judges}
 use Rattle.plan.specs.Claims.{Acceptable, accepted}
 use Rattle.plan.specs.declared.Interval.the-variants as answer
+use Rattle.plan.specs.declared.JudgedPlan.{JudgedPlan}
 use Rattle.plan.specs.declared.TrafficPlan.{TrafficPlan}
 use Rattle.plan.proofs.Rows.{refusedAt, Refuses, here, later, Passes, none, past, refuses, passes, passed, leaving-refuses, leaving-passes, passed-leaving, passed-both, refused-by}
 
@@ -147,27 +148,26 @@ module _ (first i count : ℕ) (low : first ≤ top) (p : 0 < i) where
   pub in-time-all : count ≤ last → InTime first i count count
   in-time-all h = record { within = omega arith; before = λ k l. fits k (omega arith); at = λ l. absurd (omega arith) }
 
+pub judges-as : (plan : TrafficPlan) {r : JudgedPlan} {x y : Judged} → Judges plan r x → x ≡ y → Judges plan r y
+judges-as plan {r} h e = subst (Judges plan r) e h
+
 -- the closed form
 module _ (plan : TrafficPlan) (next i r : ℕ) (timed : Timed plan i) (in-time : InTime (plan .«first_send_timestamp_ns») i (plan .«packet_count») r) where
   time-before : (k : ℕ) → k < r → timeAt plan k ≤ top
   time-before k h = rw (sym (timed .is)) (in-time .before k h)
 
   pub closed-19 : next ≤ top → top - next < plan .«packet_count» → top - next ≤ r
-      → record { interval = answer.Refused 19; «next_sequence» = next + (top - next) } ≡ judgedPlan plan (judgePackets plan next)
-  unfolding intervalAnswer
-  closed-19 h l e = ap (judgedPlan plan) (judged-19 plan next (top - next) l (omega arith) (λ k u. (omega arith, time-before k (omega arith))))
+      → Judges plan (record { interval = answer.Refused 19; «next_sequence» = next + (top - next) }) (judgePackets plan next)
+  closed-19 h l e = judges-as plan (record { outcome = refl; next = refl }) (judged-19 plan next (top - next) l (omega arith) (λ k u. (omega arith, time-before k (omega arith))))
 
   pub closed-20 : r < plan .«packet_count» → r < top - next
-      → record { interval = answer.Refused 20; «next_sequence» = next + r + 1 } ≡ judgedPlan plan (judgePackets plan next)
-  unfolding intervalAnswer
-  closed-20 l h = ap (judgedPlan plan) (judged-20 plan next r l (omega arith) (λ k u. (omega arith, time-before k u)) (rw (sym (timed .is)) (in-time .at l)))
+      → Judges plan (record { interval = answer.Refused 20; «next_sequence» = next + r + 1 }) (judgePackets plan next)
+  closed-20 l h = judges-as plan (record { outcome = refl; next = refl }) (judged-20 plan next r l (omega arith) (λ k u. (omega arith, time-before k u)) (rw (sym (timed .is)) (in-time .at l)))
 
   pub closed-accepted : plan .«packet_count» ≤ r → plan .«packet_count» ≤ top - next → next ≤ top
-      → record { interval = answer.Nanoseconds i; «next_sequence» = next + plan .«packet_count» } ≡ judgedPlan plan (judgePackets plan next)
-  unfolding intervalAnswer
+      → Judges plan (record { interval = answer.Nanoseconds i; «next_sequence» = next + plan .«packet_count» }) (judgePackets plan next)
   closed-accepted l h u =
-      ap (λ (i : ℕ). record { interval = answer.Nanoseconds i; «next_sequence» = next + plan .«packet_count» }) (timed .is)
-      ∙ ap (judgedPlan plan) (judged-accepted plan next (λ k v. (omega arith, time-before k (omega arith))))
+      judges-as plan (record { outcome = ap gives (timed .is); next = refl }) (judged-accepted plan next (λ k v. (omega arith, time-before k (omega arith))))
 
 -- the rows before the packets'
 module _ (plan : TrafficPlan) (next : ℕ) where

@@ -1,23 +1,23 @@
--- The code's answer to a judgement, and the contracts of private functions.
+-- What the code's answer to a judgement means, and the contracts of private functions.
 -- Assumes nothing.
 use Prim.Native.Nat.{ℕ, _+_, _*_, _<_, _≤_}
 use mathlib.Core.Path.{_≡_}
 use mathlib.Core.List.{List}
 use Rattle.error.specs.Outcome.{Outcome, refused, gives}
 use Rattle.measurement.specs.declared.MeasurementHeader.{MeasurementHeader}
-use Rattle.plan.specs.Plan.{top, interval, timeAt, Judged}
-use Rattle.plan.specs.declared.Interval.{Interval}
-use Rattle.plan.specs.declared.Interval.the-variants as answer
+use Rattle.plan.specs.Plan.{top, interval, intervalMeans, timeAt, Judged}
 use Rattle.plan.specs.declared.JudgedPlan.{JudgedPlan}
 use Rattle.plan.specs.declared.TrafficPlan.{TrafficPlan}
 
--- The answer to a judgement: of an accepted plan its interval.
-unfoldable pub intervalAnswer : ℕ → Outcome (List MeasurementHeader) → Interval
-intervalAnswer i (refused n) = answer.Refused n
-intervalAnswer i (gives packets) = answer.Nanoseconds i
+-- What is answered of a judgement: of an accepted plan its interval.
+abbrev pub intervalJudged : TrafficPlan → Outcome (List MeasurementHeader) → Outcome ℕ
+intervalJudged plan (refused n) = refused n
+intervalJudged plan (gives packets) = gives (interval (plan .«target_rate_pps»))
 
-abbrev pub judgedPlan : TrafficPlan → Judged → JudgedPlan
-judgedPlan plan judged = record { interval = intervalAnswer (interval (plan .«target_rate_pps»)) (judged .outcome); «next_sequence» = judged .next }
+-- The code's answer means a judgement of the plan, and has its next sequence.
+pub record Judges (plan : TrafficPlan) (r : JudgedPlan) (to : Judged) : Type 0 where
+  pub outcome : intervalMeans (r .interval) ≡ intervalJudged plan (to .outcome)
+  pub next : r .«next_sequence» ≡ to .next
 
 -- What the judgement of an accepted plan says of its packets: this is their interval, and no sequence and no time
 -- passes its top.

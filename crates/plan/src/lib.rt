@@ -4,7 +4,7 @@ ghost use mathlib.Core.Path.{_≡_};
 ghost use Prim.Native.Nat.{_<_};
 ghost use Rattle.plan.specs.Plan.{intervalOf, intervalMeans, judgePackets, judgePlan};
 ghost use Rattle.plan.specs.Claims.{AcceptedIfAcceptable, AcceptableIfAccepted, SequenceDecides, TimeDecides, PlanNumbers, PacketsOrdered, Intervals, Examples};
-ghost use Rattle.plan.specs.Judge.{InTime, Timed, judgedPlan};
+ghost use Rattle.plan.specs.Judge.{InTime, Timed, Judges};
 
 // The most packets that a plan may ask for.
 pub const MAXIMUM_PACKETS: u64 = 2048;
@@ -61,7 +61,7 @@ fn packets_in_time(first: u64, interval: u64, count: u64) -> u64
 // The packets judged in closed form: the sequence fails first at packet TOP - next_sequence, the time at packet `in_time`.
 fn judge_packets(plan: TrafficPlan, interval: u64, next_sequence: u64) -> JudgedPlan
     requires { ⌜ Timed plan interval ⌝ }
-    ensures { λ r. ⌜ r ≡ judgedPlan plan (judgePackets plan «next_sequence») ⌝ }
+    ensures { λ r. ⌜ Judges plan r (judgePackets plan «next_sequence») ⌝ }
 {
     let count = plan.packet_count;
     let in_sequence = TOP - next_sequence;
@@ -88,7 +88,7 @@ fn judge_packets(plan: TrafficPlan, interval: u64, next_sequence: u64) -> Judged
 
 // A plan judged whole: 16 to 20.
 pub fn judge_plan(plan: TrafficPlan, next_sequence: u64) -> JudgedPlan
-    ensures { λ r. ⌜ r ≡ judgedPlan plan (judgePlan plan «next_sequence») ⌝ }
+    ensures { λ r. ⌜ Judges plan r (judgePlan plan «next_sequence») ⌝ }
 {
     match plan.interval_ns() {
         Interval::Refused(number) => JudgedPlan {

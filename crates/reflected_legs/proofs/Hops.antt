@@ -14,21 +14,21 @@ use Rattle.error.specs.Number.{outputTooShort}
 use Rattle.error.specs.Outcome.{Outcome, refused, gives, Cause, _⇒_, firstCause}
 use Rattle.measurement.specs.Echo.{echoOf}
 use Rattle.reflector_sessions.specs.Judge.{tableCauses, tableOutcome}
-use Rattle.reflector_sessions.specs.Session.{noSession}
+use Rattle.reflector_sessions.specs.Session.{valueOf, noSession}
 use Rattle.reflector_sessions.specs.Table.{tableOf, usedRows, find}
 use Rattle.reflector_sessions.specs.declared.ReflectorSession.{ReflectorSession}
 use Rattle.reflector_answer.specs.State.{fresh}
-use Rattle.reflector_answer.specs.Answer.{Outbound, Action, noop, send, Answer, reflected, gpduOutcome, gpduKnown, gpduUnknown, gpduAnswer, echoRequestOutcome, echoRequest, otherMessage, answer}
-use Rattle.reflector_answer.specs.Handle.{actionOf, placed, noAddress, handleFound}
+use Rattle.reflector_answer.specs.Answer.{Payload, written, payloadBytes, Outbound, Action, noop, send, Answer, gpdu, reflected, gpduOutcome, gpduKnown, gpduUnknown, gpduAnswer, echoRequestOutcome, echoRequest, otherMessage, answer}
+use Rattle.reflector_answer.specs.Handle.{actionMeans, actionOf, messageOf, placed, noAddress, handleFound}
 use Rattle.reflector_answer.specs.declared.ReflectorPolicy.{ReflectorPolicy}
 use Rattle.reflector_answer.specs.declared.ReflectorPolicy.the-variants.{Echo, SinkAndCount, Route}
 use Rattle.reflector_answer.specs.declared.ReflectorNoopReason.{ReflectorNoopReason}
-use Rattle.reflector_answer.specs.declared.ReflectorSendReason.the-variants.{EchoResponse, ErrorIndication}
+use Rattle.reflector_answer.specs.declared.ReflectorSendReason.the-variants.{ReflectedGpdu, EchoResponse, ErrorIndication}
 use Rattle.reflector_answer.specs.declared.SequenceNumber.the-variants.{Absent}
 use Rattle.reflector_answer.proofs.Answers.{handling-passed}
 use Rattle.reflector.specs.Handle.{handleDatagram}
 use Rattle.reflected_legs.specs.Hop.{Reflector, answerTo, gpduSent, sentOn, Forwards}
-use Rattle.reflected_legs.specs.Claims.{payloadBytes, PayloadTold, Known, Uncopied, RouteCopiesNothing, OnwardUnder, SentByPolicy}
+use Rattle.reflected_legs.specs.Claims.{ActionMeant, PayloadTold, Known, Uncopied, RouteCopiesNothing, OnwardUnder, SentByPolicy}
 
 no-some : {A : Type 0} {x : A} → none ≡ some x → ⊥
 no-some e = let z : _≡_ {A = ℕ} 0 1 = cc in omega arith
@@ -38,10 +38,10 @@ abbrev given : Outcome (List ℕ) → Option (List ℕ)
 given (refused n) = none
 given (gives b) = some b
 
--- a message that is no G-PDU
+-- a message that is no G-PDU: its payload is written
 data Other (m : Outbound) : Type 0 where
-  response : m .reason ≡ EchoResponse → m .messageType ≡ 2 → Other m
-  indication : m .reason ≡ ErrorIndication → m .messageType ≡ 26 → Other m
+  response : (b : List ℕ) → m .reason ≡ EchoResponse → m .messageType ≡ 2 → m .payload ≡ written b → Other m
+  indication : (b : List ℕ) → m .reason ≡ ErrorIndication → m .messageType ≡ 26 → m .payload ≡ written b → Other m
 
 behind-causes : (P : Outcome Action → Type 0) → ((n : ℕ) → P (refused n)) → (rows : List Cause) (o : Outcome Action) → P o → P (firstCause rows o)
 unfolding firstCause
@@ -70,12 +70,12 @@ module _ (r : Reflector) (payload : List ℕ) where
 
     of-request : P (echoRequestOutcome (r .config) (r .source) (r .message))
     unfolding echoRequestOutcome
-    of-request = behind-causes P refusals _ _ (others _ (response refl refl))
+    of-request = behind-causes P refusals _ _ (others _ (response _ refl refl refl))
 
     of-gpdu : (session : Option ReflectorSession) → Of (gpduAnswer (r .config) (r .state) session (r .source) (r .message .teid) payload)
     unfolding gpduKnown gpduUnknown
     of-gpdu (some session) = gpdus session
-    of-gpdu none = others _ (indication refl refl)
+    of-gpdu none = others _ (indication _ refl refl refl)
 
     of-answer : Of (answer (r .config) (r .state) session-meant (r .source) (r .message) payload)
     unfolding answer echoRequest
@@ -98,12 +98,42 @@ module _ (r : Reflector) (payload : List ℕ) where
   abbrev onwardOf : Outcome Action → Option (List ℕ)
   onwardOf o = gpduSent (actionOf o) payload (placed o (r .output))
 
+  -- what the answer means is the outcome
+
+  abbrev Meant : Outcome Action → Type 0
+  Meant o = actionMeans (actionOf o) (messageOf o) (placed o (r .output)) ≡ o
+
+  meant-echo : (session : ReflectorSession) (o : Outcome (List ℕ)) → Meant (reflected session o)
+  meant-echo session (refused n) = refl
+  meant-echo session (gives b) =
+      ap (λ (x : List ℕ). gives (gpdu ReflectedGpdu (valueOf (session .«peer_addr»)) (session .«peer_teid») (written x))) (take-append-seam b (drop (length b) (r .output)))
+
+  meant-gpdu : (session : ReflectorSession) → Meant (gpduOutcome (r .config) session payload)
+  unfolding gpduOutcome
+  meant-gpdu session = go (r .config .policy) refl
+    where
+      go : (p : ReflectorPolicy) → r .config .policy ≡ p → Meant (gpduOutcome (r .config) session payload)
+      go Echo e = rw (e, gpduOutcome) (meant-echo session (echoOf payload))
+      go SinkAndCount e = rw (e, gpduOutcome)
+      go Route e = rw (e, gpduOutcome)
+
+  abbrev sends : Outbound → Payload → Outcome Action
+  sends m p =
+      gives (send (record { reason = m .reason; destination = m .destination; teid = m .teid; messageType = m .messageType; sequence = m .sequence; payload = p }))
+
+  meant-other : (m : Outbound) → Other m → Meant (gives (send m))
+  meant-other m (response b e f p) = ap (sends m) (rw (e, p) (ap written (take-append-seam b (drop (length b) (r .output)))))
+  meant-other m (indication b e f p) = ap (sends m) (rw (e, p) (ap written (take-append-seam b (drop (length b) (r .output)))))
+
+  meant : Meant (answerTo r payload .outcome)
+  meant = every Meant (λ n. refl) (λ reason. refl) meant-gpdu meant-other
+
   -- what the answer tells is its payload
 
   abbrev Told : Outcome Action → Type 0
   Told (refused n) = Unit {0}
   Told (gives (noop reason)) = Unit {0}
-  Told (gives (send m)) = m .messageType ≡ 255 → onwardOf (gives (send m)) ≡ some (payloadBytes (m .payload) payload)
+  Told (gives (send m)) = m .messageType ≡ 255 → onwardOf (gives (send m)) ≡ some (payloadBytes payload (m .payload))
 
   told-echo : (session : ReflectorSession) (o : Outcome (List ℕ)) → Told (reflected session o)
   told-echo session (refused n) = tt
@@ -119,8 +149,8 @@ module _ (r : Reflector) (payload : List ℕ) where
       go Route e = rw (e, gpduOutcome) (λ h. refl)
 
   told-other : (m : Outbound) → Other m → Told (gives (send m))
-  told-other m (response e f) = λ h. absurd (omega arith)
-  told-other m (indication e f) = λ h. absurd (omega arith)
+  told-other m (response b e f p) = λ h. absurd (omega arith)
+  told-other m (indication b e f p) = λ h. absurd (omega arith)
 
   told : Told (answerTo r payload .outcome)
   told = every Told (λ n. tt) (λ reason. tt) told-gpdu told-other
@@ -149,8 +179,8 @@ module _ (r : Reflector) (payload : List ℕ) where
       go Route e = rw (e, gpduOutcome)
 
   other-ends : (m : Outbound) → Other m → Ends (gives (send m))
-  other-ends m (response e f) = inl (rw e)
-  other-ends m (indication e f) = inl (rw e)
+  other-ends m (response b e f p) = inl (rw e)
+  other-ends m (indication b e f p) = inl (rw e)
 
   ends : Ends (answerTo r payload .outcome)
   ends = every Ends (λ n. inl refl) (λ reason. inl refl) (λ session. inr (gpdu-onward session)) other-ends
@@ -198,6 +228,9 @@ module _ (r : Reflector) (payload : List ℕ) where
       action = ap (λ (a : Answer). actionOf (a .outcome)) (sym known-answer) ∙ rw (p, gpduKnown);
       output = ap (λ (a : Answer). placed (a .outcome) (r .output)) (sym known-answer) ∙ rw (p, gpduKnown);
     }
+
+pub action-meant : ActionMeant
+action-meant = meant
 
 pub payload-told : PayloadTold
 payload-told r payload m e f =

@@ -13,7 +13,8 @@ use Rattle.gtpu.specs.Message.{gtpuMsgGpdu}
 use Rattle.reflector_sessions.specs.Judge.{tableOutcome}
 use Rattle.reflector_sessions.specs.Table.{tableOf, usedRows, find}
 use Rattle.reflector_sessions.specs.declared.ReflectorSession.{ReflectorSession}
-use Rattle.reflector_answer.specs.Answer.{Payload, written, handedOn, Outbound, send}
+use Rattle.reflector_answer.specs.Answer.{payloadBytes, Outbound, send}
+use Rattle.reflector_answer.specs.Handle.{actionMeans}
 use Rattle.reflector_answer.specs.declared.ReflectorAction.the-variants.{Send}
 use Rattle.reflector_answer.specs.declared.ReflectorPolicy.{ReflectorPolicy}
 use Rattle.reflector_answer.specs.declared.ReflectorPolicy.the-variants.{Echo, SinkAndCount, Route}
@@ -21,16 +22,18 @@ use Rattle.reflector_answer.specs.declared.ReflectorSendReason.the-variants.{Ro
 use Rattle.reflected_legs.specs.Hop.{Reflector, answerTo, handled, outputAfter, sentOn}
 use Rattle.reflected_legs.specs.Way.{Leg, Way}
 
--- What the answer tells its caller to send is the payload that reflector_answer defines for it, for every G-PDU that
--- goes out: the bytes that were written, or the payload that came.
-abbrev pub payloadBytes : Payload → List ℕ → List ℕ
-payloadBytes (written bytes) lent = bytes
-payloadBytes handedOn lent = lent
+-- The answer, with the message beside it and the output, means what reflector_answer defines for the message.
+abbrev pub ActionMeant : Type 0
+ActionMeant = (r : Reflector) (payload : List ℕ)
+    → actionMeans (handled r payload .action) (handled r payload .message) (outputAfter r payload)
+    ≡ answerTo r payload .outcome
 
+-- What the answer tells its caller to send is the payload that is defined for it, for every G-PDU that goes out: the
+-- bytes that were written, or the payload that came.
 abbrev pub PayloadTold : Type 0
 PayloadTold = (r : Reflector) (payload : List ℕ) (message : Outbound)
     → answerTo r payload .outcome ≡ gives (send message) → message .messageType ≡ gtpuMsgGpdu
-    → sentOn r payload ≡ some (payloadBytes (message .payload) payload)
+    → sentOn r payload ≡ some (payloadBytes payload (message .payload))
 
 -- A G-PDU of a known session, not refused by 30, 31 or 15.
 pub record Known (r : Reflector) (session : ReflectorSession) : Type 0 where
@@ -75,6 +78,7 @@ pub record WaysAreTravelled : Type 0 where
   pub way : (sent : List ℕ) (n : ℕ) (arrived : List ℕ) → Travelled sent n arrived → Way sent n arrived
 
 pub record RoutesIncluded : Type 0 where
+  pub action-meant : ActionMeant
   pub payload-told : PayloadTold
   pub route-copies-nothing : RouteCopiesNothing
   pub sent-by-policy : SentByPolicy

@@ -1,26 +1,14 @@
 -- A T-PDU's way through reflectors that route and echo. Demand 3: bits turn "within one span of at most 16 neighbouring
 -- bits on each leg (the whole way from building or echoing to the next echoing or reading, routes included), length
 -- kept, and the span not 16 equal bits all turned".
-use Prim.Native.Nat.{ℕ, suc, _+_, _≤_}
+use Prim.Native.Nat.{ℕ, suc, _≤_}
 use mathlib.Core.Path.{_≡_}
 use mathlib.Core.List.{List}
 use mathlib.Core.Bool.{Bool, not}
-use lib.ListN.{length, take, drop, replicate}
-use Rattle.field.specs.Field.{Bytes}
-use Rattle.checksum.specs.Damage.{bits}
+use lib.ListN.{replicate}
+use Rattle.checksum.specs.Damage.{bitsIn, TurnedWithin}
 use Rattle.reflector_answer.specs.declared.ReflectorPolicy.the-variants.{Echo, Route}
 use Rattle.reflected_legs.specs.Hop.{Forwards}
-
--- The bits of a T-PDU in a span: `width` neighbouring bits from bit `from` on.
-abbrev pub bitsIn : ℕ → ℕ → List ℕ → List Bool
-bitsIn from width tpdu = take width (drop from (bits tpdu))
-
--- No bit outside the span is turned, and the length is kept.
-pub record TurnedWithin (from width : ℕ) (sent arrived : List ℕ) : Type 0 where
-  pub same-length : length arrived ≡ length sent
-  pub bytes : Bytes arrived
-  pub kept-before : take from (bits arrived) ≡ take from (bits sent)
-  pub kept-behind : drop (from + width) (bits arrived) ≡ drop (from + width) (bits sent)
 
 -- The pieces of one leg, by the number of routes on it: from its start to the first route, from route to route, and
 -- from the last to its end. Bits of the leg's span may turn on each piece, and turn again on the next.

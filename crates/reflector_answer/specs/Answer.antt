@@ -36,6 +36,11 @@ pub data Payload : Type 0 where
   written : List ℕ → Payload
   handedOn : Payload
 
+-- Its bytes, where this payload was received.
+abbrev pub payloadBytes : List ℕ → Payload → List ℕ
+payloadBytes received (written bytes) = bytes
+payloadBytes received handedOn = received
+
 -- A message to send: destination, TEID, type, sequence and payload. "Header bytes are not written here."
 pub record Outbound : Type 0 where
   pub reason : ReflectorSendReason

@@ -7,7 +7,7 @@ use mathlib.Core.List.{List, [], _∷_, _++_}
 use mathlib.Core.Bool.{true, false}
 use mathlib.Core.Option.{Option}
 use lib.Dec.{ltb}
-use lib.ListN.{length, drop, replicate}
+use lib.ListN.{length, take, drop, replicate}
 use Rattle.error.specs.Number.{outputTooShort}
 use Rattle.error.specs.Outcome.{Outcome, refused, gives, _⇒_, firstCause}
 use Rattle.measurement.specs.declared.IpVersion.the-variants.{V4}
@@ -15,6 +15,7 @@ use Rattle.gtpu.specs.Message.{gtpuMsgGpdu}
 use Rattle.reflector_answer.specs.State.{stateCounted}
 use Rattle.reflector_answer.specs.declared.ReflectorCounter.the-variants.{GpduForwarded}
 use Rattle.reflector_answer.specs.declared.ReflectorSendReason.{ReflectorSendReason}
+use Rattle.reflector_answer.specs.declared.ReflectorSendReason.the-variants.{ReflectedGpdu, RoutedGpdu, EchoResponse, ErrorIndication}
 use Rattle.reflector_sessions.specs.Judge.{tableCauses}
 use Rattle.reflector_answer.specs.Answer.{Payload, written, handedOn, Outbound, Action, noop, send, Answer, answer}
 use Rattle.reflector_answer.specs.declared.GtpuMessage.{GtpuMessage}
@@ -39,7 +40,27 @@ abbrev pub writtenLength : Payload → ℕ
 writtenLength (written bytes) = length bytes
 writtenLength handedOn = 0
 
--- The code's answer to each outcome.
+-- What is sent for a reason, where so many bytes stand at the front of the output: only a route hands on what was received.
+abbrev pub payloadMeant : ReflectorSendReason → ℕ → List ℕ → Payload
+payloadMeant ReflectedGpdu count output = written (take count output)
+payloadMeant RoutedGpdu count output = handedOn
+payloadMeant EchoResponse count output = written (take count output)
+payloadMeant ErrorIndication count output = written (take count output)
+
+-- What each case of the answer means, with the message beside it and the output as the call leaves it.
+abbrev pub actionMeans : ReflectorAction → OutboundMessage → List ℕ → Outcome Action
+actionMeans (Refused number) message output = refused number
+actionMeans (Noop reason) message output = gives (noop reason)
+actionMeans (Send reason count) message output = gives (send (record {
+  reason = reason;
+  destination = message .destination;
+  teid = message .teid;
+  messageType = message .«message_type»;
+  sequence = message .«sequence_number»;
+  payload = payloadMeant reason count output;
+}))
+
+-- And back: the answer to each outcome. It says how many bytes are in the output.
 abbrev pub actionOf : Outcome Action → ReflectorAction
 actionOf (refused number) = Refused number
 actionOf (gives (noop reason)) = Noop reason

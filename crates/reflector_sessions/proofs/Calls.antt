@@ -96,9 +96,9 @@ module _ (rows : List ReflectorSession) (used maximum : ℕ) (session : Reflecto
   registers = subst (Comes registered) registered-is (go registered)
     where
       go : (o : Outcome Bool) → Comes o o
-      go (refused n) = (refl, unwritten used used session rows)
-      go (gives false) = (refl, unwritten used used session rows)
-      go (gives true) = (refl, ap (λ (t : Bool). putIf t used session rows) (lt-ltb used (used + 1) (omega arith)))
+      go (refused n) = record { outcome = refl; used = refl; sessions = unwritten used used session rows }
+      go (gives false) = record { outcome = refl; used = refl; sessions = unwritten used used session rows }
+      go (gives true) = record { outcome = refl; used = refl; sessions = ap (λ (t : Bool). putIf t used session rows) (lt-ltb used (used + 1) (omega arith)) }
 
 -- ---- removal
 module _ (rows : List ReflectorSession) (used maximum teid : ℕ) where
@@ -154,10 +154,12 @@ module _ (rows : List ReflectorSession) (used maximum teid : ℕ) where
   removes = subst (Leaves removed) removed-is (go removed refl)
     where
       go : (o : Outcome (Option ReflectorSession)) → removed ≡ o → Leaves o o
-      go (refused n) e = (refl, unwritten used hole (getD rows used noSession) rows)
-      go (gives none) e = (refl, unwritten used hole (getD rows used noSession) rows)
-      go (gives (some session)) e = (
-        refl,
-        ap (λ (t : Bool). putIf t hole (getD rows (used - 1) noSession) rows) (lt-ltb (used - 1) used (omega (arith, hole-used session e)))
-            ∙ ap (λ (place : ℕ). set rows place (getD rows (used - 1) noSession)) (hole-is session e),
-      )
+      go (refused n) e = record { outcome = refl; used = refl; session = refl; sessions = unwritten used hole (getD rows used noSession) rows }
+      go (gives none) e = record { outcome = refl; used = refl; session = refl; sessions = unwritten used hole (getD rows used noSession) rows }
+      go (gives (some session)) e = record {
+        outcome = refl;
+        used = refl;
+        session = refl;
+        sessions = ap (λ (t : Bool). putIf t hole (getD rows (used - 1) noSession) rows) (lt-ltb (used - 1) used (omega (arith, hole-used session e)))
+            ∙ ap (λ (place : ℕ). set rows place (getD rows (used - 1) noSession)) (hole-is session e);
+      }

@@ -4,6 +4,7 @@ pub mod Same
 pub mod Registering
 pub mod Search
 pub mod Calls
+pub mod Means
 pub mod Memory
 pub mod Finds
 pub mod Claims

@@ -53,7 +53,13 @@ registerSession t session =
     let outcome = registerOutcome (length (t .sessions)) (t .used) (t .maximum) (find (session .«local_teid») (usedRows t)) session in
     record { outcome = outcome; table = registeredTable outcome session t }
 
--- The code's answer to each outcome.
+-- What each case of the answer means: whether the session is appended, or a refusal.
+abbrev pub registrationMeans : Registration → Outcome Bool
+registrationMeans Added = gives true
+registrationMeans Unchanged = gives false
+registrationMeans (Refused number) = refused number
+
+-- And back: the answer to each outcome.
 abbrev pub registrationOf : Outcome Bool → Registration
 registrationOf (refused number) = Refused number
 registrationOf (gives false) = Unchanged
@@ -68,5 +74,7 @@ abbrev pub registeredOf : Outcome Bool → ℕ → Registered
 registeredOf outcome used = record { registration = registrationOf outcome; used = usedAfter outcome used }
 
 -- A call's answer and the rows as it leaves them are those of a registering.
-abbrev pub Registers : Registered → List ReflectorSession → Registering → Type 0
-Registers r rows to = (r ≡ record { registration = registrationOf (to .outcome); used = to .table .used }) × (rows ≡ to .table .sessions)
+pub record Registers (r : Registered) (rows : List ReflectorSession) (to : Registering) : Type 0 where
+  pub outcome : registrationMeans (r .registration) ≡ to .outcome
+  pub used : r .used ≡ to .table .used
+  pub sessions : rows ≡ to .table .sessions

@@ -33,7 +33,13 @@ removeSession t teid =
     let outcome = removeOutcome (length (t .sessions)) (t .used) (t .maximum) (find teid (usedRows t)) in
     record { outcome = outcome; table = removedTable outcome (placeOf teid (usedRows t)) t }
 
--- The code's answer to each outcome; beside a refusal and beside none stands no session.
+-- What each case of the answer means: the record beside it, none, or a refusal.
+abbrev pub removalMeans : Removal → ReflectorSession → Outcome (Option ReflectorSession)
+removalMeans Removed session = gives (some session)
+removalMeans NotFound session = gives none
+removalMeans (Refused number) session = refused number
+
+-- And back: the answer to each outcome; beside a refusal and beside none stands no session.
 abbrev pub removalOf : Outcome (Option ReflectorSession) → Removal
 removalOf (refused number) = Refused number
 removalOf (gives none) = NotFound
@@ -53,6 +59,8 @@ abbrev pub removedOf : Outcome (Option ReflectorSession) → ℕ → RemovedSess
 removedOf outcome used = record { removal = removalOf outcome; used = usedAfter outcome used; session = sessionOf outcome }
 
 -- A call's answer and the rows as it leaves them are those of a removal.
-abbrev pub Removes : RemovedSession → List ReflectorSession → Removing → Type 0
-Removes r rows to =
-    (r ≡ record { removal = removalOf (to .outcome); used = to .table .used; session = sessionOf (to .outcome) }) × (rows ≡ to .table .sessions)
+pub record Removes (r : RemovedSession) (rows : List ReflectorSession) (to : Removing) : Type 0 where
+  pub outcome : removalMeans (r .removal) (r .session) ≡ to .outcome
+  pub used : r .used ≡ to .table .used
+  pub session : r .session ≡ sessionOf (to .outcome)
+  pub sessions : rows ≡ to .table .sessions

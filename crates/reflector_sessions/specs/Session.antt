@@ -1,9 +1,8 @@
 -- When two sessions are the same record: document 01, leaf 9, "same record (nothing changes) or 33".
 -- Assumes nothing.
-use Prim.Native.Nat.{ℕ}
-use mathlib.Core.List.{List, [], _∷_}
 use mathlib.Core.Bool.{Bool, true, false, _&&_}
 use lib.Dec.{eqb}
+use Rattle.field.specs.Field.{sameBytes}
 use Rattle.measurement.specs.Packet.{versionNumbered, address}
 use Rattle.measurement.specs.declared.IpVersion.{IpVersion}
 use Rattle.measurement.specs.declared.IpVersion.the-variants.{V4, V6}
@@ -25,12 +24,6 @@ sameVersion V4 V4 = true
 sameVersion V4 V6 = false
 sameVersion V6 V4 = false
 sameVersion V6 V6 = true
-
-abbrev pub sameBytes : List ℕ → List ℕ → Bool
-sameBytes [] [] = true
-sameBytes [] (y ∷ ys) = false
-sameBytes (x ∷ xs) [] = false
-sameBytes (x ∷ xs) (y ∷ ys) = eqb x y && sameBytes xs ys
 
 -- "of an IPv4 address only the first 4 bytes count"
 unfoldable pub sameAddress : SocketAddr → SocketAddr → Bool

@@ -1,11 +1,14 @@
 -- A branch of the Rust has an outcome if each of its ways has it.
 use mathlib.Core.Path.{_≡_, refl}
 use mathlib.Core.Bool.{Bool, true, false}
+use Prim.Native.Nat.{ℕ}
 use mathlib.Core.List.{List, _∷_}
 use Rattle.error.specs.Outcome.{Outcome, refused, gives, Cause, _⇒_, firstCause}
+use Rattle.field.specs.Field.{Bytes}
 use Rattle.rust_reference.specs.Error.{DataplaneTestkitError, Result, Ok, Err, returnIf, _>>_}
 use Rattle.rust_reference.specs.Number.{errorNumber, outcomeBy}
-use Rattle.rust_reference.specs.Compared.{told}
+use Rattle.rust_reference.specs.Compared.{Compared, told}
+use Rattle.rust_reference.specs.Claims.{WhatIsCompared}
 
 -- `if test { return Err(error); } rest`
 pub unless : {A B : Type 0} (value : A → B) (test : Bool) (error : DataplaneTestkitError) (rest : Result A) (o : Outcome B)
@@ -26,6 +29,13 @@ row value test {c = false} error rest rows onward e g = rw e (g refl)
 pub told-is : {A : Type 0} (o : Outcome A) → o ≡ told o
 told-is (refused n) = refl
 told-is (gives x) = refl
+
+-- what is compared is bytes, and all bytes are compared
+pub compared-bytes : (tpdu : List ℕ) → Compared tpdu → Bytes tpdu
+compared-bytes tpdu b = b
+
+pub all-compared : WhatIsCompared
+all-compared = record { every-tpdu = λ tpdu b. b; every-refusal = λ n m e. e }
 
 -- what holds of a value, if there is one
 pub data AllOk {A : Type 0} (P : A → Type 0) : Result A → Type 0 where

@@ -1,6 +1,7 @@
 -- The claims of specs/Claims.antt, together.
 use mathlib.Core.Path.{refl}
 use Rattle.rust_reference.specs.Claims.{EqualsTheRust}
+use Rattle.rust_reference.proofs.Branches.{all-compared}
 use Rattle.rust_reference.proofs.Building.{encoded, build}
 use Rattle.rust_reference.proofs.Capacity.{new-multi}
 use Rattle.rust_reference.proofs.Checksums.{of-parts}
@@ -18,6 +19,7 @@ use Rattle.rust_reference.proofs.Running.{runs-same, runs-of-2048}
 
 pub equals-the-rust : EqualsTheRust
 equals-the-rust = record {
+  compared = all-compared;
   «zero_loss» = refl;
   reversed = turned-round;
   encode = encoded;
@@ -27,6 +29,7 @@ equals-the-rust = record {
   «echo_tpdu» = echoed;
   «validate_error_indication_ies» = validate;
   «interval_ns» = interval-ns;
+  engines = (refl, λ first. refl);
   generate = generated;
   new = new-same;
   every-sheet = every-same;

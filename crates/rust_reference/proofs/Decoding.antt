@@ -12,7 +12,7 @@ use Rattle.error.specs.Outcome.{Outcome, Cause, _⇒_, firstCause}
 use Rattle.error.proofs.Causes.{none, passes}
 use Rattle.error.proofs.Tests.{true-not-false, or-neither}
 use Rattle.field.specs.Field.{Bytes, bigEndian, number, bytesAt, field}
-use Rattle.field.proofs.Fields.{bytes-take, bytes-drop, bytes-append, bytes-at, byte-of, number-injective, bytesAt-drop, front-bytes}
+use Rattle.field.proofs.Fields.{bytes-take, bytes-drop, bytes-append, bytes-at, byte-of, number-injective, bytesAt-drop, front-bytes, same-as-itself}
 use Rattle.checksum.specs.Sum.{checksumOf}
 use Rattle.checksum.proofs.Carries.{split}
 use Rattle.measurement.specs.Packet.{pseudoHeader, measurementMagic}
@@ -28,7 +28,7 @@ use Rattle.rust_reference.specs.Number.{outcomeBy}
 use Rattle.rust_reference.specs.Values.{index, range, same, «u16_at»}
 use Rattle.rust_reference.specs.Answers.{tpduOf}
 use Rattle.rust_reference.specs.Measurement as rust
-use Rattle.rust_reference.proofs.Branches.{unless, row, told-is}
+use Rattle.rust_reference.proofs.Branches.{unless, row, told-is, compared-bytes}
 use Rattle.rust_reference.proofs.Checksums.{of-one, of-two}
 
 -- a u16 is the field of two bytes
@@ -44,10 +44,6 @@ range-is l from width h =
     front-bytes width (drop from l) (omega (arith, length-drop from l)) ∙ sym (bytesAt-drop width from 0 l) ∙ ap (λ (k : ℕ). bytesAt width k l) (add-zero from)
 
 -- slices are equal where their numbers are
-same-refl : (x : List ℕ) → same x x ≡ true
-same-refl [] = refl
-same-refl (x ∷ xs) = rw (eq-eqb x x refl) (same-refl xs)
-
 same-true : (x y : List ℕ) → same x y ≡ true → x ≡ y
 same-true [] [] e = refl
 same-true [] (y ∷ ys) e = absurd (true-not-false (sym e))
@@ -66,7 +62,7 @@ same-number x y b c h = by (eqb (number x) (number y)) refl (same x y) refl
     by false e false f = refl
     by true e false f =
         let q : x ≡ y = number-injective x y b c h (eqb-true (number x) (number y) e) in
-        sym f ∙ ap (λ (l : List ℕ). same x l) (sym q) ∙ same-refl x
+        sym f ∙ ap (λ (l : List ℕ). same x l) (sym q) ∙ same-as-itself x
     by false e true f = absurd (eqb-false (number x) (number y) e (ap number (same-true x y f)))
 
 -- the probe: 13, 14, and its two numbers
@@ -290,4 +286,4 @@ decoded p b =
     by h false e false f = row-2 p h refl (eqb-false (index p 0 / 16) 4 e) (eqb-false (index p 0 / 16) 6 f)
 
 pub decoded-told : DecodeMeasurementTpdu
-decoded-told p b = decoded p b ∙ told-is (readOf p)
+decoded-told p b = decoded p (compared-bytes p b) ∙ told-is (readOf p)

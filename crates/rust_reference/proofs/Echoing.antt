@@ -26,7 +26,7 @@ use Rattle.rust_reference.specs.Number.{outcomeBy, outcomeOf}
 use Rattle.rust_reference.specs.Values.{index, range, «u16_at»}
 use Rattle.rust_reference.specs.Answers.{rustFlowOf, flowOf, tpduOf, inBuffer}
 use Rattle.rust_reference.specs.Measurement as rust
-use Rattle.rust_reference.proofs.Branches.{told-is, AllOk, all, none}
+use Rattle.rust_reference.proofs.Branches.{told-is, compared-bytes, AllOk, all, none}
 use Rattle.rust_reference.proofs.Building.{built4, built6, laid}
 use Rattle.rust_reference.proofs.Decoding.{decoded}
 
@@ -184,7 +184,7 @@ echo-short p bytes e = of (readOf p) e
 pub echoed : EchoTpdu
 unfolding writingOf
 echoed p b buffer added =
-    of (rust.«echo_tpdu» p) (echoOf p) (echo-outcome p b) added ∙ ap (λ (o : Outcome (List ℕ)). writingOf o buffer) (told-is (echoOf p))
+    of (rust.«echo_tpdu» p) (echoOf p) (echo-outcome p (compared-bytes p b)) added ∙ ap (λ (o : Outcome (List ℕ)). writingOf o buffer) (told-is (echoOf p))
   where
     of : (r : Result (List ℕ)) (o : Outcome (List ℕ)) → outcomeOf r ≡ o → NoneAdded (writingOf o buffer .outcome) → inBuffer r buffer ≡ writingOf o buffer
     of (Ok bytes) o e added = rw (← e) (laid (Ok bytes) bytes buffer refl (rw (← e) at added))

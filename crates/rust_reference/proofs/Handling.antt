@@ -46,7 +46,7 @@ use Rattle.rust_reference.specs.Number.{outcomeOf}
 use Rattle.rust_reference.specs.Reflector as rust
 use Rattle.rust_reference.specs.Sessions.{Reflector, tableIn, withState, handling, rustIp, rustAddress, rustSession, rustPolicy, rustReflector, rustSequence, rustMessage, rustRemoved, rustAction, outcomeTo, inOutput, PayloadFits, SequenceFits}
 use Rattle.rust_reference.specs.Values.{«saturating_add»}
-use Rattle.rust_reference.proofs.Branches.{told-is}
+use Rattle.rust_reference.proofs.Branches.{told-is, compared-bytes}
 use Rattle.rust_reference.proofs.Capacity.{Fits, made-fits, sound-table}
 use Rattle.rust_reference.proofs.Echoing.{echo-outcome, echo-short}
 use Rattle.rust_reference.proofs.Registering.{SoundIn, find-same}
@@ -120,7 +120,7 @@ module _ (r : Reflector) (source : SocketAddr) (payload buffer : List ℕ) where
   received = rust.count counter.GpduReceived (rustReflector r)
 
   -- a G-PDU of a known session, by policy
-  module _ (session : ReflectorSession) (b : PayloadFits payload) where
+  module _ (session : ReflectorSession) (b : PayloadFits (r .config .policy) payload) where
     abbrev forwarding : rust.ReflectorPolicy → rust.Called (Result rust.ReflectorAction)
     forwarding policy = elim policy [
       | rust.Echo ↦
@@ -151,14 +151,14 @@ module _ (r : Reflector) (source : SocketAddr) (payload buffer : List ℕ) where
     echoing (Ok bytes) o e short = rw (← e) (rw (le-ltb 65535 (length bytes) (short bytes (sym e))) (refl, refl, count-twice counter.GpduReceived counter.GpduForwarded r))
     echoing (Err x) o e short = rw (← e) (refl, refl, count-is counter.GpduReceived r)
 
-    by-policy : (policy : ReflectorPolicy) → Comes (forwarding (rustPolicy policy (r .config .target))) (after (policyOutcome policy))
-    by-policy Echo = echoing («echo_tpdu» payload) (echoOf payload) (echo-outcome payload (b .0)) (echo-short payload)
-    by-policy SinkAndCount = (refl, refl, count-twice counter.GpduReceived counter.GpduSunk r)
-    by-policy Route = rw (le-ltb 65535 (length payload) (b .1)) (refl, refl, count-twice counter.GpduReceived counter.GpduForwarded r)
+    by-policy : (policy : ReflectorPolicy) → r .config .policy ≡ policy → Comes (forwarding (rustPolicy policy (r .config .target))) (after (policyOutcome policy))
+    by-policy Echo e = echoing («echo_tpdu» payload) (echoOf payload) (echo-outcome payload (compared-bytes payload (b .0))) (echo-short payload)
+    by-policy SinkAndCount e = (refl, refl, count-twice counter.GpduReceived counter.GpduSunk r)
+    by-policy Route e = rw (le-ltb 65535 (length payload) (b .1 e)) (refl, refl, count-twice counter.GpduReceived counter.GpduForwarded r)
 
     known : Comes (rust.«handle_gpdu» received (rustSession session) payload) (gpduKnown (r .config) (r .state) session payload)
     unfolding rust.«handle_gpdu» gpduKnown gpduOutcome
-    known = by-policy (r .config .policy)
+    known = by-policy (r .config .policy) refl
 
   -- a G-PDU of an unknown TEID
   unknown : (message : GtpuMessage) → SequenceFits r → Comes (rust.«unknown_teid» (rustReflector r) (rustAddress source) (rustMessage message payload)) (gpduUnknown (r .state) source (message .teid))
@@ -214,7 +214,7 @@ module _ (r : Reflector) (source : SocketAddr) (payload buffer : List ℕ) where
       (either (eqb messageType 31) _ _ _ _ (refl, refl, refl) (refl, refl, count-is counter.MalformedRejected r))))
 
   -- a message, by its type
-  module _ (message : GtpuMessage) (fits : SequenceFits r) (b : PayloadFits payload) where
+  module _ (message : GtpuMessage) (fits : SequenceFits r) (b : PayloadFits (r .config .policy) payload) where
     abbrev pub called : rust.Called (Result rust.ReflectorAction)
     called = rust.«handle_datagram» (rustReflector r) (rustAddress source) (rustMessage message payload)
 
@@ -260,7 +260,7 @@ module _ (r : Reflector) (source : SocketAddr) (message : GtpuMessage) (payload 
           absurd (added 15 (inl refl) (ap (λ (a : Answer). a .outcome) (sym (handling-short rows (r .used) (r .config) (r .state) session source message payload buffer (table-sound rows (r .used) (r .config .«max_sessions») sound) (ltb-true (length buffer) 72 e)))))
       long false e = ltb-false (length buffer) 72 e
 
-  pub handled-in : SoundIn r → 72 ≤ length buffer → (fits : SequenceFits r) (b : PayloadFits payload)
+  pub handled-in : SoundIn r → 72 ≤ length buffer → (fits : SequenceFits r) (b : PayloadFits (r .config .policy) payload)
       → Comes r source payload buffer (called r source payload buffer message fits b) (handling r source message payload buffer)
   handled-in s long fits b =
       subst (Comes r source payload buffer (called r source payload buffer message fits b)) (by-type s long)

@@ -42,7 +42,7 @@ use Rattle.rust_reference.specs.Answers.{tpduOf}
 use Rattle.rust_reference.specs.Gtpu.{«validate_error_indication_ies»}
 use Rattle.rust_reference.specs.Measurement as measurement
 use Rattle.rust_reference.specs.Traffic.{ContinuityObserver, Recorded, tried, «ok_or», «checked_sub», «record_sent», duplicate, «first_return», «record_received_tpdu», «error_indication», «record_return_gtpu_datagram»}
-use Rattle.rust_reference.proofs.Branches.{told-is}
+use Rattle.rust_reference.proofs.Branches.{told-is, compared-bytes}
 use Rattle.rust_reference.proofs.Decoding.{decoded}
 use Rattle.rust_reference.proofs.Elements.{validate}
 use Rattle.rust_reference.proofs.Maps.{Located, found, absent, locate, get-found, insert-found, received-resent, contains-found, insert-received, sent-returned, get-absent, insert-absent, received-entered, row-found, set-found, put-absent, late-is, insert-fits, highest-insert}
@@ -302,7 +302,7 @@ module _ (rust : ContinuityObserver) (o : Observer) (same : Same rust o) (t : �
   received-step tpdu b = received-as (measurement.«decode_measurement_tpdu» tpdu) (sequenceRead tpdu) (sequence-read tpdu (measurement.«decode_measurement_tpdu» tpdu) (decoded tpdu b))
 
 pub received-same : RecordReceivedTpdu
-received-same rust o same t fits tpdu b = let a = received-step rust o same t fits tpdu b in (a .answer ∙ told-is _, a .same)
+received-same rust o same t fits tpdu b = let a = received-step rust o same t fits tpdu (compared-bytes tpdu b) in (a .answer ∙ told-is _, a .same)
 
 -- ---- a message
 
@@ -389,4 +389,4 @@ module _ (rust : ContinuityObserver) (o : Observer) (same : Same rust o) where
       (noted (Err (InvalidPacket error.unsupported-GTP-U-return-message-type))))))))
 
 pub message-same : RecordReturnGtpuDatagram
-message-same rust o same t fits ty payload b = let a = message-step rust o same t fits ty payload b in (a .answer ∙ told-is _, a .same)
+message-same rust o same t fits ty payload b = let a = message-step rust o same t fits ty payload (compared-bytes payload b) in (a .answer ∙ told-is _, a .same)

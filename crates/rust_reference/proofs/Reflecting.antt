@@ -34,7 +34,7 @@ record CallSame (r : Reflector) (call : Call) : Type 0 where
 abbrev answer-of : Outcome Given → List ℕ → Answer
 answer-of outcome output = record { outcome = outcome; output = output }
 
-call-same : (r : Reflector) → SoundIn r → SequenceFits r → (call : Call) → Typed call → OutputFits call → CallSame r call
+call-same : (r : Reflector) → SoundIn r → SequenceFits r → (call : Call) → Typed (r .config .policy) call → OutputFits call → CallSame r call
 unfolding registerSession removeSession
 call-same r s sequence (register session) typed long =
     let c = registered-in r session s in
@@ -82,18 +82,24 @@ one-more r call calls c rest = (
   ap (λ (g : rust.GtpuReflector). rustAfter g calls) (c .left) ∙ rest .1,
 )
 
-related : (r : Reflector) → Fits (r .config .«max_sessions») → SequenceFits r → (calls : List Call) → AllCallsTyped calls → NoneAddedInCalls r calls → RunsAlike r calls
+-- no call changes the policy
+typed-after : (r : Reflector) (call : Call) (calls : List Call) → AllCallsTyped (r .config .policy) calls → AllCallsTyped (afterCall r call .config .policy) calls
+typed-after r (register session) calls typed = typed
+typed-after r (remove teid) calls typed = typed
+typed-after r (handle source message payload buffer) calls typed = typed
+
+related : (r : Reflector) → Fits (r .config .«max_sessions») → SequenceFits r → (calls : List Call) → AllCallsTyped (r .config .policy) calls → NoneAddedInCalls r calls → RunsAlike r calls
 related r fits sequence [] typed added = (refl, refl)
 related r fits sequence (call ∷ calls) typed added =
     let ready = call-ready r fits call (added .0) in
     let c = call-same r (ready .0) sequence call (typed .0) (ready .1) in
-    one-more r call calls c (related (afterCall r call) (c .sound .above, c .sound .most) (c .sequence) calls (typed .1) (added .1))
+    one-more r call calls c (related (afterCall r call) (c .sound .above, c .sound .most) (c .sequence) calls (typed-after r call calls (typed .1)) (added .1))
 
-related-in-room : (r : Reflector) → SoundIn r → SequenceFits r → (calls : List Call) → AllCallsTyped calls → AllOutputsFit calls → RunsAlike r calls
+related-in-room : (r : Reflector) → SoundIn r → SequenceFits r → (calls : List Call) → AllCallsTyped (r .config .policy) calls → AllOutputsFit calls → RunsAlike r calls
 related-in-room r s sequence [] typed long = (refl, refl)
 related-in-room r s sequence (call ∷ calls) typed long =
     let c = call-same r s sequence call (typed .0) (long .0) in
-    one-more r call calls c (related-in-room (afterCall r call) (c .sound) (c .sequence) calls (typed .1) (long .1))
+    one-more r call calls c (related-in-room (afterCall r call) (c .sound) (c .sequence) calls (typed-after r call calls (typed .1)) (long .1))
 
 -- where `new_multi` makes a reflector, 30 is not due, and it is the fresh one
 module _ (sessions : List ReflectorSession) (config : MultiSessionReflectorConfig) (made : rust.GtpuReflector) (e : rust.«new_multi» (rustConfig config) ≡ Ok made) where

@@ -13,11 +13,12 @@ use borrow.Author.Tests.{eqb-true, eqb-false, le-leb, lt-leb}
 use Rattle.error.specs.Number.{invalidReflectorSession, reflectorSessionConflict, reflectorSessionCapacityExceeded}
 use Rattle.error.specs.Outcome.{Outcome, gives, _⇒_, firstCause}
 use Rattle.error.proofs.Causes.{passes}
+use Rattle.field.specs.Field.{sameBytes}
 use Rattle.measurement.specs.Packet.{address}
 use Rattle.measurement.specs.declared.IpVersion.{IpVersion}
 use Rattle.measurement.specs.declared.IpVersion.the-variants.{V4, V6}
 use Rattle.reflector_sessions.specs.Register.{invalidSession, sessionOutcome, registerOutcome, registerSession, registeredTable}
-use Rattle.reflector_sessions.specs.Session.{valueOf, sameVersion, sameBytes, sameAddress, sameSession}
+use Rattle.reflector_sessions.specs.Session.{valueOf, sameVersion, sameAddress, sameSession}
 use Rattle.reflector_sessions.specs.Table.{find, usedRows}
 use Rattle.reflector_sessions.specs.declared.ReflectorSession.{ReflectorSession}
 use Rattle.reflector_sessions.proofs.Judging.{Sound, is-sound}
@@ -28,19 +29,12 @@ use Rattle.rust_reference.specs.Map as map
 use Rattle.rust_reference.specs.Number.{outcomeOf}
 use Rattle.rust_reference.specs.Reflector as rust
 use Rattle.rust_reference.specs.Sessions.{Reflector, tableIn, withTable, rustIp, rustSession, rustReflector, rustRemoved}
-use Rattle.rust_reference.specs.Values.{same}
 use Rattle.rust_reference.proofs.Capacity.{Fits, made-fits, sound-table}
 
 abbrev pub SoundIn : Reflector → Type 0
 SoundIn r = Sound (length (r .sessions)) (r .used) (r .config .«max_sessions»)
 
 -- ---- sessions
-
-same-bytes : (a b : List ℕ) → same a b ≡ sameBytes a b
-same-bytes [] [] = refl
-same-bytes [] (y ∷ ys) = refl
-same-bytes (x ∷ xs) [] = refl
-same-bytes (x ∷ xs) (y ∷ ys) = ap (λ (t : Bool). eqb x y && t) (same-bytes xs ys)
 
 and-swap : (a b : Bool) → a && b ≡ b && a
 and-swap true true = refl
@@ -50,10 +44,10 @@ and-swap false false = refl
 
 same-ip : (v w : IpVersion) (a b : List ℕ) (port : Bool)
     → rust.sameIp (rustIp v a) (rustIp w b) && port ≡ sameVersion v w && (port && sameBytes (address v a) (address v b))
-same-ip V4 V4 a b port = ap (λ (t : Bool). t && port) (same-bytes (address V4 a) (address V4 b)) ∙ and-swap (sameBytes (address V4 a) (address V4 b)) port
+same-ip V4 V4 a b port = and-swap (sameBytes (address V4 a) (address V4 b)) port
 same-ip V4 V6 a b port = refl
 same-ip V6 V4 a b port = refl
-same-ip V6 V6 a b port = ap (λ (t : Bool). t && port) (same-bytes (address V6 a) (address V6 b)) ∙ and-swap (sameBytes (address V6 a) (address V6 b)) port
+same-ip V6 V6 a b port = and-swap (sameBytes (address V6 a) (address V6 b)) port
 
 same-session : (a b : ReflectorSession) → rust.sameSession (rustSession a) (rustSession b) ≡ sameSession a b
 unfolding sameSession sameAddress

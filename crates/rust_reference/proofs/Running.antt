@@ -25,7 +25,7 @@ use Rattle.rust_reference.specs.Gtpu.{«validate_error_indication_ies»}
 use Rattle.rust_reference.specs.Measurement as measurement
 use Rattle.rust_reference.specs.Runs.{Call, sending, receiving, returning, reporting-on, Typed, Answer, done, message, reported, answering, answerTo, afterCall, answersTo, after, rustAnswerTo, rustAfterCall, rustAnswersTo, rustAfter}
 use Rattle.rust_reference.specs.Traffic.{ContinuityObserver, new, Recorded, tried, «ok_or», «checked_sub», «record_sent», duplicate, «first_return», «record_received_tpdu», «error_indication», «record_return_gtpu_datagram»}
-use Rattle.rust_reference.proofs.Branches.{told-is}
+use Rattle.rust_reference.proofs.Branches.{told-is, compared-bytes}
 use Rattle.rust_reference.proofs.Observing.{new-same, sending-kept, sending-same, arriving, received-step, received-same, message-step, message-same}
 use Rattle.rust_reference.proofs.Maps.{Located, found, absent, locate, insert-absent}
 use Rattle.rust_reference.proofs.Reporting.{sent-length, report-same}
@@ -182,9 +182,9 @@ unfolding «record_sent»
 call-free rust o same room (sending q t) typed h =
     let s = sending-kept rust o same q t (free-row rust o same room q t h) in (ap (answering (λ u. done)) (s .0), s .1, s .2)
 call-free rust o same room (receiving t tpdu) typed h =
-    let s = received-step rust o same t (typed .0) tpdu (typed .1) in (ap (answering (λ u. done)) (s .answer ∙ told-is _), s .same, s .room)
+    let s = received-step rust o same t (typed .0) tpdu (compared-bytes tpdu (typed .1)) in (ap (answering (λ u. done)) (s .answer ∙ told-is _), s .same, s .room)
 call-free rust o same room (returning t ty payload) typed h =
-    let s = message-step rust o same t (typed .0) ty payload (typed .1) in (ap (answering message) (s .answer ∙ told-is _), s .same, s .room)
+    let s = message-step rust o same t (typed .0) ty payload (compared-bytes payload (typed .1)) in (ap (answering message) (s .answer ∙ told-is _), s .same, s .room)
 call-free rust o same room (reporting-on start end budget) typed h = (ap (answering reported) (report-same rust o same start end budget), same, refl)
 
 related-free : (rust : ContinuityObserver) (o : Observer) → Same rust o → capacity o ≡ 2048 → (calls : List Call) → AllTyped calls

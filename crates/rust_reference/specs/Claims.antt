@@ -19,7 +19,7 @@ use Rattle.measurement.specs.Claims.{InRange}
 use Rattle.measurement.specs.declared.InnerIpFlow.{InnerIpFlow}
 use Rattle.measurement.specs.declared.MeasurementHeader.{MeasurementHeader}
 use Rattle.plan.specs.Plan.{intervalOf, judgePlan}
-use Rattle.traffic.specs.Generate.{generateOf}
+use Rattle.traffic.specs.Generate.{firstSequence, generateOf}
 use Rattle.plan.specs.declared.TrafficPlan.{TrafficPlan}
 use Rattle.observer.specs.Answer.{observerOf}
 use Rattle.observer.specs.Counts.{fresh}
@@ -34,6 +34,7 @@ use Rattle.evidence.specs.declared.PacketContinuityBudget.{PacketContinuityBudg
 use Rattle.reflector_answer.specs.Handle.{placed}
 use Rattle.reflector_answer.specs.declared.GtpuMessage.{GtpuMessage}
 use Rattle.reflector_answer.specs.declared.MultiSessionReflectorConfig.{MultiSessionReflectorConfig}
+use Rattle.reflector_answer.specs.declared.ReflectorPolicy.{ReflectorPolicy}
 use Rattle.reflector_sessions.specs.Register.{registerSession}
 use Rattle.reflector_sessions.specs.Remove.{removeSession}
 use Rattle.reflector_sessions.specs.declared.ReflectorSession.{ReflectorSession}
@@ -44,7 +45,7 @@ use Rattle.rust_reference.specs.Sheet.{receivedOf, ValuesFit, Same, rust
 use Rattle.rust_reference.specs.Runs.{Call, Typed, answerTo, afterCall, answersTo, after, rustAnswersTo, rustAfter}
 use Rattle.rust_reference.specs.Map.{Option}
 use Rattle.rust_reference.specs.Number.{outcomeBy, outcomeOf}
-use Rattle.rust_reference.specs.Compared.{Compared, told}
+use Rattle.rust_reference.specs.Compared.{Compared, asTheRustTells, told}
 use Rattle.rust_reference.specs.Answers.{rustFlow, tpduOf, inBuffer, headersOf, packetsInBuffer, reportOf}
 use Rattle.rust_reference.specs.Sessions.{Reflector, tableIn, withTable, withState, freshReflector, handling, rustAddress, rustSession, rustConfig, rustReflector, rustMessage, rustRemoved, rustAction, outcomeTo, inOutput, IsMade, PayloadFits, SequenceFits}
 use Rattle.rust_reference.specs.Evidence as evidence
@@ -61,6 +62,13 @@ Added n = (n ≡ outputTooShort) ⊎ (n ≡ tooManyPackets) ⊎ (n ≡ malformed
 -- "where no refusal marked added is due"
 abbrev pub NoneAdded : {A : Type 0} → Outcome A → Type 0
 NoneAdded o = (n : ℕ) → Added n → o ≡ refused n → ⊥
+
+-- ---- what is compared
+
+-- Every T-PDU; and no two refusals of the port's are told as one.
+pub record WhatIsCompared : Type 0 where
+  pub every-tpdu : (tpdu : List ℕ) → Bytes tpdu → Compared tpdu
+  pub every-refusal : (n m : ℕ) → asTheRustTells n ≡ asTheRustTells m → n ≡ m
 
 -- ---- evidence.rs
 
@@ -114,6 +122,11 @@ ValidateErrorIndicationIes = (payload : List ℕ) → outcomeOf (gtpu.«validate
 abbrev pub IntervalNs : Type 0
 IntervalNs = (plan : TrafficPlan) → outcomeOf (traffic.«interval_ns» plan) ≡ intervalOf (plan .«target_rate_pps»)
 
+-- Both ways to make an engine: the sequence that it starts at.
+abbrev pub Engines : Type 0
+Engines = (traffic.«TrafficEngine_new» .«next_sequence» ≡ firstSequence)
+    × ((first : ℕ) → traffic.«with_first_sequence» first .«next_sequence» ≡ first)
+
 -- Every flow, plan and next sequence: the answer, the engine's next sequence and every byte of the buffer; and each packet's sequence and time.
 abbrev pub Generate : Type 0
 Generate = (flow : InnerIpFlow) (plan : TrafficPlan) (next : ℕ) → InRange flow next (plan .«first_send_timestamp_ns») → (buffer : List ℕ)
@@ -166,19 +179,19 @@ abbrev pub NoneAddedIn : Observer → List Call → Type 0
 NoneAddedIn o [] = Unit {0}
 NoneAddedIn o (call ∷ calls) = NoneAdded (answerTo o call) × NoneAddedIn (afterCall o call) calls
 
--- Every list of calls on a fresh sheet of any columns: every answer, each report on the way among them, is the Rust's, and the
--- observers that are left hold the same.
+-- Every answer of a run, each report on the way among them, is the Rust's, and the observers that are left hold the same.
+abbrev pub SameRun : Observer → List Call → Type 0
+SameRun o calls = (rustAnswersTo traffic.new calls ≡ answersTo o calls) × Same (rustAfter traffic.new calls) (after o calls)
+
+-- Every list of calls on a fresh sheet of any columns.
 abbrev pub Runs : Type 0
 Runs = (qs ts ls ms : List ℕ) (calls : List Call) → AllTyped calls → NoneAddedIn (observerOf qs ts ls ms fresh) calls
-    → (rustAnswersTo traffic.new calls ≡ answersTo (observerOf qs ts ls ms fresh) calls)
-    × Same (rustAfter traffic.new calls) (after (observerOf qs ts ls ms fresh) calls)
+    → SameRun (observerOf qs ts ls ms fresh) calls
 
 -- "runs up to 2,048 sequences": with columns of 2,048 entries, all that is asked is that the Rust's map of what was sent ends with no more.
 abbrev pub RunsUpTo2048 : Type 0
 RunsUpTo2048 = (qs ts ls ms : List ℕ) → 2048 ≤ length qs → 2048 ≤ length ts → 2048 ≤ length ls → 2048 ≤ length ms
-    → (calls : List Call) → AllTyped calls → length (rustAfter traffic.new calls .sent) ≤ 2048
-    → (rustAnswersTo traffic.new calls ≡ answersTo (observerOf qs ts ls ms fresh) calls)
-    × Same (rustAfter traffic.new calls) (after (observerOf qs ts ls ms fresh) calls)
+    → (calls : List Call) → AllTyped calls → length (rustAfter traffic.new calls .sent) ≤ 2048 → SameRun (observerOf qs ts ls ms fresh) calls
 
 -- ---- reflector.rs
 
@@ -218,28 +231,31 @@ RemoveSession = (r : Reflector) → IsMade r → (teid : ℕ) → NoneAdded (rem
 -- Every message, from every sender: the action, with the payload of what is sent; every byte of the output; and the Rust's reflector, with
 -- its counts and its error sequence.
 abbrev pub HandleDatagram : Type 0
-HandleDatagram = (r : Reflector) → IsMade r → SequenceFits r → (source : SocketAddr) (message : GtpuMessage) (payload : List ℕ) → PayloadFits payload
+HandleDatagram = (r : Reflector) → IsMade r → SequenceFits r → (source : SocketAddr) (message : GtpuMessage) (payload : List ℕ) → PayloadFits (r .config .policy) payload
     → (buffer : List ℕ) → NoneAdded (handling r source message payload buffer .outcome)
     → let after : reflector.Called (Result reflector.ReflectorAction) = reflector.«handle_datagram» (rustReflector r) (rustAddress source) (rustMessage message payload) in
     (outcomeOf (after .result) ≡ outcomeTo (rustAction payload) (told (handling r source message payload buffer .outcome)))
     × (inOutput (after .result) buffer ≡ placed (handling r source message payload buffer .outcome) buffer)
     × (after .reflector ≡ rustReflector (withState (handling r source message payload buffer .state) r))
 
-abbrev pub AllCallsTyped : List reflecting.Call → Type 0
-AllCallsTyped [] = Unit {0}
-AllCallsTyped (call ∷ calls) = reflecting.Typed call × AllCallsTyped calls
+abbrev pub AllCallsTyped : ReflectorPolicy → List reflecting.Call → Type 0
+AllCallsTyped policy [] = Unit {0}
+AllCallsTyped policy (call ∷ calls) = reflecting.Typed policy call × AllCallsTyped policy calls
 
 abbrev pub NoneAddedInCalls : Reflector → List reflecting.Call → Type 0
 NoneAddedInCalls r [] = Unit {0}
 NoneAddedInCalls r (call ∷ calls) = NoneAdded (reflecting.answerTo r call .outcome) × NoneAddedInCalls (reflecting.afterCall r call) calls
 
--- Every list of calls on what `new_multi` made, and on a fresh reflector with any slice: every answer and every output is the Rust's, and so is
--- what is left.
+-- Every answer and every output of a run is the Rust's, and so is what is left.
+abbrev pub SameReflectorRun : reflector.GtpuReflector → Reflector → List reflecting.Call → Type 0
+SameReflectorRun made r calls =
+    (reflecting.rustAnswersTo made calls ≡ reflecting.answersTo r calls) × (reflecting.rustAfter made calls ≡ rustReflector (reflecting.after r calls))
+
+-- Every list of calls on what `new_multi` made, and on a fresh reflector with any slice.
 abbrev pub ReflectorRuns : Type 0
 ReflectorRuns = (sessions : List ReflectorSession) (config : MultiSessionReflectorConfig) (made : reflector.GtpuReflector) → reflector.«new_multi» (rustConfig config) ≡ Ok made
-    → (calls : List reflecting.Call) → AllCallsTyped calls → NoneAddedInCalls (freshReflector sessions config) calls
-    → (reflecting.rustAnswersTo made calls ≡ reflecting.answersTo (freshReflector sessions config) calls)
-    × (reflecting.rustAfter made calls ≡ rustReflector (reflecting.after (freshReflector sessions config) calls))
+    → (calls : List reflecting.Call) → AllCallsTyped (config .policy) calls → NoneAddedInCalls (freshReflector sessions config) calls
+    → SameReflectorRun made (freshReflector sessions config) calls
 
 abbrev pub AllOutputsFit : List reflecting.Call → Type 0
 AllOutputsFit [] = Unit {0}
@@ -248,12 +264,12 @@ AllOutputsFit (call ∷ calls) = reflecting.OutputFits call × AllOutputsFit cal
 -- The same where the slice has a row for each session of the maximum and the outputs have 72 bytes: then neither 31 nor 15 is ever due.
 abbrev pub ReflectorRunsWithRoom : Type 0
 ReflectorRunsWithRoom = (sessions : List ReflectorSession) (config : MultiSessionReflectorConfig) (made : reflector.GtpuReflector) → reflector.«new_multi» (rustConfig config) ≡ Ok made
-    → config .«max_sessions» ≤ length sessions → (calls : List reflecting.Call) → AllCallsTyped calls → AllOutputsFit calls
-    → (reflecting.rustAnswersTo made calls ≡ reflecting.answersTo (freshReflector sessions config) calls)
-    × (reflecting.rustAfter made calls ≡ rustReflector (reflecting.after (freshReflector sessions config) calls))
+    → config .«max_sessions» ≤ length sessions → (calls : List reflecting.Call) → AllCallsTyped (config .policy) calls → AllOutputsFit calls
+    → SameReflectorRun made (freshReflector sessions config) calls
 
 -- All of it, by the Rust's names.
 pub record EqualsTheRust : Type 0 where
+  pub compared : WhatIsCompared
   pub «zero_loss» : ZeroLoss
   pub reversed : Reversed
   pub encode : Encode
@@ -263,6 +279,7 @@ pub record EqualsTheRust : Type 0 where
   pub «echo_tpdu» : EchoTpdu
   pub «validate_error_indication_ies» : ValidateErrorIndicationIes
   pub «interval_ns» : IntervalNs
+  pub engines : Engines
   pub generate : Generate
   pub new : New
   pub every-sheet : EverySheet

@@ -6,6 +6,7 @@ use lib.ListN.{length}
 use Rattle.error.specs.Outcome.{Outcome, gives}
 use Rattle.reflector_answer.specs.Handle.{placed}
 use Rattle.reflector_answer.specs.declared.GtpuMessage.{GtpuMessage}
+use Rattle.reflector_answer.specs.declared.ReflectorPolicy.{ReflectorPolicy}
 use Rattle.reflector_sessions.specs.Register.{registerSession}
 use Rattle.reflector_sessions.specs.Remove.{removeSession}
 use Rattle.reflector_sessions.specs.declared.ReflectorSession.{ReflectorSession}
@@ -22,11 +23,11 @@ pub data Call : Type 0 where
   remove : ℕ → Call
   handle : SocketAddr → GtpuMessage → List ℕ → List ℕ → Call
 
--- What it is handed is compared: of payloads, those of at most 65,535 bytes.
-abbrev pub Typed : Call → Type 0
-Typed (register session) = Unit {0}
-Typed (remove teid) = Unit {0}
-Typed (handle source message payload buffer) = PayloadFits payload
+-- What it is handed is compared: under the policy route, payloads of at most 65,535 bytes.
+abbrev pub Typed : ReflectorPolicy → Call → Type 0
+Typed policy (register session) = Unit {0}
+Typed policy (remove teid) = Unit {0}
+Typed policy (handle source message payload buffer) = PayloadFits policy payload
 
 -- Its output, where it is lent one, has the 72 bytes that document 01 asks for: 15 is not due.
 abbrev pub OutputFits : Call → Type 0

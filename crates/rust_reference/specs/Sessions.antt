@@ -13,7 +13,7 @@ use Rattle.reflector_sessions.specs.Session.{valueOf}
 use Rattle.reflector_sessions.specs.Table.{Table, tableOf, usedRows}
 use Rattle.reflector_sessions.specs.declared.ReflectorSession.{ReflectorSession}
 use Rattle.reflector_sessions.specs.declared.SocketAddr.{SocketAddr}
-use Rattle.reflector_answer.specs.Answer.{Payload, written, handedOn, Action, noop, send, Answer}
+use Rattle.reflector_answer.specs.Answer.{payloadBytes, Action, noop, send, Answer}
 use Rattle.reflector_answer.specs.State.{fresh}
 use Rattle.reflector_answer.specs.declared.GtpuMessage.{GtpuMessage}
 use Rattle.reflector_answer.specs.declared.MultiSessionReflectorConfig.{MultiSessionReflectorConfig}
@@ -118,11 +118,6 @@ rustReason ErrorIndicationObserved = rust.error-indication-observed
 rustReason EndMarkerIgnored = rust.end-marker-ignored
 rustReason SupportedExtensionHeadersNotificationIgnored = rust.supported-extension-headers-notification-ignored
 
--- The bytes of an answer's payload, where this one was received.
-abbrev pub payloadBytes : List ℕ → Payload → List ℕ
-payloadBytes received (written bytes) = bytes
-payloadBytes received handedOn = received
-
 abbrev pub rustAction : List ℕ → Action → rust.ReflectorAction
 rustAction received (noop reason) = rust.Noop (rustReason reason)
 rustAction received (send message) =
@@ -155,9 +150,10 @@ inOutput (Ok (rust.Send destination packet ErrorIndication)) buffer = packet .pa
 abbrev pub IsMade : Reflector → Type 0
 IsMade r = (made : rust.GtpuReflector) × (rust.«new_multi» (rustConfig (r .config)) ≡ Ok made)
 
--- A payload that is compared, and that the stand-in for the codec carries: "a payload of at most 65,535 bytes".
-abbrev pub PayloadFits : List ℕ → Type 0
-PayloadFits payload = Compared payload × (length payload ≤ 65535)
+-- A payload that is compared. The stand-in for the codec carries "a payload of at most 65,535 bytes": of what is received, only a route sends
+-- the payload on as it came.
+abbrev pub PayloadFits : ReflectorPolicy → List ℕ → Type 0
+PayloadFits policy payload = Compared payload × (policy ≡ Route → length payload ≤ 65535)
 
 -- The error sequence is a u16.
 abbrev pub SequenceFits : Reflector → Type 0

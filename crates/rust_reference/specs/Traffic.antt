@@ -33,7 +33,17 @@ pub record GeneratedPacket : Type 0 where
   pub «send_timestamp_ns» : ℕ
   pub tpdu : List ℕ
 
--- What `generate` answers, and `next_sequence` of the engine (lines 58 to 60) as it leaves it.
+-- lines 58 to 60, and the two ways to make one: lines 65 to 67, and 71 to 75
+pub record TrafficEngine : Type 0 where
+  pub «next_sequence» : ℕ
+
+abbrev pub «TrafficEngine_new» : TrafficEngine
+«TrafficEngine_new» = record { «next_sequence» = 0 }
+
+abbrev pub «with_first_sequence» : ℕ → TrafficEngine
+«with_first_sequence» first-sequence = record { «next_sequence» = first-sequence }
+
+-- What `generate` answers, and `next_sequence` of the engine as it leaves it.
 pub record Generated : Type 0 where
   pub result : Result (List GeneratedPacket)
   pub «next_sequence» : ℕ

@@ -1,9 +1,9 @@
 -- Integers and slices, as the Rust's functions use them.
 use Prim.Native.Nat.{ℕ, _+_, _-_, _*_, _%_, min}
-use mathlib.Core.List.{List, [], _∷_, _++_}
-use mathlib.Core.Bool.{Bool, true, false, _&&_}
-use lib.Dec.{eqb}
+use mathlib.Core.List.{List, _++_}
+use mathlib.Core.Bool.{Bool}
 use lib.ListN.{length, take, drop, getD}
+use Rattle.field.specs.Field.{sameBytes}
 
 -- `slice[at]`. The Rust panics past the end; every index in these files is behind a test of the length.
 abbrev pub index : List ℕ → ℕ → ℕ
@@ -19,10 +19,7 @@ abbrev pub «copy_from_slice» : List ℕ → ℕ → List ℕ → List ℕ
 
 -- `==` on slices
 abbrev pub same : List ℕ → List ℕ → Bool
-same [] [] = true
-same [] (y ∷ ys) = false
-same (x ∷ xs) [] = false
-same (x ∷ xs) (y ∷ ys) = eqb x y && same xs ys
+same x y = sameBytes x y
 
 -- `u16::from_be_bytes([slice[at], slice[at + 1]])`
 abbrev pub «u16_at» : List ℕ → ℕ → ℕ

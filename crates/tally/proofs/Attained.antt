@@ -6,6 +6,8 @@ use mathlib.Core.Bool.{Bool, true, false, not, _||_}
 use mathlib.Core.List.{List, [], _∷_}
 use lib.ListN.{replicate, length-replicate}
 use Rattle.error.specs.Outcome.{Outcome, gives}
+use Rattle.field.specs.Field.{sameBytes}
+use Rattle.field.proofs.Fields.{same-as-itself}
 use Rattle.checksum.proofs.Claims.{damage-is}
 use Rattle.measurement.specs.Packet.{ipHeaderLength, buildOf}
 use Rattle.measurement.specs.Echo.{reversedOf}
@@ -16,10 +18,10 @@ use Rattle.plan.specs.Plan.{timeAt}
 use Rattle.plan.proofs.Claims.{accepted-if-acceptable}
 use Rattle.traffic.proofs.Claims.{room-decides}
 use Rattle.tally.specs.Tally.{Tally}
-use Rattle.tally.specs.Demand.{tpduCall, messageCall, sameBytes, someLegTurned, bytesGiven}
+use Rattle.tally.specs.Demand.{tpduCall, messageCall, someLegTurned, bytesGiven}
 use Rattle.tally.specs.Attained.{PlansAccepted, RoomTakes, UndamagedComes, Attained}
 use Rattle.tally.proofs.Entry.{entered, takes-all, needs-room}
-use Rattle.tally.proofs.Examples.{same-as-itself, build-bytes, hop-limit-comes, time-comes, checksum-comes}
+use Rattle.tally.proofs.Examples.{build-bytes, hop-limit-comes, time-comes, checksum-comes}
 use Rattle.tally.proofs.Generated.{packets-generated}
 use Rattle.tally.proofs.Returns.{echo-step, packet-in-range}
 

@@ -12,8 +12,10 @@ use Rattle.measurement.specs.Read.{payload, lengthWrong, covered, sumWrong, pro
 use Rattle.measurement.specs.Echo.{echoOf}
 use Rattle.measurement.specs.Claims.{InRange}
 use Rattle.measurement.specs.declared.DecodedTpdu.{DecodedTpdu}
-use Rattle.plan.specs.Plan.{rateCauses, intervalOf}
-use Rattle.gtpu.specs.Element.{endOf, walk, elementsFrom, elementsOf}
+use Rattle.plan.proofs.Claims.{intervals}
+use Rattle.gtpu.specs.Element.{elementsOf}
+use Rattle.gtpu.specs.Claims.{EmptyList}
+use Rattle.gtpu.proofs.Claims.{empty-list}
 use Rattle.observer.specs.Observer.{Observer, capacity, rows, withRows}
 use Rattle.observer.specs.Judge.{wellFormed, judged, afterReading}
 use Rattle.observer.specs.Place.{holds}
@@ -135,10 +137,15 @@ module _ (start end : ℕ) where
   abbrev longestOf : ℕ → Observer → Outcome (List Figure)
   longestOf until o = figures longest (reporting o start until zeroLoss)
 
+-- the rows of case 4
+case-4 : {o x : Outcome ℕ} → o ≡ x → figures (λ i. number i ∷ []) o ≡ figures (λ i. number i ∷ []) x
+case-4 e = ap (figures (λ i. number i ∷ [])) e
+
 pub eight-cases : EightCases
-unfolding firstCause sumOf folding foldOf checksumOf addressLength address padded ipv4 ipv4Header ipv6 ipHeader pseudoHeader measurementMagic probe udpSegment nonzero udp buildOf payload lengthWrong covered sumWrong probeCauses udpCauses readProbe readUdp ipv6Causes readIpv6 tpduCauses readOf echoOf rateCauses intervalOf endOf walk elementsFrom elementsOf capacity rows wellFormed judged reportOf reporting
+unfolding EmptyList firstCause sumOf folding foldOf checksumOf addressLength address padded ipv4 ipv4Header ipv6 ipHeader pseudoHeader measurementMagic probe udpSegment nonzero udp buildOf payload lengthWrong covered sumWrong probeCauses udpCauses readProbe readUdp ipv6Causes readIpv6 tpduCauses readOf echoOf capacity rows wellFormed judged reportOf reporting
 eight-cases start end =
     let five = ap (longestOf start end end) returned-5 ∙ case-5 start end in
     let six = ap (longestOf start end 100) returned-2 ∙ case-6 start end in
     let six-early = ap (longestOf start end 15) returned-2 ∙ case-6-early start end in
-    (refl, (refl, (refl, (refl, (refl, (refl, (refl, (five, (six, (six-early, (refl, (refl, tt))))))))))))
+    let eight : figures (λ u. []) (elementsOf []) ≡ refused 28 = ap (figures (λ u. [])) empty-list in
+    (refl, (refl, (refl, (refl, (case-4 (intervals .one), (case-4 (intervals .too-fast), (case-4 (intervals .third), (five, (six, (six-early, (refl, (eight, tt))))))))))))

@@ -6,10 +6,9 @@ use mathlib.Core.Path.{_≡_, refl, sym, ap, _∙_}
 use mathlib.Core.Bool.{Bool, true, false, not, _||_}
 use mathlib.Core.List.{List, [], _∷_, _++_, map}
 use lib.ListN.{length, take, drop, replicate}
-use borrow.Author.Tests.{eq-eqb}
 use Rattle.error.specs.Outcome.{Outcome, gives, refused, firstCause}
-use Rattle.field.specs.Field.{Bytes}
-use Rattle.field.proofs.Fields.{bytes-append, bytes-drop}
+use Rattle.field.specs.Field.{Bytes, sameBytes}
+use Rattle.field.proofs.Fields.{bytes-append, bytes-drop, same-as-itself}
 use Rattle.checksum.specs.Sum.{sumOf, folding, foldOf, checksumOf}
 use Rattle.checksum.specs.Damage.{isOne, lowBits, bits, Turned}
 use Rattle.checksum.proofs.Claims.{damage-is, clipped}
@@ -35,15 +34,11 @@ use Rattle.continuity.specs.Kinds.{messageKind}
 use Rattle.continuity.specs.Returns.{sequenceRead, recordReceivedTpdu, recordReturnMessage, asMessage}
 use Rattle.continuity.specs.declared.GtpuReturnDatagramOutcome.the-variants.{MeasurementTpdu}
 use Rattle.tally.specs.Tally.{isRefused}
-use Rattle.tally.specs.Demand.{Accepted, sendAll, Takes, Call, tpduCall, messageCall, sameBytes, someLegTurned, bytesGiven, receive}
+use Rattle.tally.specs.Demand.{Accepted, sendAll, Takes, Call, tpduCall, messageCall, someLegTurned, bytesGiven, receive}
 use Rattle.tally.specs.Cases.{ipv4Flow, ipv6Flow}
 use Rattle.tally.specs.Attained.{PlansAccepted, examplePlan, exampleObserver, legEnds, Comes, hopLimit, sendTime, udpChecksum}
 use Rattle.tally.proofs.Entry.{takes-all}
 use Rattle.tally.proofs.Returns.{echo-step}
-
-pub same-as-itself : (l : List ℕ) → sameBytes l l ≡ true
-same-as-itself [] = refl
-same-as-itself (x ∷ l) = rw (eq-eqb x x refl) (same-as-itself l)
 
 pub build-bytes : (f : InnerIpFlow) (s t : ℕ) → InRange f s t → Bytes (buildOf f s t)
 unfolding buildOf address

@@ -4,9 +4,9 @@
 use Prim.Native.Nat.{ℕ, _+_, _<_}
 use mathlib.Core.Path.{_≡_}
 use mathlib.Core.List.{List, [], _∷_, map}
-use mathlib.Core.Bool.{Bool, true, false, not, _&&_, _||_}
-use lib.Dec.{eqb}
+use mathlib.Core.Bool.{Bool, true, false, not, _||_}
 use Rattle.error.specs.Outcome.{Outcome, refused, gives}
+use Rattle.field.specs.Field.{sameBytes}
 use Rattle.evidence.specs.declared.PacketContinuityBudget.{PacketContinuityBudget}
 use Rattle.measurement.specs.Packet.{buildOf}
 use Rattle.measurement.specs.Claims.{InRange, DamageFound, Travelled, arrives, echoes, echoesOf}
@@ -95,12 +95,6 @@ pub record Return (flow : InnerIpFlow) (plan : TrafficPlan) (next : ℕ) : Type 
   pub travelled : Travelled (packet flow plan next packet-index) echo-count arrived
   pub time : ℕ
   pub call : Call
-
-abbrev pub sameBytes : List ℕ → List ℕ → Bool
-sameBytes [] [] = true
-sameBytes [] (y ∷ ys) = false
-sameBytes (x ∷ xs) [] = false
-sameBytes (x ∷ xs) (y ∷ ys) = eqb x y && sameBytes xs ys
 
 -- some bit was turned on some leg
 abbrev pub someLegTurned : {sent arrived : List ℕ} {n : ℕ} → Travelled sent n arrived → Bool

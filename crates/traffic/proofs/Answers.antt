@@ -8,6 +8,7 @@ use mathlib.Core.List.{List, _++_}
 use lib.ListN.{length, drop}
 use borrow.Author.Tests.{lt-ltb, le-ltb}
 use Rattle.error.specs.Outcome.{Outcome, refused, gives}
+use Rattle.measurement.specs.Answer.{writing}
 use Rattle.measurement.specs.Packet.{ipHeaderLength}
 use Rattle.measurement.specs.declared.InnerIpFlow.{InnerIpFlow}
 use Rattle.measurement.specs.declared.IpVersion.{IpVersion}
@@ -15,7 +16,7 @@ use Rattle.measurement.specs.declared.IpVersion.the-variants.{V4, V6}
 use Rattle.measurement.specs.declared.MeasurementHeader.{MeasurementHeader}
 use Rattle.measurement.specs.declared.Written.the-variants as written
 use Rattle.plan.specs.Plan.{top, interval, Judged, packetsOf, judgePlan}
-use Rattle.plan.specs.Judge.{judgedPlan}
+use Rattle.plan.specs.Judge.{Judges}
 use Rattle.plan.specs.Claims.{Acceptable, accepted}
 use Rattle.plan.specs.declared.Interval.the-variants as answer
 use Rattle.plan.specs.declared.JudgedPlan.{JudgedPlan}
@@ -28,13 +29,13 @@ use Rattle.traffic.proofs.Packets.{size, packets-length}
 -- bytes into a buffer
 module _ (bytes : List ℕ) (next after : ℕ) (buffer : List ℕ) where
   pub placing-short : length buffer < length bytes → record { outcome = refused 15; next = next; buffer = buffer } ≡ placing bytes next after buffer
-  unfolding placing
-  placing-short h = rw (lt-ltb (length buffer) (length bytes) h, placing)
+  unfolding placing writing
+  placing-short h = rw (lt-ltb (length buffer) (length bytes) h, writing, placing)
 
   pub placing-fits : length bytes ≤ length buffer
       → record { outcome = gives (length bytes); next = after; buffer = bytes ++ drop (length bytes) buffer } ≡ placing bytes next after buffer
-  unfolding placing
-  placing-fits h = rw (le-ltb (length buffer) (length bytes) h, placing)
+  unfolding placing writing
+  placing-fits h = rw (le-ltb (length buffer) (length bytes) h, writing, placing)
 
 -- room for the packets in numbers
 header-short : (v : IpVersion) → ipHeaderLength v ≤ 40
@@ -68,7 +69,7 @@ module _ (flow : InnerIpFlow) (plan : TrafficPlan) (next : ℕ) (buffer : List �
       ap (λ (j : Judged). placing bytes-of next (j .next) buffer) (sym e) ∙ rw (given, generateOf)
 
   -- the code's answers
-  module _ (r : JudgedPlan) (e : r ≡ judgedPlan plan (judgePlan plan next)) where
+  module _ (r : JudgedPlan) (e : Judges plan r (judgePlan plan next)) where
     pub answer-refuses : (n : ℕ) → r .interval ≡ answer.Refused n
         → generated (written.Refused n) (r .«next_sequence») buffer ≡ generateOf flow plan next buffer
     answer-refuses n a =

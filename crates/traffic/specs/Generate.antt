@@ -2,12 +2,8 @@
 -- Assumes nothing.
 use Prim.Native.Nat.{ℕ}
 use mathlib.Core.List.{List, [], _∷_, _++_}
-use mathlib.Core.Bool.{true, false}
-use lib.Dec.{ltb}
-use lib.ListN.{length, drop}
-use Rattle.error.specs.Number.{outputTooShort}
 use Rattle.error.specs.Outcome.{Outcome, refused, gives}
-use Rattle.measurement.specs.Answer.{writtenMeans}
+use Rattle.measurement.specs.Answer.{writtenMeans, Writing, writing}
 use Rattle.measurement.specs.Packet.{buildOf}
 use Rattle.measurement.specs.declared.InnerIpFlow.{InnerIpFlow}
 use Rattle.measurement.specs.declared.MeasurementHeader.{MeasurementHeader}
@@ -20,20 +16,21 @@ unfoldable pub endToEnd : InnerIpFlow → List MeasurementHeader → List ℕ
 endToEnd flow [] = []
 endToEnd flow (p ∷ packets) = buildOf flow (p .sequence) (p .«send_timestamp_ns») ++ endToEnd flow packets
 
+-- The next sequence of a new engine.
+abbrev pub firstSequence : ℕ
+firstSequence = 0
+
 -- The number of bytes written, or a refusal; the next sequence; the buffer.
 pub record Generating : Type 0 where
   pub outcome : Outcome ℕ
   pub next : ℕ
   pub buffer : List ℕ
 
--- Packets into a buffer, with the next sequence before and after. 15 leaves "all", the next sequence too; "On success, output bytes past the
--- answer keep their contents."
+-- Packets written into a buffer, with the next sequence before and after: 15 leaves "all", the next sequence too.
 unfoldable pub placing : List ℕ → ℕ → ℕ → List ℕ → Generating
 placing bytes next after buffer =
-    elim (ltb (length buffer) (length bytes)) [
-      | true ↦ record { outcome = refused outputTooShort; next = next; buffer = buffer }
-      | false ↦ record { outcome = gives (length bytes); next = after; buffer = bytes ++ drop (length bytes) buffer }
-    ]
+    let w : Writing = writing bytes buffer in
+    record { outcome = w .outcome; next = elim (w .outcome) [ refused n ↦ next | gives count ↦ after ]; buffer = w .buffer }
 
 -- The plan is judged first, "then 15"; a refusal leaves every byte.
 unfoldable pub generateOf : InnerIpFlow → TrafficPlan → ℕ → List ℕ → Generating

@@ -12,7 +12,7 @@ ghost use lib.ListN.{drop};
 ghost use Rattle.measurement.specs.Packet.{ipHeaderLength};
 ghost use Rattle.plan.specs.Plan.{packetsOf};
 ghost use Rattle.traffic.specs.Claims.{PacketsReadBack, SuccessIsComplete, RoomDecides, RefusalLeaves};
-ghost use Rattle.traffic.specs.Generate.{endToEnd, generated, generateOf};
+ghost use Rattle.traffic.specs.Generate.{firstSequence, endToEnd, generated, generateOf};
 ghost use Rattle.traffic.specs.Fits.{Fits};
 
 // The length of each packet.
@@ -111,7 +111,7 @@ pub struct TrafficEngine {
 impl TrafficEngine {
     // An engine that starts at sequence 0.
     pub fn new() -> Self
-        ensures { λ r. ⌜ r .«next_sequence» ≡ 0 ⌝ }
+        ensures { λ r. ⌜ r .«next_sequence» ≡ firstSequence ⌝ }
     {
         Self { next_sequence: 0 }
     }

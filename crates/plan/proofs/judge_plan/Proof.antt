@@ -1,10 +1,9 @@
 -- `plan::judge_plan` meets its contract.
 -- Assumes nothing.
 use native.Mathlib.Omega.{arith}
-use mathlib.Core.Path.{sym, ap, _∙_}
+use mathlib.Core.Path.{refl, sym, ap, _∙_}
 use Rattle.plan.specs.Plan.{intervalMeans}
-use Rattle.plan.specs.Judge.{intervalAnswer, judgedPlan}
-use Rattle.plan.proofs.Judged.{plan-refused, plan-too-many, plan-judged, plan-timed}
+use Rattle.plan.proofs.Judged.{judges-as, plan-refused, plan-too-many, plan-judged, plan-timed}
 use borrow.Author.Needs.{needs}
 use Rattle.plan.proofs.judge_plan.Statement.{statement}
 use Rattle.plan.proofs.judge_plan.Tie as tie
@@ -19,12 +18,11 @@ enum-known-interval : tie.Need-enum-known-interval
 enum-known-interval c = search needs
 
 returns : tie.Need-returns
-unfolding intervalAnswer
 returns c =
     let at-interval = c .before .before .before in
     let called = at-interval .before .before in
     let a = called .before .args in
-    ap (judgedPlan (a .plan)) (plan-too-many (a .plan) (a .next-sequence) (at-interval .interval .given .0 .0)
+    judges-as (a .plan) (record { outcome = refl; next = refl }) (plan-too-many (a .plan) (a .next-sequence) (at-interval .interval .given .0 .0)
     (ap intervalMeans (sym (at-interval .interval .given .1)) ∙ called .interval-ns .ensures) (omega (arith, c .if1 .taken)))
 
 judge-packets-requires : tie.Need-judge-packets-requires
@@ -36,12 +34,11 @@ judge-packets-requires c κs =
     (ap intervalMeans (sym (at-interval .interval .given .1)) ∙ called .interval-ns .ensures) (omega (arith, c .if1 .left))
 
 returns-2 : tie.Need-returns-2
-unfolding intervalAnswer
 returns-2 c =
     let at-number = c .before in
     let called = at-number .before .before in
     let a = called .before .args in
-    ap (judgedPlan (a .plan)) (plan-refused (a .plan) (a .next-sequence) (at-number .number .given .0 .0)
+    judges-as (a .plan) (record { outcome = refl; next = refl }) (plan-refused (a .plan) (a .next-sequence) (at-number .number .given .0 .0)
     (ap intervalMeans (sym (at-number .number .given .1)) ∙ called .interval-ns .ensures))
 
 returns-3 : tie.Need-returns-3
@@ -49,7 +46,7 @@ returns-3 c =
     let at-interval = c .before .before .before .before in
     let called = at-interval .before .before in
     let a = called .before .args in
-    c .judge-packets .ensures ∙ ap (judgedPlan (a .plan)) (plan-judged (a .plan) (a .next-sequence) (at-interval .interval .given .0 .0)
+    judges-as (a .plan) (c .judge-packets .ensures) (plan-judged (a .plan) (a .next-sequence) (at-interval .interval .given .0 .0)
     (ap intervalMeans (sym (at-interval .interval .given .1)) ∙ called .interval-ns .ensures) (c .before .if1 .left))
 
 pub judge-plan-spec : {M : Type 1} → statement M

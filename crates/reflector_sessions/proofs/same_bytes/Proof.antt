@@ -4,8 +4,7 @@ use Prim.Native.Nat.{_-_, _≤_}
 use mathlib.Core.Path.{_≡_, sym, _∙_}
 use native.Mathlib.Omega.{arith}
 use borrow.Author.Needs.{needs}
-use Rattle.field.specs.Field.{bytesAt}
-use Rattle.reflector_sessions.specs.Session.{sameBytes}
+use Rattle.field.specs.Field.{sameBytes, bytesAt}
 use Rattle.reflector_sessions.proofs.Same.{from-start, byte-differs, byte-same, all-same}
 use Rattle.reflector_sessions.proofs.same_bytes.Statement.{statement}
 use Rattle.reflector_sessions.proofs.same_bytes.Tie as tie
