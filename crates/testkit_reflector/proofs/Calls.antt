@@ -2,8 +2,8 @@
 use Prim.Native.Nat.{ℕ}
 use mathlib.Core.Path.{_≡_, sym, ap, _∙_}
 use mathlib.Core.List.{List}
-use Rattle.reflector_sessions.specs.Register.{Registering, Registers}
-use Rattle.reflector_sessions.specs.Remove.{Removing, Removes}
+use Rattle.reflector_sessions.specs.Register.{Registering, Registers, registrationMeans}
+use Rattle.reflector_sessions.specs.Remove.{Removing, Removes, removalMeans}
 use Rattle.reflector_sessions.specs.declared.ReflectorSession.{ReflectorSession}
 use Rattle.reflector_sessions.specs.declared.Registered.{Registered}
 use Rattle.reflector_sessions.specs.declared.Registration.{Registration}
@@ -22,11 +22,13 @@ use Rattle.testkit_reflector.specs.declared.TestkitHandled.{TestkitHandl
 use Rattle.testkit_reflector.specs.declared.TestkitRegistered.{TestkitRegistered}
 use Rattle.testkit_reflector.specs.declared.TestkitRemoved.{TestkitRemoved}
 
-pub registered-as : (r : Registered) {x : Registration} → r .registration ≡ x → registeredNumbers (record { registration = x; used = r .used }) ≡ registeredNumbers r
-registered-as r e = ap (λ (x : Registration). registeredNumbers (record { registration = x; used = r .used })) (sym e)
+pub registered-as : (r : Registered) {x : Registration} → r .registration ≡ x
+    → registeredNumbers (registrationMeans x) (r .used) ≡ registeredNumbers (registrationMeans (r .registration)) (r .used)
+registered-as r e = ap (λ (x : Registration). registeredNumbers (registrationMeans x) (r .used)) (sym e)
 
-pub removed-as : (r : RemovedSession) {x : Removal} → r .removal ≡ x → removedNumbers (record { removal = x; used = r .used; session = r .session }) ≡ removedNumbers r
-removed-as r e = ap (λ (x : Removal). removedNumbers (record { removal = x; used = r .used; session = r .session })) (sym e)
+pub removed-as : (r : RemovedSession) {x : Removal} → r .removal ≡ x
+    → removedNumbers (removalMeans x (r .session)) (r .used) (r .session) ≡ removedNumbers (removalMeans (r .removal) (r .session)) (r .used) (r .session)
+removed-as r e = ap (λ (x : Removal). removedNumbers (removalMeans x (r .session)) (r .used) (r .session)) (sym e)
 
 pub acted-noop : {n : ℕ} {reason : ReflectorNoopReason} {action : ReflectorAction} → n ≡ noopNumber reason → action ≡ Noop reason
     → record { number = 0; action = 1; reason = n; bytes = 0 } ≡ actionNumbers action
@@ -37,11 +39,13 @@ pub acted-send : {n bytes : ℕ} {reason : ReflectorSendReason} {action : Reflec
 acted-send {bytes = bytes} e told = ap (λ (n : ℕ). record { number = 0; action = 2; reason = n; bytes = bytes }) e ∙ ap actionNumbers (sym told)
 
 -- what each call promises, in numbers
-pub registers-numbers : (r : TestkitRegistered) (x : Registered) (rows : List ReflectorSession) (to : Registering) → r ≡ registeredNumbers x → Registers x rows to → RegistersNumbers r rows to
-registers-numbers r x rows to e p = (e ∙ ap registeredNumbers (p .0), p .1)
+pub registers-numbers : (r : TestkitRegistered) (x : Registered) (rows : List ReflectorSession) (to : Registering)
+    → r ≡ registeredNumbers (registrationMeans (x .registration)) (x .used) → Registers x rows to → RegistersNumbers r rows to
+registers-numbers r x rows to e p = (e ∙ (λ i. registeredNumbers (p .outcome i) (p .used i)), p .sessions)
 
-pub removes-numbers : (r : TestkitRemoved) (x : RemovedSession) (rows : List ReflectorSession) (to : Removing) → r ≡ removedNumbers x → Removes x rows to → RemovesNumbers r rows to
-removes-numbers r x rows to e p = (e ∙ ap removedNumbers (p .0), p .1)
+pub removes-numbers : (r : TestkitRemoved) (x : RemovedSession) (rows : List ReflectorSession) (to : Removing)
+    → r ≡ removedNumbers (removalMeans (x .removal) (x .session)) (x .used) (x .session) → Removes x rows to → RemovesNumbers r rows to
+removes-numbers r x rows to e p = (e ∙ (λ i. removedNumbers (p .outcome i) (p .used i) (p .session i)), p .sessions)
 
 pub answers-numbers : (r : TestkitHandled) (x : Handled) (after : List ℕ) (a : Answer) (before : List ℕ) → r ≡ handledNumbers x → Answers x after a before → AnswersNumbers r after a before
 answers-numbers r x after a before e p = (e ∙ ap handledNumbers (p .0), p .1)

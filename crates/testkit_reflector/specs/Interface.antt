@@ -3,17 +3,13 @@ use Prim.Native.Nat.{ℕ}
 use mathlib.Core.Path.{_≡_}
 use mathlib.Core.List.{List}
 use mathlib.Core.Bool.{Bool, true, false}
+use mathlib.Core.Option.{Option, some, none}
 use lib.Dec.{eqb}
+use Rattle.error.specs.Outcome.{Outcome, refused, gives, outcomeNumber}
 use Rattle.reflector_sessions.specs.Session.{valueOf}
-use Rattle.reflector_sessions.specs.Register.{Registering, registrationOf}
-use Rattle.reflector_sessions.specs.Remove.{Removing, removalOf, sessionOf}
+use Rattle.reflector_sessions.specs.Register.{Registering}
+use Rattle.reflector_sessions.specs.Remove.{Removing, sessionOf}
 use Rattle.reflector_sessions.specs.declared.ReflectorSession.{ReflectorSession}
-use Rattle.reflector_sessions.specs.declared.Registered.{Registered}
-use Rattle.reflector_sessions.specs.declared.Registration.{Registration}
-use Rattle.reflector_sessions.specs.declared.Registration.the-variants as registration
-use Rattle.reflector_sessions.specs.declared.Removal.{Removal}
-use Rattle.reflector_sessions.specs.declared.Removal.the-variants as removal
-use Rattle.reflector_sessions.specs.declared.RemovedSession.{RemovedSession}
 use Rattle.reflector_sessions.specs.declared.LentSocketAddr.{LentSocketAddr}
 use Rattle.reflector_sessions.specs.declared.SocketAddr.{SocketAddr}
 use Rattle.reflector_answer.specs.Answer.{Answer}
@@ -45,42 +41,29 @@ use Rattle.testkit_reflector.specs.declared.TestkitRegistered.{TestkitRe
 use Rattle.testkit_reflector.specs.declared.TestkitRemoved.{TestkitRemoved}
 
 -- Registering: 0 where it was taken, or a refusal's number; and whether the session was added.
-abbrev pub registrationNumber : Registration → ℕ
-registrationNumber registration.Added = 0
-registrationNumber registration.Unchanged = 0
-registrationNumber (registration.Refused number) = number
+abbrev pub isAdded : Outcome Bool → Bool
+isAdded (refused n) = false
+isAdded (gives added) = added
 
-abbrev pub isAdded : Registration → Bool
-isAdded registration.Added = true
-isAdded registration.Unchanged = false
-isAdded (registration.Refused number) = false
-
-abbrev pub registeredNumbers : Registered → TestkitRegistered
-registeredNumbers r = record { number = registrationNumber (r .registration); added = isAdded (r .registration); used = r .used }
+abbrev pub registeredNumbers : Outcome Bool → ℕ → TestkitRegistered
+registeredNumbers outcome used = record { number = outcomeNumber outcome; added = isAdded outcome; used = used }
 
 -- The answer and the rows of a registering.
 abbrev pub RegistersNumbers : TestkitRegistered → List ReflectorSession → Registering → Type 0
-RegistersNumbers r rows to =
-    (r ≡ registeredNumbers (record { registration = registrationOf (to .outcome); used = to .table .used })) × (rows ≡ to .table .sessions)
+RegistersNumbers r rows to = (r ≡ registeredNumbers (to .outcome) (to .table .used)) × (rows ≡ to .table .sessions)
 
--- Removal: 0 where it was taken, or a refusal's number; and whether a session was removed.
-abbrev pub removalNumber : Removal → ℕ
-removalNumber removal.Removed = 0
-removalNumber removal.NotFound = 0
-removalNumber (removal.Refused number) = number
+-- Removal: 0 where it was taken, or a refusal's number; whether a session was removed; and that session, or none.
+abbrev pub isRemoved : Outcome (Option ReflectorSession) → Bool
+isRemoved (refused n) = false
+isRemoved (gives none) = false
+isRemoved (gives (some session)) = true
 
-abbrev pub isRemoved : Removal → Bool
-isRemoved removal.Removed = true
-isRemoved removal.NotFound = false
-isRemoved (removal.Refused number) = false
-
-abbrev pub removedNumbers : RemovedSession → TestkitRemoved
-removedNumbers r = record { number = removalNumber (r .removal); removed = isRemoved (r .removal); used = r .used; session = r .session }
+abbrev pub removedNumbers : Outcome (Option ReflectorSession) → ℕ → ReflectorSession → TestkitRemoved
+removedNumbers outcome used session = record { number = outcomeNumber outcome; removed = isRemoved outcome; used = used; session = session }
 
 -- The answer and the rows of a removal.
 abbrev pub RemovesNumbers : TestkitRemoved → List ReflectorSession → Removing → Type 0
-RemovesNumbers r rows to =
-    (r ≡ removedNumbers (record { removal = removalOf (to .outcome); used = to .table .used; session = sessionOf (to .outcome) })) × (rows ≡ to .table .sessions)
+RemovesNumbers r rows to = (r ≡ removedNumbers (to .outcome) (to .table .used) (sessionOf (to .outcome))) × (rows ≡ to .table .sessions)
 
 -- What a message is handled with. Every number is a policy: 0 echo, 1 sink and count, every other route.
 unfoldable pub policyNumbered : ℕ → ReflectorPolicy

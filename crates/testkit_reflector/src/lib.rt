@@ -22,8 +22,8 @@ use reflector_sessions::RemovedSession;
 use reflector_sessions::SocketAddr;
 ghost use mathlib.Core.Path.{_≡_};
 ghost use Rattle.reflector_sessions.specs.Table.{tableOf};
-ghost use Rattle.reflector_sessions.specs.Register.{registerSession};
-ghost use Rattle.reflector_sessions.specs.Remove.{removeSession};
+ghost use Rattle.reflector_sessions.specs.Register.{registerSession, registrationMeans};
+ghost use Rattle.reflector_sessions.specs.Remove.{removeSession, removalMeans};
 ghost use Rattle.reflector.specs.Handle.{handleDatagram};
 ghost use Rattle.testkit_reflector.specs.Interface.{registeredNumbers, RegistersNumbers, removedNumbers, RemovesNumbers, policyNumbered, sequenceOf, configOf, stateOf, messageOf, argumentsOf, noopNumber, sendNumber, actionNumbers, sequenceNumbers, addressNumbers, messageNumbers, stateNumbers, handledNumbers, AnswersNumbers};
 ghost use Rattle.reflector_sessions.specs.Session.{valueOf};
@@ -47,7 +47,7 @@ pub struct TestkitRemoved {
 }
 
 fn registered_numbers(registered: Registered) -> TestkitRegistered
-    ensures { λ r. ⌜ r ≡ registeredNumbers registered ⌝ }
+    ensures { λ r. ⌜ r ≡ registeredNumbers (registrationMeans (registered .registration)) (registered .used) ⌝ }
 {
     let registration = registered.registration;
     match registration {
@@ -83,7 +83,7 @@ pub extern "C" fn testkit_register_session(
 }
 
 fn removed_numbers(removed: RemovedSession) -> TestkitRemoved
-    ensures { λ r. ⌜ r ≡ removedNumbers removed ⌝ }
+    ensures { λ r. ⌜ r ≡ removedNumbers (removalMeans (removed .removal) (removed .session)) (removed .used) (removed .session) ⌝ }
 {
     let removal = removed.removal;
     let session = removed.session;

@@ -36,7 +36,7 @@ use denote.Triple.Clauses.{ensured, lasts}
 use denote.Triple.Table.{entered, cited}
 use denote.Triple.Walked.{says, Stays, gave-slice, stay-none, walkOf, goes-gave-slice, goes-none, Walks, ends-at, walked, walk-meets}
 use denote.Exit.{yes}
-use Rattle.reflector_sessions.specs.Register.{registerSession, Registers}
+use Rattle.reflector_sessions.specs.Register.{registerSession, registrationMeans, Registers}
 use Rattle.reflector_sessions.specs.Table.{tableOf}
 use Rattle.reflector_sessions.specs.declared.ReflectorSession.{ReflectorSession}
 use Rattle.reflector_sessions.specs.declared.Registered.{Registered}
@@ -109,8 +109,8 @@ module _ {M : Type 1} (𝓤 : URA M) (H : Heap 𝓤) (A : Atoms 𝓤) (W : Given
   numbers-goes r w is =
       qed W (‵ ftrue ∷ []) ∵ nothing ! $ owned ! G.the-row (Is G.the-row) ((LL.makes G.the-type G′.the-plain) 𝓤 H A) r _ is $ fjoin ! $ move ! (1 ∷ 0 ∷ []) $ join ! $ frame ! $ done !
 
-  numbered : (r : Registered) (t : TestkitRegistered) → ent 𝓤 (ensured 𝓤 H A numbers.ended (numbers.clauses 𝓤 H A at-mem run) tt (r, tt) tt t) (fact 𝓤 (t ≡ registeredNumbers r))
-  numbered r t = exE 𝓤 _ (λ ends. snd∗ 𝓤 (sem 𝓤 H A (lasts numbers.ended tt (r, tt) ends)) (fact 𝓤 (t ≡ registeredNumbers r)))
+  numbered : (r : Registered) (t : TestkitRegistered) → ent 𝓤 (ensured 𝓤 H A numbers.ended (numbers.clauses 𝓤 H A at-mem run) tt (r, tt) tt t) (fact 𝓤 (t ≡ registeredNumbers (registrationMeans (r .registration)) (r .used)))
+  numbered r t = exE 𝓤 _ (λ ends. snd∗ 𝓤 (sem 𝓤 H A (lasts numbers.ended tt (r, tt) ends)) (fact 𝓤 (t ≡ registeredNumbers (registrationMeans (r .registration)) (r .used))))
 
   exits : (w : Val) (t : TestkitRegistered) (zs : List ReflectorSession) → Is N.the-row t (w ∷ []) → length zs ≡ length ys → RegistersNumbers t zs (registerSession (tableOf ys used maximum) session)
       → ent 𝓤 (⋆ 𝓤 H A ((‵ (flft κ q) ⊛ ‵ ftrue) ∷ ‵ (finally R γ zs) ∷ [])) (Post w)
@@ -142,7 +142,7 @@ module _ {M : Type 1} (𝓤 : URA M) (H : Heap 𝓤) (A : Atoms 𝓤) (W : Given
         nothing ! $ use1 W (raw (Numbers 𝓤 H A at-mem run .pre (to-numbers r w))) (numbers-goes r w is) $
         calls-at ! fm (Numbers 𝓤 H A at-mem run) runs-numbers (to-numbers r w) (and-then ! (load ! (from ! (stop !)) (look ! 8 refl)) (no-more !)) (λ w₁.
         use1 W (later (some (λ (t : TestkitRegistered). (‵ ftrue ⊛ ‵ (N.the-row .own t (w₁ ∷ []))) ⊛ raw (ensured 𝓤 H A numbers.ended (numbers.clauses 𝓤 H A at-mem run) tt (r, tt) tt t)))) (id⊢ 𝓤 _) $ await ! tt $ pick ! (λ t.
-        split ! $ move ! (1 ∷ []) $ use1 W (raw (fact 𝓤 (t ≡ registeredNumbers r))) (numbered r t) $ heard ! (t ≡ registeredNumbers r) (λ e. split ! $ drop ! $ facts ! N.the-row (Is N.the-row) (shows 𝓤 H A N.the-row) t (w₁ ∷ []) (λ t-is.
+        split ! $ move ! (1 ∷ []) $ use1 W (raw (fact 𝓤 (t ≡ registeredNumbers (registrationMeans (r .registration)) (r .used)))) (numbered r t) $ heard ! (t ≡ registeredNumbers (registrationMeans (r .registration)) (r .used)) (λ e. split ! $ drop ! $ facts ! N.the-row (Is N.the-row) (shows 𝓤 H A N.the-row) t (w₁ ∷ []) (λ t-is.
         land ! (from ! (stop !)) (init ! 17 refl (LL.lawful N.the-type N′.the-laws 𝓤 H A W .typed t _ t-is .0)) $
         returns ! (look ! 17 refl) $ forget ! 3 refl $ forget ! 5 refl $ forget ! 7 refl $ forget ! 9 refl $ forget ! 11 refl $ forget ! 13 refl $ forget ! 15 refl $ forget ! 17 refl $
         move ! (17 ∷ 18 ∷ []) $ free1 ! $ move ! (15 ∷ 16 ∷ []) $ free1 ! $ move ! (13 ∷ 14 ∷ []) $ free1 ! $ move ! (11 ∷ 12 ∷ []) $ free1 ! $ move ! (9 ∷ 10 ∷ []) $ free1 ! $ move ! (7 ∷ 8 ∷ []) $ free1 ! $ move ! (5 ∷ 6 ∷ []) $ free1 ! $ move ! (3 ∷ 4 ∷ []) $ free1 ! $ free0 ! $
