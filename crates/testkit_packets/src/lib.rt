@@ -1,6 +1,6 @@
-// The C interface to packets: each call under the prefix `testkit_`, on numbers and lent buffers, with the call's own contract. A slice
-// passes as a pointer and a length, an address as a pointer to its bytes, the generator's next sequence as a pointer to it. A refusal
-// is its number, and 0 is none.
+// The C interface to packets: each call under the prefix `testkit_`, on numbers and lent buffers, with the call's own
+// contract. A slice passes as a pointer and a length, an address as a pointer to its bytes, the generator's next
+// sequence as a pointer to it. A refusal is its number, and 0 is none.
 use gtpu::ElementsChecked;
 use measurement::InnerIpFlow;
 use measurement::Written;

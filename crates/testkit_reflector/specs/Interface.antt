@@ -1,4 +1,5 @@
--- How the C interface puts the reflector's values: a policy and a version as numbers, an answer as a number and values beside it.
+-- How the C interface puts the reflector's values: a policy and a version as numbers, an answer as a number and values
+-- beside it.
 use Prim.Native.Nat.{ℕ}
 use mathlib.Core.Path.{_≡_}
 use mathlib.Core.List.{List}
@@ -131,7 +132,8 @@ sendNumber send.RoutedGpdu = 2
 sendNumber send.EchoResponse = 3
 sendNumber send.ErrorIndication = 4
 
--- A refusal's number, or 0; what is to be done, 0 refused, 1 nothing to send, 2 a message; its reason, or 0; and the bytes in the output.
+-- A refusal's number, or 0; what is to be done, 0 refused, 1 nothing to send, 2 a message; its reason, or 0; and the
+-- bytes in the output.
 abbrev pub actionNumbers : ReflectorAction → ActionNumbers
 actionNumbers (action.Refused number) = record { number = number; action = 0; reason = 0; bytes = 0 }
 actionNumbers (action.Noop reason) = record { number = 0; action = 1; reason = noopNumber reason; bytes = 0 }

@@ -1,6 +1,6 @@
-// The C interface to the reflector: each call under the prefix `testkit_`, with the call's own contract. The session table is a lent slice of
-// records, which hold numbers only; what else a call takes and answers goes by value. A version is 4 for IPv4 and every other number for
-// IPv6. A refusal is its number, and 0 is none.
+// The C interface to the reflector: each call under the prefix `testkit_`, with the call's own contract. The session
+// table is a lent slice of records, which hold numbers only; what else a call takes and answers goes by value. A
+// version is 4 for IPv4 and every other number for IPv6. A refusal is its number, and 0 is none.
 use reflector_answer::GtpuMessage;
 use reflector_answer::Handled;
 use reflector_answer::MultiSessionReflectorConfig;
@@ -28,7 +28,8 @@ ghost use Rattle.reflector.specs.Handle.{handleDatagram};
 ghost use Rattle.testkit_reflector.specs.Interface.{registeredNumbers, RegistersNumbers, removedNumbers, RemovesNumbers, policyNumbered, sequenceOf, configOf, stateOf, messageOf, argumentsOf, noopNumber, sendNumber, actionNumbers, sequenceNumbers, addressNumbers, messageNumbers, stateNumbers, handledNumbers, AnswersNumbers};
 ghost use Rattle.reflector_sessions.specs.Session.{valueOf};
 
-// What registering answers: 0 and whether the session was added, or a refusal's number; and the used count that it leaves.
+// What registering answers: 0 and whether the session was added, or a refusal's number; and the used count that it
+// leaves.
 #[repr(C)]
 pub struct TestkitRegistered {
     pub number: u8,
@@ -36,8 +37,8 @@ pub struct TestkitRegistered {
     pub used: usize,
 }
 
-// What removal answers: 0 and whether a session was removed, or a refusal's number; the used count that it leaves, and the session, or
-// zeros.
+// What removal answers: 0 and whether a session was removed, or a refusal's number; the used count that it leaves, and
+// the session, or zeros.
 #[repr(C)]
 pub struct TestkitRemoved {
     pub number: u8,
@@ -151,7 +152,8 @@ pub struct TestkitReflectorState {
     pub next_error_sequence: u16,
 }
 
-// A GTP-U message without its payload, as it came or as it is to be sent. Where `has_sequence` is 0 it has none; of one to be sent it is 0 or 1.
+// A GTP-U message without its payload, as it came or as it is to be sent. Where `has_sequence` is 0 it has none; of one
+// to be sent it is 0 or 1.
 #[repr(C)]
 pub struct TestkitGtpuMessage {
     pub message_type: u8,
@@ -187,8 +189,9 @@ pub const SEND_ECHO_RESPONSE: u8 = 3;
 
 pub const SEND_ERROR_INDICATION: u8 = 4;
 
-// What handling answers: 0 or a refusal's number, what is to be done and why, or 0. `bytes` of the payload to send are in the output; of a
-// routed one none, since it is the received payload. Where nothing is sent the destination is version 4 and zeros, and so is the message.
+// What handling answers: 0 or a refusal's number, what is to be done and why, or 0. `bytes` of the payload to send are
+// in the output; of a routed one none, since it is the received payload. Where nothing is sent the destination is
+// version 4 and zeros, and the message zeros.
 #[repr(C)]
 pub struct TestkitHandled {
     pub number: u8,

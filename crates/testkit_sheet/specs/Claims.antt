@@ -16,7 +16,8 @@ abbrev pub saysItself : Outcome PacketContinuityReport → TestkitVerdict
 saysItself (refused n) = noReport
 saysItself (gives report) = verdictNumbers (verdictOf report)
 
--- Judged against the budget that it was asked for, a report gets the verdict that it says itself: nothing of it is lost on its way through C.
+-- Judged against the budget that it was asked for, a report gets the verdict that it says itself: nothing of it is lost
+-- on its way through C.
 abbrev pub OwnBudget : Type 0
 OwnBudget =
     (o : Observer) (windowStart windowEnd : ℕ) (budget : PacketContinuityBudget)

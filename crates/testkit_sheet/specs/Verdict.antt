@@ -17,8 +17,8 @@ use Rattle.testkit_sheet.specs.declared.TestkitVerdict.{TestkitVerdict}
 unfoldable pub latencyGiven : Bool → LatencySummary → Latency
 latencyGiven present summary = elim present [ true ↦ Summary summary | false ↦ Absent ]
 
--- The report with these figures and this budget, whose two verdicts are leaf 7's: "Continuity: lost, longest run and longest duration within
--- budget and no error indication. Forwarding: returned above 0."
+-- The report with these figures and this budget, whose two verdicts are leaf 7's: "Continuity: lost, longest run and
+-- longest duration within budget and no error indication. Forwarding: returned above 0."
 abbrev pub heldTo : TestkitContinuityReport → PacketContinuityBudget → PacketContinuityReport
 heldTo r budget = record {
   «window_start_ns» = r .«window_start_ns»;

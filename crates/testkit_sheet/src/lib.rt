@@ -1,6 +1,6 @@
-// The C interface to the run sheet, its report and the verdict on it: each call under the prefix `testkit_`, on numbers and lent columns, with
-// the call's own contract. A slice passes as a pointer and a length; counts, plans and budgets go by value, as the crates below have them. A
-// refusal is its number, and 0 is none.
+// The C interface to the run sheet, its report and the verdict on it: each call under the prefix `testkit_`, on numbers
+// and lent columns, with the call's own contract. A slice passes as a pointer and a length; counts, plans and budgets
+// go by value, as the crates below have them. A refusal is its number, and 0 is none.
 use continuity::GtpuReturnDatagramOutcome;
 use continuity::MessageRecorded;
 use continuity::ReturnRecording;
@@ -135,7 +135,8 @@ pub extern "C" fn testkit_record_sent_plan(
     ))
 }
 
-// What a list of returns answers: 0 and how many returns it had, or the number of a refusal of the whole list and 0; and the counts afterwards.
+// What a list of returns answers: 0 and how many returns it had, or the number of a refusal of the whole list and 0;
+// and the counts afterwards.
 #[repr(C)]
 pub struct TestkitReturnsRecorded {
     pub number: u8,
@@ -216,7 +217,8 @@ pub const OUTCOME_ECHO_RESPONSE: u8 = 3;
 
 pub const OUTCOME_IGNORED: u8 = 4;
 
-// What is answered to a datagram: 0 or a refusal's number, what it was, of an ignored one its message's type, else 0, and the counts.
+// What is answered to a datagram: 0 or a refusal's number, what it was, of an ignored one its message's type, else 0,
+// and the counts.
 #[repr(C)]
 pub struct TestkitDatagramRecorded {
     pub number: u8,

@@ -1,5 +1,5 @@
-// The verdict on a run: what its report comes to, with the numbers that say why. A crew acts on it, so it has a contract
-// (specs/Verdict.antt); that it is printed is left to its callers.
+// The verdict on a run: what its report comes to, with the numbers that say why. A crew acts on it, so it has a
+// contract (specs/Verdict.antt); that it is printed is left to its callers.
 use evidence::PacketContinuityReport;
 ghost use mathlib.Core.Path.{_≡_};
 ghost use Rattle.verdict.specs.Verdict.{verdictOf};

@@ -1,5 +1,6 @@
--- `testkit_handle_datagram` meets its contract: a walk of its MIR, by hand. `handling_arguments` makes values of the numbers, the slices go to `handle_datagram` for good, with
--- these values, and its answer to `handled_numbers`. All that the proof knows of the three is that they meet their contracts.
+-- `testkit_handle_datagram` meets its contract: a walk of its MIR, by hand. `handling_arguments` makes values of the
+-- numbers, the slices go to `handle_datagram` for good, with these values, and its answer to `handled_numbers`. All
+-- that the proof knows of the three is that they meet their contracts.
 use mathlib.Core.Path.{_≡_, refl, ap, _∙_, subst}
 use Prim.Native.Nat.{ℕ, _<_, _^_}
 use mathlib.Core.List.{[], _∷_, List}
@@ -304,7 +305,8 @@ module _ {M : Type 1} (𝓤 : URA M) (H : Heap 𝓤) (A : Atoms 𝓤) (W : Given
         pass1 ! (init ! 22 refl (tt, (tt, (record { fits = room .0 }, tt)))) $ pass1 ! (init ! 20 refl (tt, record { fits = used-fits })) $ pass1 ! (init ! 18 refl (LL.lawful KC.the-type KC′.the-laws 𝓤 H A W .typed config _ config-is .0)) $
         pass1 ! (init ! 16 refl (LL.lawful SC.the-type SC′.the-laws 𝓤 H A W .typed state _ state-is .0)) $ pass1 ! (init ! 14 refl (LL.lawful L.the-type L′.the-laws 𝓤 H A W .typed source _ source-is .0)) $
         pass1 ! (init ! 12 refl (LL.lawful GC.the-type GC′.the-laws 𝓤 H A W .typed message _ message-is .0)) $ pass1 ! (init ! 10 refl (tt, (tt, (record { fits = payload-room .0 }, tt)))) $ pass1 ! (init ! 8 refl (tt, (tt, (record { fits = out-room .0 }, tt)))) $ pass0 ! $
-        -- [_12; …; _11; …; _10; …; _9; …; _8; …; _7; …; _6; …; _5; …; _4; …; _3; …; _2; …; _1; …; room for _0; …; the tokens; what the parameters own]: the values
+        -- [_12; …; _11; …; _10; …; _9; …; _8; …; _7; …; _6; …; _5; …; _4; …; _3; …; _2; …; _1; …; room for _0; …; the
+        -- tokens; what the parameters own]: the values
         nothing ! $ use1 W (raw (Values 𝓤 H A at-mem run .pre to-values)) values-goes $
         calls-at ! fm (Values 𝓤 H A at-mem run) runs-values to-values (and-then ! (load ! (from ! (stop !)) (look ! 19 refl)) (and-then ! (load ! (from ! (stop !)) (look ! 17 refl)) (and-then ! (load ! (from ! (stop !)) (look ! 15 refl)) (and-then ! (load ! (from ! (stop !)) (look ! 13 refl)) (no-more !))))) (λ w.
         use1 W (later (some (λ (r : HandlingArguments). (‵ ftrue ⊛ ‵ (B.the-row .own r (w ∷ []))) ⊛ raw (ensured 𝓤 H A values.ended (values.clauses 𝓤 H A at-mem run) tt values-args tt r)))) (id⊢ 𝓤 _) $ await ! tt $ pick ! (λ r.

@@ -1,5 +1,6 @@
--- `testkit_register_session` meets its contract: a walk of its MIR, by hand. The slice goes to `register_session` for good, with the other parameters as they are, and its answer to
--- `registered_numbers` by value. All that the proof knows of the two is that they meet their contracts.
+-- `testkit_register_session` meets its contract: a walk of its MIR, by hand. The slice goes to `register_session` for
+-- good, with the other parameters as they are, and its answer to `registered_numbers` by value. All that the proof
+-- knows of the two is that they meet their contracts.
 use mathlib.Core.Path.{_≡_, refl}
 use Prim.Native.Nat.{ℕ, _<_, _^_}
 use mathlib.Core.List.{[], _∷_, List}
@@ -126,7 +127,8 @@ module _ {M : Type 1} (𝓤 : URA M) (H : Heap 𝓤) (A : Atoms 𝓤) (W : Given
         qed W ((‵ (flft κ q) ⊛ ‵ ftrue) ∷ ‵ (owns (MutSlice (named 0) κ R ∷ usize ∷ usize ∷ R ∷ []) a at) ∷ []) ∵ enter ! C Λ code.function (s ∷ vint w64 used ∷ vint w64 maximum ∷ rowVal session ∷ []) _ $
         alloc1 ! (λ l₀. alloc1 ! (λ l₁. alloc1 ! (λ l₂. alloc1 ! (λ l₃. alloc1 ! (λ l₄. alloc1 ! (λ l₅. alloc1 ! (λ l₆. alloc1 ! (λ l₇. alloc0 ! $ params1 ! $
         pass1 ! (init ! 12 refl (tt, (tt, (record { fits = room .0 }, tt)))) $ pass1 ! (init ! 10 refl (tt, record { fits = used-fits })) $ pass1 ! (init ! 8 refl (tt, record { fits = maximum-fits })) $ pass1 ! (init ! 6 refl (LL.lawful T.the-type T′.the-laws 𝓤 H A W .typed session _ session-is .0)) $ pass0 ! $
-        -- [_7; …; _6; …; _5; …; _4; …; _3; …; _2; …; _1; …; room for _0; …; the token; what the parameters own]: the slice is lent on
+        -- [_7; …; _6; …; _5; …; _4; …; _3; …; _2; …; _1; …; room for _0; …; the token; what the parameters own]: the
+        -- slice is lent on
         assigns ! (addr ! (from ! (fld ! refl (hop ! (look-in ! 12 (sub ! 0 refl (whole !))) (stop !))))) (from ! (stop !)) (init ! 2 refl (tt, tt)) $
         assigns ! (agg ! (and-then ! (load ! (from ! (stop !)) (look ! 2 refl)) (and-then ! (load ! (from ! (fld ! refl (stop !))) (look-in ! 12 (sub ! 1 refl (whole !)))) (no-more !)))) (from ! (stop !)) (init ! 0 refl (tt, (tt, (record { fits = room .0 }, tt)))) $
         move ! (16 ∷ 17 ∷ []) $ use2 W (raw (Core 𝓤 H A at-mem run .pre to-core)) core-goes $
