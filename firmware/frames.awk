@@ -132,7 +132,7 @@ function bound(f,    k, callee, here, own, self) {
     if (f in bounds) return bounds[f]
     if (f ~ /^(memcpy|memmove|memset|memcmp)$/) return memory
     if (!(f in first)) fail("an unknown function is called: " f)
-    if (open[f]) fail("functions call each other in a circle through " f)
+    if (open[f]) fail("functions call each other in a circle through " name_of[f])
     open[f] = 1
     own = most[f]
     self = 0

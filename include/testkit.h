@@ -489,7 +489,8 @@ static inline struct testkit_continuity_report testkit_sheet_report(
  * TESTKIT_VERDICT_NO_REPORT, NOTHING_RETURNED, TOO_MANY_LOST, TOO_MANY_IN_A_ROW, OUTAGE_TOO_LONG and ERROR_INDICATED
  * that holds of its figures, or TESTKIT_VERDICT_PASS. The report's own budget, forwarding_proven and
  * packet_continuity_proven are not looked at. Beside TOO_MANY_LOST, TOO_MANY_IN_A_ROW and OUTAGE_TOO_LONG stand the
- * report's number and the budget's, beside ERROR_INDICATED the number of Error Indications and 0.
+ * report's number and the budget's, beside ERROR_INDICATED the number of Error Indications and 0. The report's bools
+ * must be 0 or 1, as a bool of C is.
  */
 struct testkit_verdict testkit_judge_report(struct testkit_continuity_report report, struct testkit_budget budget);
 
