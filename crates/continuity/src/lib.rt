@@ -14,8 +14,6 @@ ghost use Rattle.continuity.specs.Returns.{sequenceRead, recordReceivedT
 ghost use Rattle.continuity.specs.Answer.{messageMeans, messageRecorded, messageOfKind, sequenceNumbers};
 ghost use Rattle.continuity.specs.Claims.{KindIsOfType};
 
-pub mod batch; // batch.rt: a list of T-PDUs that came back, in one call
-
 // What a returned message was.
 pub enum GtpuReturnDatagramOutcome {
     MeasurementTpdu,
@@ -37,12 +35,12 @@ pub struct MessageRecorded {
 }
 
 // What a T-PDU reads as: its sequence beside 0, or 0 beside the number of the reader's refusal.
-struct SequenceRead {
-    sequence: u64,
-    number: u8,
+pub struct SequenceRead {
+    pub sequence: u64,
+    pub number: u8,
 }
 
-fn read_sequence(tpdu: &[u8]) -> SequenceRead
+pub fn read_sequence(tpdu: &[u8]) -> SequenceRead
     ensures { λ r. ⌜ r ≡ sequenceNumbers (sequenceRead (now (tpdu .entry))) ⌝ }
 {
     let mut src = [0; 16];
