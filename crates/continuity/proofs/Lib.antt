@@ -1,4 +1,3 @@
 -- What the two return calls make of what was read and walked.
 pub mod Laws
 pub mod Claims
-pub mod Received

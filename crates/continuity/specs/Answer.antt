@@ -2,7 +2,8 @@
 use Prim.Native.Nat.{ℕ}
 use mathlib.Core.List.{List}
 use Rattle.error.specs.Outcome.{Outcome, refused, gives}
-use Rattle.observer.specs.Answer.{observerOf}
+use Rattle.rows.specs.Columns.{Column}
+use Rattle.observer.specs.Answer.{observerOf, left}
 use Rattle.observer.specs.declared.Recorded.{Recorded}
 use Rattle.observer.specs.declared.Recording.{Recording}
 use Rattle.observer.specs.declared.Recording.the-variants as recording
@@ -21,6 +22,10 @@ messageMeans (message.Refused n) = refused n
 -- What a message was answered, and the columns as the call left them.
 abbrev pub messageRecorded : MessageRecorded → List ℕ → List ℕ → List ℕ → List ℕ → MessageStep
 messageRecorded r qs ts ls ms = record { outcome = messageMeans (r .answer); observer = observerOf qs ts ls ms (r .counts) }
+
+-- In a contract: what a message is answered, and the observer that the call leaves.
+abbrev pub messageLeaves : MessageRecorded → Column → Column → Column → Column → MessageStep
+messageLeaves r qs ts ls ms = record { outcome = messageMeans (r .answer); observer = left qs ts ls ms (r .counts) }
 
 -- The observer's answer, as the answer to a message of this kind.
 abbrev pub answerOfKind : GtpuReturnDatagramOutcome → Recording → ReturnRecording

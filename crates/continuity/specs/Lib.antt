@@ -2,5 +2,4 @@
 pub mod Kinds
 pub mod Returns
 pub mod Answer
-pub mod Batch
 pub mod Claims

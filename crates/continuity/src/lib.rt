@@ -8,13 +8,11 @@ use observer::Recording;
 ghost use mathlib.Core.Path.{_≡_};
 ghost use Rattle.gtpu.specs.Message.{gtpuMsgErrorIndication, gtpuMsgGpdu};
 ghost use Rattle.observer.specs.Judge.{refusing};
-ghost use Rattle.observer.specs.Answer.{observerOf, recorded};
+ghost use Rattle.observer.specs.Answer.{leaves, lent};
 ghost use Rattle.continuity.specs.Kinds.{messageKind};
 ghost use Rattle.continuity.specs.Returns.{sequenceRead, recordReceivedTpdu, recordElements, unchanged, recordReturnMessage};
-ghost use Rattle.continuity.specs.Answer.{messageMeans, messageRecorded, messageOfKind, sequenceNumbers};
+ghost use Rattle.continuity.specs.Answer.{messageMeans, messageOfKind, sequenceNumbers, messageLeaves};
 ghost use Rattle.continuity.specs.Claims.{KindIsOfType};
-
-pub mod batch; // batch.rt: a list of T-PDUs that came back, in one call
 
 // What a returned message was.
 pub enum GtpuReturnDatagramOutcome {
@@ -37,12 +35,12 @@ pub struct MessageRecorded {
 }
 
 // What a T-PDU reads as: its sequence beside 0, or 0 beside the number of the reader's refusal.
-struct SequenceRead {
-    sequence: u64,
-    number: u8,
+pub struct SequenceRead {
+    pub sequence: u64,
+    pub number: u8,
 }
 
-fn read_sequence(tpdu: &[u8]) -> SequenceRead
+pub fn read_sequence(tpdu: &[u8]) -> SequenceRead
     ensures { λ r. ⌜ r ≡ sequenceNumbers (sequenceRead (now (tpdu .entry))) ⌝ }
 {
     let mut src = [0; 16];
@@ -63,8 +61,8 @@ fn refuse(
     counts: ObserverCounts,
     number: u8,
 ) -> Recorded
-    ensures { λ r. ⌜ recorded r (now (sequences .entry)) (now («send_timestamps» .entry)) (now (latencies .entry)) (now (marks .entry))
-        ≡ refusing (observerOf (now (sequences .entry)) (now («send_timestamps» .entry)) (now (latencies .entry)) (now (marks .entry)) counts) number ⌝ }
+    ensures { λ r. ⌜ leaves r sequences «send_timestamps» latencies marks
+        ≡ refusing (lent sequences «send_timestamps» latencies marks counts) number ⌝ }
 {
     if !observer::well_formed(sequences, send_timestamps, latencies, marks, counts) {
         return Recorded {
@@ -89,8 +87,8 @@ pub fn record_received_tpdu(
     return_timestamp_ns: u64,
     tpdu: &[u8],
 ) -> Recorded
-    ensures { λ r. ⌜ recorded r (now (sequences .entry)) (now («send_timestamps» .entry)) (now (latencies .exit)) (now (marks .exit))
-        ≡ recordReceivedTpdu (observerOf (now (sequences .entry)) (now («send_timestamps» .entry)) (now (latencies .entry)) (now (marks .entry)) counts)
+    ensures { λ r. ⌜ leaves r sequences «send_timestamps» latencies marks
+        ≡ recordReceivedTpdu (lent sequences «send_timestamps» latencies marks counts)
         «return_timestamp_ns» (now (tpdu .entry)) ⌝ }
 {
     let read = read_sequence(tpdu);
@@ -124,8 +122,8 @@ fn record_elements(
     counts: ObserverCounts,
     elements: &[u8],
 ) -> Recorded
-    ensures { λ r. ⌜ recorded r (now (sequences .entry)) (now («send_timestamps» .entry)) (now (latencies .entry)) (now (marks .entry))
-        ≡ recordElements (observerOf (now (sequences .entry)) (now («send_timestamps» .entry)) (now (latencies .entry)) (now (marks .entry)) counts)
+    ensures { λ r. ⌜ leaves r sequences «send_timestamps» latencies marks
+        ≡ recordElements (lent sequences «send_timestamps» latencies marks counts)
         (now (elements .entry)) ⌝ }
 {
     match gtpu::validate_error_indication_ies(elements) {
@@ -189,8 +187,8 @@ fn leave_unchanged(
     counts: ObserverCounts,
     answer: ReturnRecording,
 ) -> MessageRecorded
-    ensures { λ r. ⌜ messageRecorded r (now (sequences .entry)) (now («send_timestamps» .entry)) (now (latencies .entry)) (now (marks .entry))
-        ≡ unchanged (observerOf (now (sequences .entry)) (now («send_timestamps» .entry)) (now (latencies .entry)) (now (marks .entry)) counts)
+    ensures { λ r. ⌜ messageLeaves r sequences «send_timestamps» latencies marks
+        ≡ unchanged (lent sequences «send_timestamps» latencies marks counts)
         (messageMeans answer) ⌝ }
 {
     if !observer::well_formed(sequences, send_timestamps, latencies, marks, counts) {
@@ -217,8 +215,8 @@ pub fn record_return_gtpu_datagram(
     message_type: u8,
     payload: &[u8],
 ) -> MessageRecorded
-    ensures { λ r. ⌜ messageRecorded r (now (sequences .entry)) (now («send_timestamps» .entry)) (now (latencies .exit)) (now (marks .exit))
-        ≡ recordReturnMessage (observerOf (now (sequences .entry)) (now («send_timestamps» .entry)) (now (latencies .entry)) (now (marks .entry)) counts)
+    ensures { λ r. ⌜ messageLeaves r sequences «send_timestamps» latencies marks
+        ≡ recordReturnMessage (lent sequences «send_timestamps» latencies marks counts)
         «return_timestamp_ns» «message_type» (now (payload .entry)) ⌝ }
 {
     match message_type {

@@ -1,26 +1,33 @@
--- `arrive`, way by way: what it stored in the columns is what the laws of proofs/Calls.antt say of the rows.
--- Assumes nothing.
+-- `rows::arrive` on an observer that was judged is `recordReturn`: what it stores in the columns is, way by way, what the laws of
+-- proofs/Calls.antt say of the rows.
 use Prim.Native.Nat.{ℕ, suc, _+_, _-_, _≤_, _<_}
 use mathlib.Core.Path.{_≡_, refl, sym, ap, _∙_}
 use mathlib.Core.List.{List}
 use mathlib.Core.Bool.{Bool, true, false}
 use native.Mathlib.Numerals.{add-one}
 use native.Mathlib.Omega.{arith}
-use lib.Dec.{ltb}
+use lib.Dec.{eqb, ltb}
 use lib.ListN.{length, getD, take, drop, set, length-set}
-use borrow.Author.Tests.{eqb-true}
-use Rattle.error.specs.Number.{sequenceWasNotSent, timestampReversed}
-use Rattle.error.specs.Outcome.{refused, gives}
-use Rattle.observer.specs.Counts.{withUsed, oneDuplicate, outOfOrderIf}
-use Rattle.observer.specs.Observer.{Row, Observer, rows, rowAt, withRows, withCounts, sequencesOf}
-use Rattle.observer.specs.Judge.{step}
-use Rattle.observer.specs.Place.{place, holds, wasSent, rowOf, highestMarked, markedAbove}
+use borrow.Author.Tests.{eqb-true, eqb-false, ltb-true, ltb-false}
+use Rattle.error.specs.Outcome.{gives}
+use Rattle.columns.specs.Columns.{anyMarked}
+use Rattle.columns.specs.Place.{place, holds, found}
+use Rattle.columns.proofs.Search.{both-right, found-place}
+use Rattle.rows.specs.Columns.{columnLengths, capacityOf, Left, left}
+use Rattle.rows.specs.Arriving.{arriving}
+use Rattle.rows.specs.declared.Arrival.{Arrival}
+use Rattle.rows.proofs.Within.{held-used}
+use Rattle.rows.proofs.Ways.{arrives-unknown, arrives-early, arrives-again, arrives-late, arrives-in-order}
+use Rattle.observer.specs.Counts.{withUsed, outOfOrderIf}
+use Rattle.observer.specs.Observer.{Row, Observer, columnsIn, capacity, rows, rowAt, withRows, withCounts, sequencesOf}
+use Rattle.observer.specs.Judge.{wellFormed, Step, step}
+use Rattle.observer.specs.Place.{wasSent, rowOf, highestMarked, markedAbove}
 use Rattle.observer.specs.Returning.{returned, recordReturn}
-use Rattle.observer.specs.Columns.{anyMarked}
+use Rattle.observer.specs.Answer.{afterArrival, recorded}
 use Rattle.observer.specs.declared.ObserverCounts.{ObserverCounts}
-use Rattle.observer.proofs.Search.{both-right}
+use Rattle.observer.specs.declared.Recorded.{Recorded}
 use Rattle.observer.proofs.Rows.{entry-is, column-set, column-same}
-use Rattle.observer.proofs.Judging.{Well, found-place, found, held-used}
+use Rattle.observer.proofs.Judging.{Well, well, place-is, held-is}
 use Rattle.observer.proofs.OutOfOrder.{below-highest, above-behind}
 use Rattle.observer.proofs.Calls.{return-unknown, return-early, return-duplicate, return-first}
 
@@ -50,24 +57,43 @@ returned-columns {o} w k t c e h =
       counts = withUsed ((length-set (rows o) k r ∙ f .count ∙ sym e) i) c;
     }
 
-pub used-kept : (late : Bool) (c : ObserverCounts) → outOfOrderIf late c .used ≡ c .used
+used-kept : (late : Bool) (c : ObserverCounts) → outOfOrderIf late c .used ≡ c .used
 used-kept true c = refl
 used-kept false c = refl
 
--- an observer that was judged, and a place that was found
-module _ {o : Observer} (w : Well o) (q t k : ℕ) (at : k ≡ place q (take (o .counts .used) (o .sequences))) where
-  pub arrives-unknown : holds q k (take (o .counts .used) (o .sequences)) ≡ false → step o (refused sequenceWasNotSent) ≡ recordReturn o t q
-  arrives-unknown e = return-unknown o (w .accepted) q t (found w q k at ∙ e)
+-- what an arrival is answered by, and the columns as it leaves them
+abbrev pub arrivalStep : ObserverCounts → Left Arrival → Step
+arrivalStep c a = recorded (afterArrival c (a .answer)) (a .columns .sequences) (a .columns .sendTimes) (a .columns .latencies) (a .columns .marks)
 
-  module _ (h : holds q k (take (o .counts .used) (o .sequences)) ≡ true) where
-    below : k < o .counts .used
-    below = held-used w q k at h
+module _ {o : Observer} (w : Well o) (q t : ℕ) where
+  abbrev n : ℕ
+  n = o .counts .used
+
+  -- where the search ends
+  abbrev k : ℕ
+  k = found q (take n (o .sequences))
+
+  at : k ≡ place q (take n (o .sequences))
+  at = found-place q (take n (o .sequences)) (w .rises)
+
+  fits : n ≤ capacityOf (columnLengths (columnsIn o))
+  unfolding capacity
+  fits = w .fits
+
+  unknown : holds q k (take n (o .sequences)) ≡ false → arrivalStep (o .counts) (arriving n t q (columnsIn o)) ≡ recordReturn o t q
+  unknown e =
+      ap (arrivalStep (o .counts)) (sym (arrives-unknown n t q (columnsIn o) fits k refl e))
+      ∙ return-unknown o (w .accepted) q t (held-is w q k at ∙ e)
+
+  module _ (h : holds q k (take n (o .sequences)) ≡ true) where
+    below : k < n
+    below = held-used q k n (o .sequences) h
 
     known : wasSent q (rows o) ≡ true
-    known = found w q k at ∙ h
+    known = held-is w q k at ∙ h
 
     row-is : rowOf q (rows o) ≡ rowAt k (rows o)
-    row-is = ap (λ (i : ℕ). rowAt i (rows o)) (found-place w q k at)
+    row-is = ap (λ (i : ℕ). rowAt i (rows o)) (place-is w q k at)
 
     sent-is : rowOf q (rows o) .sent ≡ getD (o .sendTimes) k 0
     sent-is =
@@ -93,32 +119,54 @@ module _ {o : Observer} (w : Well o) (q t k : ℕ) (at : k ≡ place q (take (o 
         ∙ ap (λ (l : List ℕ). anyMarked (drop (suc k) l)) (w .fronts .marks)
         ∙ ap (λ (i : ℕ). anyMarked (drop i (take (o .counts .used) (o .marks)))) (sym (add-one k))
 
-    pub arrives-early : t < getD (o .sendTimes) k 0 → step o (refused timestampReversed) ≡ recordReturn o t q
-    arrives-early g = return-early o (w .accepted) q t known (omega (arith, sent-is))
+    early : t < getD (o .sendTimes) k 0 → arrivalStep (o .counts) (arriving n t q (columnsIn o)) ≡ recordReturn o t q
+    early g =
+        ap (arrivalStep (o .counts)) (sym (arrives-early n t q (columnsIn o) fits k refl h g))
+        ∙ return-early o (w .accepted) q t known (omega (arith, sent-is))
 
-    pub arrives-duplicate : getD (o .sendTimes) k 0 ≤ t → getD (o .marks) k 0 ≡ 1 → (c : ObserverCounts) → c ≡ oneDuplicate (o .counts)
-        → step o (gives (withCounts c o)) ≡ recordReturn o t q
-    arrives-duplicate g m c e =
-        ap (λ (x : ObserverCounts). step o (gives (withCounts x o))) e
-        ∙ return-duplicate o (w .accepted) q t known (omega (arith, sent-is)) (mark-is ∙ m)
+    module _ (g : getD (o .sendTimes) k 0 ≤ t) where
+      duplicate : eqb (getD (o .marks) k 0) 1 ≡ true → arrivalStep (o .counts) (arriving n t q (columnsIn o)) ≡ recordReturn o t q
+      duplicate m =
+          ap (arrivalStep (o .counts)) (sym (arrives-again n t q (columnsIn o) fits k refl h g m))
+          ∙ return-duplicate o (w .accepted) q t known (omega (arith, sent-is)) (mark-is ∙ eqb-true _ 1 m)
 
-    pub arrives-first : getD (o .sendTimes) k 0 ≤ t → (getD (o .marks) k 0 ≡ 1 → ⊥) → (late : Bool) (c : ObserverCounts)
-        → late ≡ anyMarked (drop (k + 1) (take (o .counts .used) (o .marks))) → c ≡ outOfOrderIf late (o .counts)
-        → step o
-        (gives
-        (record {
-          sequences = o .sequences;
-          sendTimes = o .sendTimes;
-          latencies = set (o .latencies) k (t - getD (o .sendTimes) k 0);
-          marks = set (o .marks) k 1;
-          counts = c;
-        }))
-        ≡ recordReturn o t q
-    arrives-first g m late c el ec =
-        let row : ℕ → ObserverCounts → Observer = λ i x. withRows (set (rows o) i (returned t (rowAt i (rows o)))) (withCounts x o) in
-        let e : c ≡ outOfOrderIf (ltb q (highestMarked (rows o))) (o .counts) = ec ∙ ap (λ (b : Bool). outOfOrderIf b (o .counts)) (el ∙ sym late-is) in
-        ap (λ (x : Observer). step o (gives x))
-        (sym (returned-columns w k t c (ap (λ (x : ObserverCounts). x .used) ec ∙ used-kept late (o .counts)) below)
-        ∙ ap (row k) e
-        ∙ ap (λ (i : ℕ). row i (outOfOrderIf (ltb q (highestMarked (rows o))) (o .counts))) (sym (found-place w q k at)))
-        ∙ return-first o (w .accepted) q t known (omega (arith, sent-is)) (λ x. m (sym mark-is ∙ x))
+      -- the row as it then is, and the counts by whether some row behind it is marked
+      first : eqb (getD (o .marks) k 0) 1 ≡ false → (late : Bool) → anyMarked (drop (k + 1) (take n (o .marks))) ≡ late
+          → step o
+          (gives
+          (record {
+            sequences = o .sequences;
+            sendTimes = o .sendTimes;
+            latencies = set (o .latencies) k (t - getD (o .sendTimes) k 0);
+            marks = set (o .marks) k 1;
+            counts = outOfOrderIf late (o .counts);
+          }))
+          ≡ recordReturn o t q
+      first m late l =
+          let row : ℕ → ObserverCounts → Observer = λ i x. withRows (set (rows o) i (returned t (rowAt i (rows o)))) (withCounts x o) in
+          ap (λ (x : Observer). step o (gives x))
+          (sym (returned-columns w k t (outOfOrderIf late (o .counts)) (used-kept late (o .counts)) below)
+          ∙ ap (λ (b : Bool). row k (outOfOrderIf b (o .counts))) (sym (late-is ∙ l))
+          ∙ ap (λ (i : ℕ). row i (outOfOrderIf (ltb q (highestMarked (rows o))) (o .counts))) (sym (place-is w q k at)))
+          ∙ return-first o (w .accepted) q t known (omega (arith, sent-is)) (λ x. eqb-false _ 1 m (sym mark-is ∙ x))
+
+      first-is : eqb (getD (o .marks) k 0) 1 ≡ false → (late : Bool) → anyMarked (drop (k + 1) (take n (o .marks))) ≡ late
+          → arrivalStep (o .counts) (arriving n t q (columnsIn o)) ≡ recordReturn o t q
+      first-is m true l = ap (arrivalStep (o .counts)) (sym (arrives-late n t q (columnsIn o) fits k refl h g m l)) ∙ first m true l
+      first-is m false l = ap (arrivalStep (o .counts)) (sym (arrives-in-order n t q (columnsIn o) fits k refl h g m l)) ∙ first m false l
+
+  pub arrival-is-return : arrivalStep (o .counts) (arriving n t q (columnsIn o)) ≡ recordReturn o t q
+  arrival-is-return = go (holds q k (take n (o .sequences))) (ltb t (getD (o .sendTimes) k 0)) (eqb (getD (o .marks) k 0) 1) refl refl refl
+    where
+      go : (has reversed marked : Bool) → holds q k (take n (o .sequences)) ≡ has → ltb t (getD (o .sendTimes) k 0) ≡ reversed
+          → eqb (getD (o .marks) k 0) 1 ≡ marked → arrivalStep (o .counts) (arriving n t q (columnsIn o)) ≡ recordReturn o t q
+      go false reversed marked e f m = unknown e
+      go true true marked e f m = early e (ltb-true _ _ f)
+      go true false true e f m = duplicate e (ltb-false _ _ f) m
+      go true false false e f m = first-is e (ltb-false _ _ f) m _ refl
+
+-- the code's call, and its answer
+pub arrived-is : (o : Observer) (t q : ℕ) (a : Arrival) (r : Recorded) (qs ts ls ms : List ℕ) → wellFormed o ≡ true
+    → left a qs ts ls ms ≡ arriving (o .counts .used) t q (columnsIn o) → r ≡ afterArrival (o .counts) a → recorded r qs ts ls ms ≡ recordReturn o t q
+arrived-is o t q a r qs ts ls ms w x y =
+    ap (λ (z : Recorded). recorded z qs ts ls ms) y ∙ ap (arrivalStep (o .counts)) x ∙ arrival-is-return (well o w) q t

@@ -1,5 +1,4 @@
 -- Each call by its ways out, on the used rows. Callers and claims use these laws, and not the text of the definitions.
--- Assumes nothing.
 use Prim.Native.Nat.{ℕ, _≤_, _<_}
 use mathlib.Core.Path.{_≡_, sym, ap, _∙_}
 use mathlib.Core.Bool.{Bool, true, false, not}

@@ -1,5 +1,4 @@
 -- The claims of specs/Claims.antt, proved.
--- Assumes nothing.
 use Prim.Native.Nat.{ℕ, _<_}
 use mathlib.Core.Path.{_≡_, refl, sym, ap, _∙_}
 use mathlib.Core.List.{List, [], _∷_}
@@ -11,13 +10,15 @@ use borrow.Author.Tests.{eqb-true, eqb-false, eq-eqb, lt-ltb, le-leb, ltb-true, 
 use Rattle.error.proofs.Tests.{and-both}
 use Rattle.observer.specs.Counts.{fresh, withUsed, oneDuplicate, outOfOrderIf, oneErrorIndication}
 use Rattle.observer.specs.Observer.{Row, Observer, capacity, rows, sequencesOf}
-use Rattle.observer.specs.Judge.{rising, wellFormed, Step}
-use Rattle.observer.specs.Place.{holds, placeOf, wasSent, rowOf, highestMarked}
+use Rattle.columns.specs.Columns.{rising}
+use Rattle.observer.specs.Judge.{wellFormed, Step}
+use Rattle.columns.specs.Place.{holds}
+use Rattle.observer.specs.Place.{placeOf, wasSent, rowOf, highestMarked}
 use Rattle.observer.specs.Sending.{resent, recordSent}
 use Rattle.observer.specs.Returning.{returned, recordReturn}
 use Rattle.observer.specs.Answer.{observerOf}
 use Rattle.observer.specs.Claims.{PutBack, FreshIsWell, Call, sending, returning, indicating, recordCall, CallsKeepWell, SearchFinds, FullOnlyWhenFull, FullAtRow2049, SentAgain, BelowHighestMarked}
-use Rattle.observer.proofs.Search.{both-right, rising-at, place-at, held-within}
+use Rattle.columns.proofs.Search.{both-right, rising-at, place-at, held-within}
 use Rattle.observer.proofs.Rows.{rows-are, rows-with, counts-with, field-at}
 use Rattle.observer.proofs.OutOfOrder.{below-highest}
 use Rattle.observer.proofs.Calls.{sent-again, sent-full, sent-new, return-unknown, return-early, return-duplicate, return-first, indication-counted}

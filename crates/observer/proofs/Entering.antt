@@ -1,22 +1,32 @@
--- `enter`, way by way: what it stored in the columns is what the laws of proofs/Calls.antt say of the rows.
--- Assumes nothing.
+-- `rows::enter` on an observer that was judged is `recordSent`: what it stores in the columns is, way by way, what the laws of
+-- proofs/Calls.antt say of the rows.
 use Prim.Native.Nat.{ℕ, suc, _+_, _≤_, _<_}
 use mathlib.Core.Path.{_≡_, refl, sym, ap, _∙_}
 use mathlib.Core.List.{List}
-use mathlib.Core.Bool.{true, false}
+use mathlib.Core.Bool.{Bool, true, false}
 use native.Mathlib.Numerals.{add-one}
+use native.Mathlib.Omega.{arith}
+use lib.Dec.{eqb}
 use lib.ListN.{take, set, length-set}
-use Rattle.error.specs.Number.{observerFull}
-use Rattle.error.specs.Outcome.{refused, gives}
+use borrow.Author.Tests.{eqb-true, eqb-false}
+use Rattle.error.specs.Outcome.{gives}
+use Rattle.columns.specs.Columns.{inserted}
+use Rattle.columns.specs.Place.{place, holds, found}
+use Rattle.columns.proofs.Search.{found-place}
+use Rattle.rows.specs.Columns.{columnLengths, capacityOf, Left, left}
+use Rattle.rows.specs.Entering.{entering}
+use Rattle.rows.specs.declared.Entry.{Entry}
+use Rattle.rows.proofs.Within.{Within, held-used}
+use Rattle.rows.proofs.Ways.{enters-again, enters-full, enters-new}
 use Rattle.observer.specs.Counts.{withUsed}
-use Rattle.observer.specs.Observer.{Row, Observer, capacity, rows, rowAt, sentRow, withRows}
-use Rattle.observer.specs.Judge.{step}
-use Rattle.observer.specs.Place.{place, holds}
+use Rattle.observer.specs.Observer.{Row, Observer, columnsIn, capacity, rows, rowAt, sentRow, withRows}
+use Rattle.observer.specs.Judge.{wellFormed, Step, step}
 use Rattle.observer.specs.Sending.{resent, recordSent}
-use Rattle.observer.specs.Columns.{inserted}
+use Rattle.observer.specs.Answer.{afterEntry, recorded}
 use Rattle.observer.specs.declared.ObserverCounts.{ObserverCounts}
-use Rattle.observer.proofs.Rows.{putIn, length-put, column-set, column-same, column-put}
-use Rattle.observer.proofs.Judging.{Well, found-place, found, held-used, place-used}
+use Rattle.observer.specs.declared.Recorded.{Recorded}
+use Rattle.observer.proofs.Rows.{room-for, putIn, length-put, column-set, column-same, column-put}
+use Rattle.observer.proofs.Judging.{Well, well, place-is, held-is, place-used}
 use Rattle.observer.proofs.Calls.{sent-again, sent-full, sent-new}
 
 module _ {o : Observer} (w : Well o) (k : ℕ) where
@@ -38,7 +48,7 @@ module _ {o : Observer} (w : Well o) (k : ℕ) where
       }
 
   -- a new row at k: an entry is put in, in each column
-  sent-columns : (q t : ℕ) → k ≤ o .counts .used
+  sent-columns : (q t : ℕ) → k ≤ o .counts .used → Within (o .counts .used + 1) (columnsIn o)
       → withRows (putIn k (sentRow q t) (rows o)) o
       ≡ record {
         sequences = inserted (o .counts .used) k q (o .sequences);
@@ -48,42 +58,73 @@ module _ {o : Observer} (w : Well o) (k : ℕ) where
         counts = withUsed (o .counts .used + 1) (o .counts);
       }
   unfolding withRows
-  sent-columns q t h =
+  sent-columns q t h free =
       let r : Row = sentRow q t in
       let f = w .fronts in
       λ i.
       record {
-        sequences = column-put (λ r. r .sequence) (rows o) (o .sequences) (f .count) (f .sequences) k r h i;
-        sendTimes = column-put (λ r. r .sent) (rows o) (o .sendTimes) (f .count) (f .sendTimes) k r h i;
-        latencies = column-put (λ r. r .latency) (rows o) (o .latencies) (f .count) (f .latencies) k r h i;
-        marks = column-put (λ r. r .mark) (rows o) (o .marks) (f .count) (f .marks) k r h i;
+        sequences = column-put (λ r. r .sequence) (rows o) (o .sequences) (f .count) (f .sequences) k r h (omega (arith, free .sequences)) i;
+        sendTimes = column-put (λ r. r .sent) (rows o) (o .sendTimes) (f .count) (f .sendTimes) k r h (omega (arith, free .sendTimes)) i;
+        latencies = column-put (λ r. r .latency) (rows o) (o .latencies) (f .count) (f .latencies) k r h (omega (arith, free .latencies)) i;
+        marks = column-put (λ r. r .mark) (rows o) (o .marks) (f .count) (f .marks) k r h (omega (arith, free .marks)) i;
         counts = withUsed ((length-put k r (rows o) ∙ ap suc (f .count) ∙ sym (add-one (o .counts .used))) i) (o .counts);
       }
 
--- an observer that was judged, and a place that was found
-module _ {o : Observer} (w : Well o) (q t k : ℕ) (at : k ≡ place q (take (o .counts .used) (o .sequences))) where
-  pub enters-again : holds q k (take (o .counts .used) (o .sequences)) ≡ true
-      → step o (gives (record { sequences = o .sequences; sendTimes = set (o .sendTimes) k t; latencies = o .latencies; marks = o .marks; counts = o .counts }))
-      ≡ recordSent o q t
-  enters-again e =
-      ap (λ (x : Observer). step o (gives x))
-      (sym (resent-columns w k t (held-used w q k at e))
-      ∙ ap (λ (i : ℕ). withRows (set (rows o) i (resent t (rowAt i (rows o)))) o) (sym (found-place w q k at)))
-      ∙ sent-again o (w .accepted) q t (found w q k at ∙ e)
+-- what an entry is answered by, and the columns as it leaves them
+abbrev pub entryStep : ObserverCounts → Left Entry → Step
+entryStep c e = recorded (afterEntry c (e .answer)) (e .columns .sequences) (e .columns .sendTimes) (e .columns .latencies) (e .columns .marks)
 
-  pub enters-full : holds q k (take (o .counts .used) (o .sequences)) ≡ false → o .counts .used ≡ capacity o
-      → step o (refused observerFull) ≡ recordSent o q t
-  enters-full e f = sent-full o (w .accepted) q t (found w q k at ∙ e) f
+module _ {o : Observer} (w : Well o) (q t : ℕ) where
+  abbrev n : ℕ
+  n = o .counts .used
 
-  pub enters-new : holds q k (take (o .counts .used) (o .sequences)) ≡ false → (o .counts .used ≡ capacity o → ⊥)
-      → {qs ts ls ms : List ℕ}
-      → qs ≡ inserted (o .counts .used) k q (o .sequences) → ts ≡ inserted (o .counts .used) k t (o .sendTimes)
-      → ls ≡ inserted (o .counts .used) k 0 (o .latencies) → ms ≡ inserted (o .counts .used) k 0 (o .marks)
-      → {c : ObserverCounts} → c ≡ withUsed (o .counts .used + 1) (o .counts)
-      → step o (gives (record { sequences = qs; sendTimes = ts; latencies = ls; marks = ms; counts = c }))
-      ≡ recordSent o q t
-  enters-new e f eq et el em ec =
-      rw (eq, et, el, em, ec)
-      (ap (λ (x : Observer). step o (gives x))
-      (sym (sent-columns w k q t (place-used w q k at)) ∙ ap (λ (i : ℕ). withRows (putIn i (sentRow q t) (rows o)) o) (sym (found-place w q k at)))
-      ∙ sent-new o (w .accepted) q t (found w q k at ∙ e) f)
+  -- where the search ends
+  abbrev k : ℕ
+  k = found q (take n (o .sequences))
+
+  at : k ≡ place q (take n (o .sequences))
+  at = found-place q (take n (o .sequences)) (w .rises)
+
+  fits : n ≤ capacityOf (columnLengths (columnsIn o))
+  unfolding capacity
+  fits = w .fits
+
+  room : capacity o ≡ capacityOf (columnLengths (columnsIn o))
+  unfolding capacity
+  room = refl
+
+  again : holds q k (take n (o .sequences)) ≡ true → entryStep (o .counts) (entering n q t (columnsIn o)) ≡ recordSent o q t
+  again e =
+      ap (entryStep (o .counts)) (sym (enters-again n q t (columnsIn o) fits k refl e))
+      ∙ ap (λ (x : Observer). step o (gives x))
+      (sym (resent-columns w k t (held-used q k n (o .sequences) e))
+      ∙ ap (λ (i : ℕ). withRows (set (rows o) i (resent t (rowAt i (rows o)))) o) (sym (place-is w q k at)))
+      ∙ sent-again o (w .accepted) q t (held-is w q k at ∙ e)
+
+  full : holds q k (take n (o .sequences)) ≡ false → n ≡ capacity o → entryStep (o .counts) (entering n q t (columnsIn o)) ≡ recordSent o q t
+  full e f =
+      ap (entryStep (o .counts)) (sym (enters-full n q t (columnsIn o) fits k refl e (f ∙ room)))
+      ∙ sent-full o (w .accepted) q t (held-is w q k at ∙ e) f
+
+  new : holds q k (take n (o .sequences)) ≡ false → (n ≡ capacity o → ⊥) → entryStep (o .counts) (entering n q t (columnsIn o)) ≡ recordSent o q t
+  new e f =
+      ap (entryStep (o .counts)) (sym (enters-new n q t (columnsIn o) fits k refl e (λ x. f (x ∙ sym room))))
+      ∙ ap (λ (x : Observer). step o (gives x))
+      (sym (sent-columns w k q t (place-used w q k at) (room-for (n + 1) o (omega (arith, f, w .fits))))
+      ∙ ap (λ (i : ℕ). withRows (putIn i (sentRow q t) (rows o)) o) (sym (place-is w q k at)))
+      ∙ sent-new o (w .accepted) q t (held-is w q k at ∙ e) f
+
+  pub entry-is-sent : entryStep (o .counts) (entering n q t (columnsIn o)) ≡ recordSent o q t
+  entry-is-sent = go (holds q k (take n (o .sequences))) (eqb n (capacity o)) refl refl
+    where
+      go : (has none : Bool) → holds q k (take n (o .sequences)) ≡ has → eqb n (capacity o) ≡ none
+          → entryStep (o .counts) (entering n q t (columnsIn o)) ≡ recordSent o q t
+      go true none e f = again e
+      go false true e f = full e (eqb-true n (capacity o) f)
+      go false false e f = new e (eqb-false n (capacity o) f)
+
+-- the code's call, and its answer
+pub entered-is : (o : Observer) (q t : ℕ) (e : Entry) (r : Recorded) (qs ts ls ms : List ℕ) → wellFormed o ≡ true
+    → left e qs ts ls ms ≡ entering (o .counts .used) q t (columnsIn o) → r ≡ afterEntry (o .counts) e → recorded r qs ts ls ms ≡ recordSent o q t
+entered-is o q t e r qs ts ls ms w x y =
+    ap (λ (z : Recorded). recorded z qs ts ls ms) y ∙ ap (entryStep (o .counts)) x ∙ entry-is-sent (well o w) q t

@@ -1,5 +1,4 @@
 -- Cause 21 judged on the columns, and what an observer has that passes: its rows, their room, and the search for a sequence.
--- Assumes nothing.
 use Prim.Native.Nat.{ℕ, _≤_, _<_}
 use mathlib.Core.Path.{_≡_, refl, sym, ap, _∙_}
 use mathlib.Core.List.{List, [], _∷_, map}
@@ -9,12 +8,15 @@ use lib.Dec.{ltb}
 use lib.ListN.{take}
 use lib.Seq.{length-take-le}
 use borrow.Author.Tests.{le-leb, lt-leb, leb-true}
-use Rattle.observer.specs.Observer.{Row, Observer, capacity, rows, marksOf}
-use Rattle.observer.specs.Judge.{rising, rowsKnown, wellFormed}
-use Rattle.observer.specs.Place.{place, holds, placeOf, wasSent}
-use Rattle.observer.specs.Columns.{marksKnown}
-use Rattle.observer.proofs.Rows.{Within, within, Fronts, rows-are}
-use Rattle.observer.proofs.Search.{both-left, both-right, place-within, held-within}
+use Rattle.observer.specs.Observer.{Row, Observer, columnsIn, capacity, rows, marksOf}
+use Rattle.columns.specs.Columns.{rising}
+use Rattle.observer.specs.Judge.{rowsKnown, wellFormed}
+use Rattle.columns.specs.Place.{place, holds}
+use Rattle.observer.specs.Place.{placeOf, wasSent}
+use Rattle.columns.specs.Columns.{marksKnown}
+use Rattle.rows.proofs.Within.{Within}
+use Rattle.observer.proofs.Rows.{Fronts, room-for, rows-are}
+use Rattle.columns.proofs.Search.{both-left, both-right, place-within}
 
 marks-known : (rs : List Row) → rowsKnown rs ≡ marksKnown (marksOf rs)
 marks-known [] = refl
@@ -40,7 +42,7 @@ pub record Well (o : Observer) : Type 0 where
   pub rises : rising (take (o .counts .used) (o .sequences)) ≡ true
   pub known : marksKnown (take (o .counts .used) (o .marks)) ≡ true
   pub fronts : Fronts (o .counts .used) (rows o) (o .sequences) (o .sendTimes) (o .latencies) (o .marks)
-  pub room : Within (o .counts .used) o
+  pub room : Within (o .counts .used) (columnsIn o)
 
 pub well : (o : Observer) → wellFormed o ≡ true → Well o
 unfolding wellFormed
@@ -54,21 +56,17 @@ well o e =
       rises = both-left _ _ both;
       known = both-right (rising (take used (o .sequences))) _ both;
       fronts = rows-are o f;
-      room = within used o f;
+      room = room-for used o f;
     }
 
 -- the search for a sequence, which the code does in the column
 module _ {o : Observer} (w : Well o) (q k : ℕ) (at : k ≡ place q (take (o .counts .used) (o .sequences))) where
-  pub found-place : placeOf q (rows o) ≡ k
-  found-place = ap (place q) (w .fronts .sequences) ∙ sym at
+  pub place-is : placeOf q (rows o) ≡ k
+  place-is = ap (place q) (w .fronts .sequences) ∙ sym at
 
-  pub found : wasSent q (rows o) ≡ holds q k (take (o .counts .used) (o .sequences))
-  found = ap (λ (i : ℕ). holds q i (map (λ r. r .sequence) (rows o))) found-place ∙ ap (holds q k) (w .fronts .sequences)
+  pub held-is : wasSent q (rows o) ≡ holds q k (take (o .counts .used) (o .sequences))
+  held-is = ap (λ (i : ℕ). holds q i (map (λ r. r .sequence) (rows o))) place-is ∙ ap (holds q k) (w .fronts .sequences)
 
   pub place-used : k ≤ o .counts .used
   place-used =
       omega (arith, place-within q (take (o .counts .used) (o .sequences)), length-take-le (o .counts .used) (o .sequences) (w .room .sequences))
-
-  pub held-used : holds q k (take (o .counts .used) (o .sequences)) ≡ true → k < o .counts .used
-  held-used e =
-      omega (arith, held-within q k (take (o .counts .used) (o .sequences)) e, length-take-le (o .counts .used) (o .sequences) (w .room .sequences))

@@ -1,5 +1,4 @@
 -- What keeps rows rising and known, and so an observer well formed.
--- Assumes nothing.
 use Prim.Native.Nat.{ℕ, zero, suc, _+_, _≤_, _<_}
 use mathlib.Core.Path.{_≡_, refl, sym, ap, _∙_}
 use mathlib.Core.List.{List, [], _∷_, _++_}
@@ -12,10 +11,12 @@ use lib.Seq.{map-set-same}
 use borrow.Author.Tests.{lt-ltb, le-leb, ltb-true, ltb-false, eqb-false, leb-true}
 use Rattle.error.proofs.Tests.{and-both}
 use Rattle.observer.specs.Observer.{Row, Observer, capacity, rows, rowAt, sentRow, withRows, withCounts, sequencesOf}
-use Rattle.observer.specs.Judge.{rising, rowKnown, rowsKnown, wellFormed}
-use Rattle.observer.specs.Place.{place, holds, placeOf, wasSent}
+use Rattle.columns.specs.Columns.{rising}
+use Rattle.observer.specs.Judge.{rowKnown, rowsKnown, wellFormed}
+use Rattle.columns.specs.Place.{place, holds}
+use Rattle.observer.specs.Place.{placeOf, wasSent}
 use Rattle.observer.specs.declared.ObserverCounts.{ObserverCounts}
-use Rattle.observer.proofs.Search.{both-left, both-right, rising-tail, place-within}
+use Rattle.columns.proofs.Search.{both-left, both-right, rising-tail, place-within}
 use Rattle.observer.proofs.Rows.{rows-with, capacity-with, counts-with, putIn, length-put, map-put}
 
 -- ---- rising

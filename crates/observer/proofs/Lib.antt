@@ -1,7 +1,4 @@
 -- The laws that the proofs of the calls rest on, and the claims.
-pub mod Gathering
-pub mod Search
-pub mod Insertion
 pub mod Rows
 pub mod Judging
 pub mod OutOfOrder
@@ -10,6 +7,3 @@ pub mod Entering
 pub mod Arriving
 pub mod Keeping
 pub mod Claims
-pub mod Arrivals
-pub mod SendingPlan
-pub mod PlanClaims

@@ -1,5 +1,4 @@
 -- "Below the highest marked sequence": a row of higher sequence is marked; and on rising rows those of higher sequence stand behind.
--- Assumes nothing.
 use Prim.Native.Nat.{ℕ, zero, suc, _<_, max}
 use mathlib.Core.Path.{_≡_, refl, ap, _∙_}
 use mathlib.Core.List.{List, [], _∷_}
@@ -11,11 +10,11 @@ use lib.ListN.{length, getD, drop, length-map}
 use borrow.Author.Tests.{lt-ltb, le-ltb, ltb-true, ltb-false}
 use Rattle.error.proofs.Tests.{and-right}
 use Rattle.observer.specs.Observer.{Row, sequencesOf, marksOf}
-use Rattle.observer.specs.Judge.{rising}
+use Rattle.columns.specs.Columns.{rising}
 use Rattle.observer.specs.Place.{highestMarked, markedAbove}
-use Rattle.observer.specs.Columns.{anyMarked}
-use Rattle.observer.proofs.Gathering.{and-true}
-use Rattle.observer.proofs.Search.{both-left, both-right, rising-tail, head-below}
+use Rattle.columns.specs.Columns.{anyMarked}
+use Rattle.columns.proofs.Gathering.{and-true}
+use Rattle.columns.proofs.Search.{both-left, both-right, rising-tail, head-below}
 
 -- below the highest marked sequence: a row of higher sequence is marked
 below-max : (q a b : ℕ) → ltb q (max a b) ≡ (ltb q a || ltb q b)

@@ -1,5 +1,4 @@
 -- Rows and columns: the used rows are the fronts of the columns, and what `withRows` writes, column by column, as stores and insertions.
--- Assumes nothing.
 use Prim.Native.Nat.{ℕ, zero, suc, _+_, _-_, _≤_, _<_}
 use mathlib.Core.Path.{_≡_, refl, sym, ap, _∙_}
 use mathlib.Core.List.{List, [], _∷_, _++_, map, append-assoc}
@@ -8,22 +7,15 @@ use native.Mathlib.Omega.{arith}
 use lib.ListN.{length, getD, set, take, drop, take-append-drop, length-set, length-take, length-map, length-append, length-drop}
 use lib.Seq.{set-append-left, map-set-same, take-take, take-append-seam, getD-take, slice}
 use Rattle.observer.specs.Counts.{withUsed}
-use Rattle.observer.specs.Observer.{Row, Observer, capacity, rowsOf, rows, sentRow, rowAt, column, withRows}
-use Rattle.observer.specs.Columns.{inserted}
+use Rattle.observer.specs.Observer.{Row, Observer, columnsIn, capacity, rowsOf, rows, sentRow, rowAt, column, withRows}
+use Rattle.columns.specs.Columns.{inserted}
+use Rattle.columns.proofs.Insertion.{inserted-is}
+use Rattle.rows.proofs.Within.{Within, within}
 
--- ---- how many rows there is room for
-
--- every column has this many entries, and the capacity is no less
-pub record Within (n : ℕ) (o : Observer) : Type 0 where
-  pub sequences : n ≤ length (o .sequences)
-  pub sendTimes : n ≤ length (o .sendTimes)
-  pub latencies : n ≤ length (o .latencies)
-  pub marks : n ≤ length (o .marks)
-  pub most : n ≤ 2048
-
-pub within : (n : ℕ) (o : Observer) → n ≤ capacity o → Within n o
+-- every column has so many entries
+pub room-for : (n : ℕ) (o : Observer) → n ≤ capacity o → Within n (columnsIn o)
 unfolding capacity
-within n o h = record { sequences = omega arith; sendTimes = omega arith; latencies = omega arith; marks = omega arith; most = omega arith }
+room-for n o h = within n (columnsIn o) h
 
 -- ---- the used rows
 
@@ -55,7 +47,7 @@ pub rows-are : (o : Observer) → o .counts .used ≤ capacity o
     → Fronts (o .counts .used) (rows o) (o .sequences) (o .sendTimes) (o .latencies) (o .marks)
 unfolding rows
 rows-are o fits =
-    let w = within (o .counts .used) o fits in
+    let w = room-for (o .counts .used) o fits in
     fronts (o .counts .used) (o .sequences) (o .sendTimes) (o .latencies) (o .marks) (w .sequences) (w .sendTimes) (w .latencies) (w .marks)
 
 pub field-at : (field : Row → ℕ) (rs : List Row) (k : ℕ) → k < length rs → getD (map field rs) k 0 ≡ field (rowAt k rs)
@@ -103,7 +95,7 @@ length-column field rs old h = simp (length-append, length-map, length-drop) (om
 pub capacity-with : (rs : List Row) (o : Observer) → length rs ≤ capacity o → capacity (withRows rs o) ≡ capacity o
 unfolding withRows capacity
 capacity-with rs o h =
-    let w = within (length rs) o h in
+    let w = room-for (length rs) o h in
     rw (
       length-column (λ r. r .sequence) rs (o .sequences) (w .sequences),
       length-column (λ r. r .sent) rs (o .sendTimes) (w .sendTimes),
@@ -137,8 +129,8 @@ module _ (field : Row → ℕ) (rs : List Row) (old : List ℕ) {n : ℕ} (count
   column-same h = rw (length-set rs k r, map-set-same field rs k r (sentRow 0 0) h, front, count) (take-append-drop n old)
 
   -- a row is put in: so is its field
-  pub column-put : k ≤ n → column field (putIn k r rs) old ≡ inserted n k (field r) old
-  unfolding inserted
-  column-put h =
+  pub column-put : k ≤ n → n < length old → column field (putIn k r rs) old ≡ inserted n k (field r) old
+  column-put h free =
       rw (length-put k r rs, map-put field rs k r, front, count, take-take k n old h)
-      (append-assoc (take k old) (field r ∷ slice k n old) (drop (suc n) old))
+      (append-assoc (take k old) (field r ∷ slice k n old) (drop (suc n) old)
+      ∙ inserted-is n k (field r) old h free)

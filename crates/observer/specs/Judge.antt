@@ -1,18 +1,12 @@
 -- Cause 21, which every call judges first, and what a call comes to.
--- Assumes nothing.
 use Prim.Native.Nat.{ℕ}
 use mathlib.Core.List.{List, [], _∷_}
 use mathlib.Core.Bool.{Bool, true, not, _&&_}
 use lib.Dec.{leb, ltb}
 use Rattle.error.specs.Number.{malformedObserver}
 use Rattle.error.specs.Outcome.{Outcome, refused, gives, _⇒_, firstCause}
+use Rattle.columns.specs.Columns.{rising}
 use Rattle.observer.specs.Observer.{Row, Observer, capacity, rows, sequencesOf}
-
--- "Rows rise strictly by sequence": each number is below the next.
-abbrev pub rising : List ℕ → Bool
-rising [] = true
-rising (x ∷ []) = true
-rising (x ∷ y ∷ xs) = ltb x y && rising (y ∷ xs)
 
 -- The mark is 0 or 1. (The latency of a row that has not returned may be anything.)
 abbrev pub rowKnown : Row → Bool

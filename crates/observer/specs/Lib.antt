@@ -6,9 +6,5 @@ pub mod Place
 pub mod Sending
 pub mod Returning
 pub mod InTurn
-pub mod SendingPlan
 pub mod Answer
-pub mod Arrivals
-pub mod Columns
 pub mod Claims
-pub mod PlanClaims

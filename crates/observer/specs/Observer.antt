@@ -1,9 +1,9 @@
 -- The observer: document 01's run sheet (leaf 6; the Rust's `ContinuityObserver`, whose maps are sorted columns here). The columns are
 -- lent and make rows. Every call is defined on the used rows, as a list; `withRows` puts a list of rows back into the columns.
--- Assumes nothing.
-use Prim.Native.Nat.{ℕ, min}
+use Prim.Native.Nat.{ℕ}
 use mathlib.Core.List.{List, [], _∷_, _++_, map}
 use lib.ListN.{length, take, drop, getD}
+use Rattle.rows.specs.Columns.{Columns, columnsOf, columnLengths, capacityOf}
 use Rattle.observer.specs.Counts.{withUsed}
 use Rattle.observer.specs.declared.ObserverCounts.{ObserverCounts}
 
@@ -22,16 +22,12 @@ pub record Observer : Type 0 where
   pub marks : List ℕ
   pub counts : ObserverCounts
 
-abbrev pub columnLengths : Observer → List ℕ
-columnLengths o = length (o .sequences) ∷ length (o .sendTimes) ∷ length (o .latencies) ∷ length (o .marks) ∷ []
+abbrev pub columnsIn : Observer → Columns
+columnsIn o = columnsOf (o .sequences) (o .sendTimes) (o .latencies) (o .marks)
 
 -- "Capacity is the shortest column, at most 2,048."
-abbrev pub capacityOf : List ℕ → ℕ
-capacityOf [] = 2048
-capacityOf (n ∷ lengths) = min n (capacityOf lengths)
-
 unfoldable pub capacity : Observer → ℕ
-capacity o = capacityOf (columnLengths o)
+capacity o = capacityOf (columnLengths (columnsIn o))
 
 -- The rows that columns make: as many as the shortest has.
 abbrev pub rowsOf : List ℕ → List ℕ → List ℕ → List ℕ → List Row

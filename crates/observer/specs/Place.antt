@@ -1,21 +1,12 @@
 -- Where a sequence stands, and what "below the highest marked sequence" means.
--- Assumes nothing.
-use Prim.Native.Nat.{ℕ, suc, max}
+use Prim.Native.Nat.{ℕ, max}
 use mathlib.Core.List.{List, [], _∷_}
 use mathlib.Core.Bool.{Bool, true, false, _&&_, _||_}
 use lib.Dec.{ltb, eqb}
-use lib.ListN.{length, getD}
+use Rattle.columns.specs.Place.{place, holds}
 use Rattle.observer.specs.Observer.{Row, rowAt, sequencesOf}
 
--- The place of q among numbers that rise: how many stand before it.
-abbrev pub place : ℕ → List ℕ → ℕ
-place q [] = 0
-place q (x ∷ xs) = elim (ltb x q) [ true ↦ suc (place q xs) | false ↦ 0 ]
-
--- There is a number at place k, and it is q.
-unfoldable pub holds : ℕ → ℕ → List ℕ → Bool
-holds q k xs = ltb k (length xs) && eqb (getD xs k 0) q
-
+-- where a sequence stands: how many rows stand before it
 abbrev pub placeOf : ℕ → List Row → ℕ
 placeOf q rs = place q (sequencesOf rs)
 

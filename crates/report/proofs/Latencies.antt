@@ -14,7 +14,7 @@ use Rattle.observer.specs.Observer.{Row}
 use Rattle.report.specs.Report.{latenciesOf, total, greatest, least, latencyOf}
 use Rattle.report.specs.Loops.{markedOf, leastSoFar, leastFrom, summaryOf, wordsOf, Within, Gathers}
 use Rattle.report.specs.declared.Gathered.{Gathered}
-use Rattle.observer.proofs.Gathering.{left, nothing-left}
+use Rattle.columns.proofs.Gathering.{left, nothing-left}
 
 -- ---- the loop
 

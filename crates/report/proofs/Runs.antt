@@ -12,7 +12,7 @@ use borrow.Author.Tests.{eq-eqb, ne-eqb}
 use Rattle.observer.specs.Observer.{Row}
 use Rattle.report.specs.Report.{Run, greatest, leading, runEnd, runsIn}
 use Rattle.report.specs.Loops.{gapOf, sinceOf, longestIn, outageIn}
-use Rattle.observer.proofs.Gathering.{left, nothing-left}
+use Rattle.columns.proofs.Gathering.{left, nothing-left}
 
 -- ---- the loop
 

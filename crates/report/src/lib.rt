@@ -4,7 +4,7 @@ ghost use mathlib.Core.Path.{_≡_};
 ghost use Prim.Native.Nat.{_≤_, _<_, _+_, _/_, max};
 ghost use lib.ListN.{length, take};
 ghost use Rattle.evidence.specs.Latency.{latencyMeans};
-ghost use Rattle.observer.specs.Answer.{observerOf};
+ghost use Rattle.observer.specs.Answer.{lent};
 ghost use Rattle.report.specs.Report.{withinBudget, reporting};
 ghost use Rattle.report.specs.Answer.{reportedMeans};
 ghost use Rattle.report.specs.Claims.{LatencyOfTheRows};
@@ -202,7 +202,7 @@ pub fn report(
     budget: PacketContinuityBudget,
 ) -> Reported
     ensures { λ r. ⌜ reportedMeans r
-        ≡ reporting (observerOf (now (sequences .entry)) (now («send_timestamps» .entry)) (now (latencies .entry)) (now (marks .entry)) counts)
+        ≡ reporting (lent sequences «send_timestamps» latencies marks counts)
         «window_start_ns» «window_end_ns» budget ⌝ }
 {
     if !observer::well_formed(sequences, send_timestamps, latencies, marks, counts) {

@@ -10,11 +10,12 @@ use lib.ListN.{length, getD, set, take, drop}
 use lib.Seq.{set-at, take-at, drop-at, getD-at}
 use borrow.Author.Tests.{ltb-true, eqb-true, lt-ltb, le-ltb, eq-eqb, ne-eqb}
 use Rattle.observer.specs.Observer.{Row, sequencesOf, sentRow, rowAt}
-use Rattle.observer.specs.Judge.{rising}
-use Rattle.observer.specs.Place.{place, holds, placeOf, wasSent, rowOf, highestMarked}
+use Rattle.columns.specs.Columns.{rising}
+use Rattle.columns.specs.Place.{place, holds}
+use Rattle.observer.specs.Place.{placeOf, wasSent, rowOf, highestMarked}
 use Rattle.observer.specs.Sending.{resent}
 use Rattle.observer.specs.Returning.{returned}
-use Rattle.observer.proofs.Search.{both-left, rising-tail}
+use Rattle.columns.proofs.Search.{both-left, rising-tail}
 use Rattle.rust_reference.specs.Values.{«u64_max»}
 use Rattle.rust_reference.specs.Map.{Option, None, Some, «is_some_and», «map_or», Entry, get, «contains_key», insert, keys, contains}
 use Rattle.rust_reference.specs.Sheet.{sentOf, receivedOf, highestKey, ValuesFit}

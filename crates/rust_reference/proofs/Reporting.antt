@@ -15,11 +15,11 @@ use Rattle.evidence.specs.declared.LatencySummary.{LatencySummary}
 use Rattle.evidence.specs.declared.PacketContinuityBudget.{PacketContinuityBudget}
 use Rattle.evidence.specs.declared.PacketContinuityReport.{PacketContinuityReport}
 use Rattle.observer.specs.Observer.{Row, Observer, rows, sequencesOf}
-use Rattle.observer.specs.Judge.{rising}
+use Rattle.columns.specs.Columns.{rising}
 use Rattle.observer.proofs.Calls.{judged-well}
 use Rattle.observer.proofs.Judging.{well}
 use Rattle.observer.proofs.Keeping.{well-rows}
-use Rattle.observer.proofs.Search.{rising-tail}
+use Rattle.columns.proofs.Search.{rising-tail}
 use Rattle.report.specs.Report as leaf
 use Rattle.report.specs.Report.{latenciesOf, total, greatest, least, runs, withinBudget, reporting}
 use Rattle.report.specs.Loops.{longestIn, outageIn, gapOf, sinceOf}

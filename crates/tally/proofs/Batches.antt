@@ -21,13 +21,13 @@ use Rattle.observer.specs.Place.{wasSent}
 use Rattle.observer.specs.Sending.{recordSent}
 use Rattle.observer.specs.Returning.{recordReturn}
 use Rattle.observer.specs.InTurn.{Steps, inTurn}
-use Rattle.observer.specs.Arrivals.{arrivedIn}
-use Rattle.observer.specs.SendingPlan.{sendInTurn, rowsNeeded, freeRows}
+use Rattle.received_tpdus.specs.Received.{arrivedIn}
+use Rattle.sent_plan.specs.SendingPlan.{sendInTurn, rowsNeeded, freeRows}
 use Rattle.observer.proofs.Calls.{judged-malformed, judged-well, refusing-malformed, return-malformed, sent-malformed, sent-again, sent-full, sent-new}
-use Rattle.observer.proofs.SendingPlan.{one-refused, entering-whole, plan-judged}
-use Rattle.observer.proofs.PlanClaims.{all-or-nothing}
+use Rattle.sent_plan.proofs.SendingPlan.{one-refused, entering-whole, plan-judged}
+use Rattle.sent_plan.proofs.PlanClaims.{all-or-nothing}
 use Rattle.continuity.specs.Returns.{sequenceRead, recordReceivedTpdu}
-use Rattle.continuity.specs.Batch.{Received, tpdusOf, receivedOf, recordReceived, returnsIn, recordReceivedTpdus}
+use Rattle.received_tpdus.specs.Received.{Received, tpdusOf, receivedOf, recordReceived, returnsIn, recordReceivedTpdus}
 use Rattle.tally.specs.Demand.{sendAll, NoneRefused, receiveAll}
 use Rattle.tally.specs.Batches.{PlanEntered, handedTpdu, ReturnsTaken, Batches}
 use Rattle.tally.proofs.Entry.{fresh-ready}

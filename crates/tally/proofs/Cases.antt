@@ -18,7 +18,7 @@ use Rattle.gtpu.specs.Claims.{EmptyList}
 use Rattle.gtpu.proofs.Claims.{empty-list}
 use Rattle.observer.specs.Observer.{Observer, capacity, rows, withRows}
 use Rattle.observer.specs.Judge.{wellFormed, judged, afterReading}
-use Rattle.observer.specs.Place.{holds}
+use Rattle.columns.specs.Place.{holds}
 use Rattle.observer.specs.Sending.{entered, sendingCauses, recordSent}
 use Rattle.observer.specs.Returning.{arrivalCauses, arrived, arrival, recordReturn}
 use Rattle.observer.specs.Answer.{observerOf}

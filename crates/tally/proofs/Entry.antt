@@ -16,12 +16,13 @@ use Rattle.plan.specs.declared.TrafficPlan.{TrafficPlan}
 use Rattle.observer.specs.Counts.{fresh}
 use Rattle.observer.specs.Observer.{Row, Observer, capacity, rows, sequencesOf, sentRow, withRows}
 use Rattle.observer.specs.Judge.{wellFormed, Step, step}
-use Rattle.observer.specs.Place.{holds, placeOf, wasSent}
+use Rattle.columns.specs.Place.{holds}
+use Rattle.observer.specs.Place.{placeOf, wasSent}
 use Rattle.observer.specs.Sending.{recordSent}
 use Rattle.observer.specs.Answer.{observerOf}
 use Rattle.observer.specs.Claims.{sending}
 use Rattle.observer.specs.declared.ObserverCounts.{ObserverCounts}
-use Rattle.observer.proofs.Search.{place-at}
+use Rattle.columns.proofs.Search.{place-at}
 use Rattle.observer.proofs.Rows.{rows-are, rows-with, field-at, capacity-with}
 use Rattle.observer.proofs.Keeping.{well-rows}
 use Rattle.observer.proofs.Calls.{sent-full, sent-new}

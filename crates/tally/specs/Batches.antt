@@ -11,8 +11,8 @@ use Rattle.plan.specs.Plan.{packetsOf}
 use Rattle.plan.specs.declared.TrafficPlan.{TrafficPlan}
 use Rattle.observer.specs.Counts.{fresh}
 use Rattle.observer.specs.Observer.{Observer}
-use Rattle.observer.specs.SendingPlan.{recordSentPlan}
-use Rattle.continuity.specs.Batch.{Received, tpdusOf, receivedOf, returnsIn, recordReceivedTpdus}
+use Rattle.sent_plan.specs.SendingPlan.{recordSentPlan}
+use Rattle.received_tpdus.specs.Received.{Received, tpdusOf, receivedOf, returnsIn, recordReceivedTpdus}
 use Rattle.tally.specs.Demand.{Accepted, sendAll, Takes, tpduCall, Handed, receiveAll}
 
 -- An accepted plan, entered in one call on a fresh observer. The call is taken if and only if no single call refuses a

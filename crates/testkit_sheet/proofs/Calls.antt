@@ -3,12 +3,11 @@ use Prim.Native.Nat.{ℕ}
 use mathlib.Core.Path.{_≡_, ap, _∙_}
 use mathlib.Core.List.{List}
 use Rattle.observer.specs.Answer.{recordingMeans, recorded}
-use Rattle.observer.specs.Arrivals.{returnsMeans}
 use Rattle.observer.specs.Judge.{Step}
 use Rattle.observer.specs.declared.Recorded.{Recorded}
-use Rattle.observer.specs.declared.batch.ReturnsRecorded.{ReturnsRecorded}
+use Rattle.received_tpdus.specs.declared.ReturnsRecorded.{ReturnsRecorded}
 use Rattle.continuity.specs.Answer.{messageMeans, messageRecorded}
-use Rattle.continuity.specs.Batch.{ReceivedAll, receivedAll}
+use Rattle.received_tpdus.specs.Received.{returnsMeans, ReceivedAll, receivedAll}
 use Rattle.continuity.specs.Returns.{MessageStep}
 use Rattle.continuity.specs.declared.MessageRecorded.{MessageRecorded}
 use Rattle.testkit_sheet.specs.Interface.{recordedNumbers, RecordedStep, returnsNumbers, ReturnsNumbers, datagramNumbers, DatagramStep}

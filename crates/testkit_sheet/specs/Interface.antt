@@ -8,7 +8,8 @@ use Rattle.error.specs.Outcome.{Outcome, refused, gives, outcomeNumber}
 use Rattle.observer.specs.Judge.{Step}
 use Rattle.observer.specs.declared.ObserverCounts.{ObserverCounts}
 use Rattle.continuity.specs.Returns.{MessageStep}
-use Rattle.continuity.specs.Batch.{ReceivedAll}
+use Rattle.received_tpdus.specs.Received.{ReceivedAll}
+use Rattle.rows.specs.Columns.{Column}
 use Rattle.continuity.specs.declared.GtpuReturnDatagramOutcome.{GtpuReturnDatagramOutcome}
 use Rattle.continuity.specs.declared.GtpuReturnDatagramOutcome.the-variants.{MeasurementTpdu, ErrorIndication, EchoResponse, Ignored}
 use Rattle.evidence.specs.Budget.{zeroLoss}
@@ -33,6 +34,10 @@ pub record RecordedStep (r : TestkitRecorded) (qs ts ls ms : List ℕ) (s : Step
   pub latencies : ls ≡ s .observer .latencies
   pub marks : ms ≡ s .observer .marks
 
+-- In contracts a lent column stands for what it holds when the call returns.
+abbrev pub RecordedLeft : TestkitRecorded → Column → Column → Column → Column → Step → Type 0
+RecordedLeft r qs ts ls ms = RecordedStep r (qs .exit .now) (ts .exit .now) (ls .exit .now) (ms .exit .now)
+
 abbrev pub countGiven : Outcome ℕ → ℕ
 countGiven (refused n) = 0
 countGiven (gives count) = count
@@ -50,6 +55,10 @@ pub record ReturnsNumbers (r : TestkitReturnsRecorded) (returned numbers qs ts l
   pub send-times : ts ≡ s .arrived .observer .sendTimes
   pub latencies : ls ≡ s .arrived .observer .latencies
   pub marks : ms ≡ s .arrived .observer .marks
+
+abbrev pub ReturnsLeft : TestkitReturnsRecorded → Column → Column → Column → Column → Column → Column → ReceivedAll → Type 0
+ReturnsLeft r returned numbers qs ts ls ms =
+    ReturnsNumbers r (returned .exit .now) (numbers .exit .now) (qs .exit .now) (ts .exit .now) (ls .exit .now) (ms .exit .now)
 
 -- What a datagram was: 0 where it was refused.
 abbrev pub codeOf : GtpuReturnDatagramOutcome → ℕ
@@ -84,6 +93,9 @@ pub record DatagramStep (r : TestkitDatagramRecorded) (qs ts ls ms : List ℕ) (
   pub send-times : ts ≡ s .observer .sendTimes
   pub latencies : ls ≡ s .observer .latencies
   pub marks : ms ≡ s .observer .marks
+
+abbrev pub DatagramLeft : TestkitDatagramRecorded → Column → Column → Column → Column → MessageStep → Type 0
+DatagramLeft r qs ts ls ms = DatagramStep r (qs .exit .now) (ts .exit .now) (ls .exit .now) (ms .exit .now)
 
 -- Latencies: absent is false and zeros.
 abbrev pub latencyNumbers : Option LatencySummary → LatencyNumbers

@@ -11,24 +11,23 @@ use evidence::PacketContinuityReport;
 use observer::ObserverCounts;
 use observer::Recorded;
 use observer::Recording;
-use observer::batch::ReturnsRecorded;
-use observer::batch::ReturnsRecording;
 use plan::TrafficPlan;
+use received_tpdus::ReturnsRecorded;
+use received_tpdus::ReturnsRecording;
 use report::LongestRuns;
 use report::Reported;
 use verdict::Verdict;
 ghost use mathlib.Core.Path.{_≡_};
 ghost use Rattle.error.specs.Outcome.{refused, gives, outcomeNumber};
 ghost use Rattle.observer.specs.Sending.{recordSent};
-ghost use Rattle.observer.specs.Answer.{observerOf, recordingMeans};
-ghost use Rattle.observer.specs.SendingPlan.{recordSentPlan};
-ghost use Rattle.observer.specs.Arrivals.{returnsMeans};
+ghost use Rattle.observer.specs.Answer.{recordingMeans, lent};
+ghost use Rattle.sent_plan.specs.SendingPlan.{recordSentPlan};
 ghost use Rattle.continuity.specs.Returns.{recordReceivedTpdu, recordReturnMessage};
 ghost use Rattle.continuity.specs.Answer.{messageMeans};
-ghost use Rattle.continuity.specs.Batch.{recordReceivedTpdus};
+ghost use Rattle.received_tpdus.specs.Received.{returnsMeans, recordReceivedTpdus};
 ghost use Rattle.evidence.specs.Latency.{latencyMeans};
 ghost use Rattle.report.specs.Report.{reporting};
-ghost use Rattle.testkit_sheet.specs.Interface.{recordedNumbers, RecordedStep, countGiven, returnsNumbers, ReturnsNumbers, outcomeCode, ignoredType, datagramNumbers, DatagramStep, latencyNumbers, reportNumbers};
+ghost use Rattle.testkit_sheet.specs.Interface.{recordedNumbers, countGiven, returnsNumbers, outcomeCode, ignoredType, datagramNumbers, latencyNumbers, reportNumbers, RecordedLeft, DatagramLeft, ReturnsLeft};
 ghost use Rattle.testkit_sheet.specs.Claims.{OwnBudget};
 ghost use Rattle.testkit_sheet.specs.Verdict.{latencyGiven, heldTo, verdictNumbers, judging};
 
@@ -70,8 +69,8 @@ pub extern "C" fn testkit_record_sent(
     sequence: u64,
     send_timestamp_ns: u64,
 ) -> TestkitRecorded
-    ensures { λ r. ⌜ RecordedStep r (now (sequences .exit)) (now («send_timestamps» .exit)) (now (latencies .exit)) (now (marks .exit))
-        (recordSent (observerOf (now (sequences .entry)) (now («send_timestamps» .entry)) (now (latencies .entry)) (now (marks .entry)) counts) sequence «send_timestamp_ns») ⌝ }
+    ensures { λ r. ⌜ RecordedLeft r sequences «send_timestamps» latencies marks
+        (recordSent (lent sequences «send_timestamps» latencies marks counts) sequence «send_timestamp_ns») ⌝ }
 {
     recorded_numbers(observer::record_sent(
         sequences,
@@ -95,8 +94,8 @@ pub extern "C" fn testkit_record_received_tpdu(
     return_timestamp_ns: u64,
     tpdu: &[u8],
 ) -> TestkitRecorded
-    ensures { λ r. ⌜ RecordedStep r (now (sequences .entry)) (now («send_timestamps» .entry)) (now (latencies .exit)) (now (marks .exit))
-        (recordReceivedTpdu (observerOf (now (sequences .entry)) (now («send_timestamps» .entry)) (now (latencies .entry)) (now (marks .entry)) counts) «return_timestamp_ns» (now (tpdu .entry))) ⌝ }
+    ensures { λ r. ⌜ RecordedLeft r sequences «send_timestamps» latencies marks
+        (recordReceivedTpdu (lent sequences «send_timestamps» latencies marks counts) «return_timestamp_ns» (now (tpdu .entry))) ⌝ }
 {
     recorded_numbers(continuity::record_received_tpdu(
         sequences,
@@ -109,7 +108,7 @@ pub extern "C" fn testkit_record_received_tpdu(
     ))
 }
 
-// `observer::batch::record_sent_plan`
+// `sent_plan::record_sent_plan`
 #[no_mangle]
 pub extern "C" fn testkit_record_sent_plan(
     sequences: &mut [u64],
@@ -120,11 +119,11 @@ pub extern "C" fn testkit_record_sent_plan(
     plan: TrafficPlan,
     next_sequence: u64,
 ) -> TestkitRecorded
-    ensures { λ r. ⌜ RecordedStep r (now (sequences .exit)) (now («send_timestamps» .exit)) (now (latencies .exit)) (now (marks .exit))
-        (recordSentPlan (observerOf (now (sequences .entry)) (now («send_timestamps» .entry)) (now (latencies .entry)) (now (marks .entry)) counts)
+    ensures { λ r. ⌜ RecordedLeft r sequences «send_timestamps» latencies marks
+        (recordSentPlan (lent sequences «send_timestamps» latencies marks counts)
         plan «next_sequence») ⌝ }
 {
-    recorded_numbers(observer::batch::record_sent_plan(
+    recorded_numbers(sent_plan::record_sent_plan(
         sequences,
         send_timestamps,
         latencies,
@@ -174,7 +173,7 @@ fn returns_numbers(recorded: ReturnsRecorded) -> TestkitReturnsRecorded
     }
 }
 
-// `continuity::batch::record_received_tpdus`
+// `received_tpdus::record_received_tpdus`
 #[no_mangle]
 pub extern "C" fn testkit_record_received_tpdus(
     sequences: &[u64],
@@ -188,11 +187,11 @@ pub extern "C" fn testkit_record_received_tpdus(
     returned: &mut [u64],
     numbers: &mut [u8],
 ) -> TestkitReturnsRecorded
-    ensures { λ r. ⌜ ReturnsNumbers r (now (returned .exit)) (now (numbers .exit)) (now (sequences .entry)) (now («send_timestamps» .entry)) (now (latencies .exit)) (now (marks .exit))
-        (recordReceivedTpdus (observerOf (now (sequences .entry)) (now («send_timestamps» .entry)) (now (latencies .entry)) (now (marks .entry)) counts)
+    ensures { λ r. ⌜ ReturnsLeft r returned numbers sequences «send_timestamps» latencies marks
+        (recordReceivedTpdus (lent sequences «send_timestamps» latencies marks counts)
         (now («return_timestamps» .entry)) (now (lengths .entry)) (now (tpdus .entry)) (now (returned .entry)) (now (numbers .entry))) ⌝ }
 {
-    returns_numbers(continuity::batch::record_received_tpdus(
+    returns_numbers(received_tpdus::record_received_tpdus(
         sequences,
         send_timestamps,
         latencies,
@@ -289,8 +288,8 @@ pub extern "C" fn testkit_record_return_gtpu_datagram(
     message_type: u8,
     payload: &[u8],
 ) -> TestkitDatagramRecorded
-    ensures { λ r. ⌜ DatagramStep r (now (sequences .entry)) (now («send_timestamps» .entry)) (now (latencies .exit)) (now (marks .exit))
-        (recordReturnMessage (observerOf (now (sequences .entry)) (now («send_timestamps» .entry)) (now (latencies .entry)) (now (marks .entry)) counts) «return_timestamp_ns» «message_type» (now (payload .entry))) ⌝ }
+    ensures { λ r. ⌜ DatagramLeft r sequences «send_timestamps» latencies marks
+        (recordReturnMessage (lent sequences «send_timestamps» latencies marks counts) «return_timestamp_ns» «message_type» (now (payload .entry))) ⌝ }
 {
     datagram_numbers(continuity::record_return_gtpu_datagram(
         sequences,
@@ -418,7 +417,7 @@ pub extern "C" fn testkit_report(
     window_end_ns: u64,
     budget: PacketContinuityBudget,
 ) -> TestkitContinuityReport
-    ensures { λ r. ⌜ r ≡ reportNumbers (reporting (observerOf (now (sequences .entry)) (now («send_timestamps» .entry)) (now (latencies .entry)) (now (marks .entry)) counts) «window_start_ns» «window_end_ns» budget) ⌝ }
+    ensures { λ r. ⌜ r ≡ reportNumbers (reporting (lent sequences «send_timestamps» latencies marks counts) «window_start_ns» «window_end_ns» budget) ⌝ }
 {
     let reported = report::report(
         sequences,

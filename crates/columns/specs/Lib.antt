@@ -1,0 +1,3 @@
+-- One column of the run sheet.
+pub mod Columns
+pub mod Place

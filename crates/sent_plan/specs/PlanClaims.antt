@@ -1,0 +1,39 @@
+-- What is claimed of entering a plan: all of it or nothing. proofs/PlanClaims.antt proves it.
+use Prim.Native.Nat.{ℕ}
+use mathlib.Core.Path.{_≡_}
+use mathlib.Core.List.{List·Memᴰ}
+use lib.ListN.{replicate}
+use Rattle.error.specs.Number.{observerFull}
+use Rattle.error.specs.Outcome.{refused, gives}
+use Rattle.plan.specs.Plan.{packetsOf, judgePlan}
+use Rattle.plan.specs.declared.TrafficPlan.{TrafficPlan}
+use Rattle.observer.specs.Observer.{Observer}
+use Rattle.sent_plan.specs.SendingPlan.{sendInTurn, recordSentPlan}
+
+-- A plan that was entered: the generator's judge gives its packets, the single calls in turn refuse none of them, and
+-- the observer is the one that they leave.
+pub record Entered (o : Observer) (plan : TrafficPlan) (next : ℕ) : Type 0 where
+  pub packets : judgePlan plan next .outcome ≡ gives (packetsOf plan next)
+  pub none-refused : sendInTurn o (packetsOf plan next) .numbers ≡ replicate (plan .«packet_count») 0
+  pub observer : recordSentPlan o plan next .observer ≡ sendInTurn o (packetsOf plan next) .observer
+
+abbrev pub EnteredWhole : Type 0
+EnteredWhole = (o : Observer) (plan : TrafficPlan) (next : ℕ)
+    → recordSentPlan o plan next .outcome ≡ gives tt → Entered o plan next
+
+-- 22 is due only where the single calls in turn refuse some packet by 22, also where sequences of the plan are on the
+-- sheet, which need no row.
+abbrev pub FullOnlyIfFull : Type 0
+FullOnlyIfFull = (o : Observer) (plan : TrafficPlan) (next : ℕ)
+    → recordSentPlan o plan next .outcome ≡ refused observerFull
+    → List·Memᴰ observerFull (sendInTurn o (packetsOf plan next) .numbers)
+
+-- "A refusal returns its number and nothing else": no packet is entered.
+abbrev pub RefusedWhole : Type 0
+RefusedWhole = (o : Observer) (plan : TrafficPlan) (next n : ℕ)
+    → recordSentPlan o plan next .outcome ≡ refused n → recordSentPlan o plan next .observer ≡ o
+
+pub record AllOrNothing : Type 0 where
+  pub entered-whole : EnteredWhole
+  pub full-only-if-full : FullOnlyIfFull
+  pub refused-whole : RefusedWhole
