@@ -127,8 +127,8 @@ fn generates(
     rate: u64,
 ) {
     let mut rust = Engine::with_first_sequence(first.sequence);
-    let due = packets(&mut rust, first, count, rate);
-    let rooms = match &due {
+    let packets = packets(&mut rust, first, count, rate);
+    let rooms = match &packets {
         Ok(bytes) if bytes.is_empty() => vec![80, 0],
         Ok(bytes) => vec![bytes.len() + 80, bytes.len(), bytes.len() - 1, 0],
         Err(_) => vec![
@@ -136,18 +136,11 @@ fn generates(
             0,
         ],
     };
+    let due = Due::of(packets, &rust);
     for room in rooms {
         let mut ours = ours_traffic::Engine::with_first_sequence(first.sequence);
         let plan = spoiled(random, first, count, rate);
-        generates_on(
-            part,
-            seen,
-            &mut ours,
-            plan,
-            &due,
-            rust.next_sequence(),
-            room,
-        );
+        generates_on(part, seen, &mut ours, plan, &due, room);
     }
 }
 
@@ -165,28 +158,37 @@ fn run(part: &mut Part, seen: &mut Seen, random: &mut Random) {
             (_, plan) => plan,
         };
         let before = rust.next_sequence();
-        let due = packets(&mut rust, first, count, rate);
-        let room = match &due {
+        let packets = packets(&mut rust, first, count, rate);
+        let room = match &packets {
             Ok(bytes) => bytes.len().saturating_sub(random.below(4) / 3),
             Err(_) => 80,
         };
-        if due.as_ref().is_ok_and(|bytes| room < bytes.len()) {
+        if packets.as_ref().is_ok_and(|bytes| room < bytes.len()) {
             rust = Engine::with_first_sequence(before); // the Rust has no 15
         }
+        let due = Due::of(packets, &rust);
         let first = Probe {
             sequence: before,
             ..first
         };
         let plan = spoiled(random, first, count, rate);
-        generates_on(
-            part,
-            seen,
-            &mut ours,
-            plan,
-            &due,
-            rust.next_sequence(),
-            room,
-        );
+        generates_on(part, seen, &mut ours, plan, &due, room);
+    }
+}
+
+/// What is due of a plan: its packets end to end or a number, and the next sequence afterwards.
+struct Due {
+    packets: Outcome<Vec<u8>>,
+    next_sequence: u64,
+}
+
+impl Due {
+    fn of(packets: Outcome<Vec<u8>>, rust: &Engine) -> Self {
+        let next_sequence = rust.next_sequence();
+        Self {
+            packets,
+            next_sequence,
+        }
     }
 }
 
@@ -210,8 +212,7 @@ fn generates_on(
     seen: &mut Seen,
     ours: &mut ours_traffic::Engine,
     (first, count, rate): Plan,
-    due: &Outcome<Vec<u8>>,
-    next_sequence: u64,
+    due: &Due,
     room: usize,
 ) {
     let before = ours.next_sequence;
@@ -219,12 +220,12 @@ fn generates_on(
     let written = ours.generate(&first, count, rate, &mut out[..room]);
 
     let mut expected = vec![DIRT; room + BEYOND];
-    let (number, bytes, next_sequence) = match due {
-        Err(number) => (*number, 0, next_sequence),
+    let (number, bytes, next_sequence) = match &due.packets {
+        Err(number) => (*number, 0, due.next_sequence),
         Ok(bytes) if room < bytes.len() => (OUTPUT_TOO_SHORT, 0, before),
         Ok(bytes) => {
             expected[..bytes.len()].copy_from_slice(bytes);
-            (0, bytes.len(), next_sequence)
+            (0, bytes.len(), due.next_sequence)
         }
     };
     seen.add(number);
