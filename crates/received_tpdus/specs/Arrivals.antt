@@ -32,7 +32,7 @@ arrivalsOf (t ∷ ts) [] ns = []
 arrivalsOf (t ∷ ts) (q ∷ qs) [] = []
 arrivalsOf (t ∷ ts) (q ∷ qs) (n ∷ ns) = arrivalAs t q n ∷ arrivalsOf ts qs ns
 
--- Returns one after the other, on a sheet that was judged. The column of numbers says of each, on entry, whether the reader refused it: such a one
--- keeps its number and changes nothing.
+-- Returns one after the other, on a sheet that was judged. The column of numbers says of each, on entry, whether the
+-- reader refused it: such a one keeps its number and changes nothing.
 abbrev pub takeReturns : Observer → List ℕ → List ℕ → List ℕ → Arrived
 takeReturns o ts qs ns = arrivedIn o ns (gives (inTurn recordArrival o (arrivalsOf ts qs ns)))

@@ -1,4 +1,5 @@
--- A list of T-PDUs that came back, taken in one call: 21, and then the single call of each, in turn. The Rust has no such call.
+-- A list of T-PDUs that came back, taken in one call: 21, and then the single call of each, in turn. The Rust has no
+-- such call.
 use Prim.Native.Nat.{ℕ, min}
 use mathlib.Core.List.{List, [], _∷_, _++_, map}
 use lib.ListN.{length, take, drop}
@@ -14,7 +15,8 @@ use Rattle.received_tpdus.specs.declared.ReturnsRecorded.{ReturnsRecorde
 use Rattle.received_tpdus.specs.declared.ReturnsRecording.{ReturnsRecording}
 use Rattle.received_tpdus.specs.declared.ReturnsRecording.the-variants as recording
 
--- T-PDUs of these lengths, end to end. Where the bytes end first, the last ones are shorter, and the reader judges them as they are.
+-- T-PDUs of these lengths, end to end. Where the bytes end first, the last ones are shorter, and the reader judges them
+-- as they are.
 abbrev pub tpdusOf : List ℕ → List ℕ → List (List ℕ)
 tpdusOf [] bytes = []
 tpdusOf (n ∷ lengths) bytes = take n bytes ∷ tpdusOf lengths (drop n bytes)
@@ -36,8 +38,8 @@ recordReceived o r = recordReceivedTpdu o (r .time) (r .tpdu)
 abbrev pub returnsIn : List ℕ → List ℕ → List ℕ → List ℕ → ℕ
 returnsIn times lengths returned numbers = min (length times) (min (length lengths) (min (length returned) (length numbers)))
 
--- What a list of returns gives: how many there were, or a refusal of the whole list; and the lent column of numbers and the observer as the
--- call leaves them.
+-- What a list of returns gives: how many there were, or a refusal of the whole list; and the lent column of numbers and
+-- the observer as the call leaves them.
 pub record Arrived : Type 0 where
   pub outcome : Outcome ℕ
   pub numbers : List ℕ
@@ -47,13 +49,15 @@ pub record Arrived : Type 0 where
 abbrev pub atFront : List ℕ → List ℕ → List ℕ
 atFront front column = front ++ drop (length front) column
 
--- A refusal leaves all as it was. Else the number of each return is written to the column, and the observer is as the last one left it.
+-- A refusal leaves all as it was. Else the number of each return is written to the column, and the observer is as the
+-- last one left it.
 abbrev pub arrivedIn : Observer → List ℕ → Outcome Steps → Arrived
 arrivedIn o column (refused n) = record { outcome = refused n; numbers = column; observer = o }
 arrivedIn o column (gives s) =
     record { outcome = gives (length (s .numbers)); numbers = atFront (s .numbers) column; observer = s .observer }
 
--- What taking a list gives: the lent column of the sequences that its T-PDUs read as, and the rest as the observer has it.
+-- What taking a list gives: the lent column of the sequences that its T-PDUs read as, and the rest as the observer has
+-- it.
 pub record ReceivedAll : Type 0 where
   pub returned : List ℕ
   pub arrived : Arrived

@@ -1,5 +1,6 @@
-// A list of T-PDUs that came back, taken in one call: 21 is judged, they are read one after the other, and then each is recorded. The Rust has no
-// such call: behind 21 it is the single calls in turn (specs/Received.antt). The numbers that are recorded from are the reader's: no caller gives one.
+// A list of T-PDUs that came back, taken in one call: 21 is judged, they are read one after the other, and then each is
+// recorded. The Rust has no such call: behind 21 it is the single calls in turn (specs/Received.antt). The numbers that
+// are recorded from are the reader's: no caller gives one.
 use observer::ObserverCounts;
 use observer::Recorded;
 use observer::Recording;
@@ -155,9 +156,10 @@ fn take_returns(
     }
 }
 
-// Records T-PDUs that came back: T-PDU k has the k-th length, lies behind those before it, and came at the k-th time. Each is taken or refused as
-// `record_received_tpdu` would, and its number, 0 for none, is written to `numbers`; `returned` gets the sequence that it reads as, 0 beside a
-// refusal of the reader. The list is as long as the shortest of these columns. Refuses the whole list by 21, and leaves these columns too.
+// Records T-PDUs that came back: T-PDU k has the k-th length, lies behind those before it, and came at the k-th time.
+// Each is taken or refused as `record_received_tpdu` would, and its number, 0 for none, is written to `numbers`;
+// `returned` gets the sequence that it reads as, 0 beside a refusal of the reader. The list is as long as the shortest
+// of these columns. Refuses the whole list by 21, and leaves these columns too.
 pub fn record_received_tpdus(
     sequences: &[u64],
     send_timestamps: &[u64],

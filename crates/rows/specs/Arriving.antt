@@ -1,5 +1,5 @@
--- A sequence returns to the columns, of which n rows are in use. On a sheet that 21 does not refuse this is document 01's return
--- (observer, specs/Returning.antt), which is proved there.
+-- A sequence returns to the columns, of which n rows are in use. On a sheet that 21 does not refuse this is document
+-- 01's return (observer, specs/Returning.antt), which is proved there.
 use Prim.Native.Nat.{ℕ, _+_, _-_}
 use mathlib.Core.List.{List}
 use mathlib.Core.Bool.{true, false}
