@@ -9,6 +9,7 @@ use Rattle.field.specs.Field.{Bytes, field}
 use Rattle.checksum.specs.Sum.{checksumOf}
 use Rattle.checksum.specs.Damage.{Turned}
 use Rattle.checksum.specs.Claims.{Verifies}
+use Rattle.measurement.specs.Layout.{ipv4HeaderBytes, udpChecksum}
 use Rattle.measurement.specs.Packet.{address, padded, pseudoHeader, ipHeaderLength, udpSegment, buildOf}
 use Rattle.measurement.specs.Read.{readOf}
 use Rattle.measurement.specs.Echo.{reversedOf, echoOf}
@@ -59,13 +60,13 @@ EchoOfEcho = (flow : InnerIpFlow) (sequence time : ℕ) → InRange flow sequenc
 -- The checksums of a built packet are right by the RFCs: RFC 791's over the header, RFC 768's and RFC 8200's over pseudo-header and segment,
 -- which is never sent as 0, and as all ones where it is 0.
 pub record ChecksumsRight (flow : InnerIpFlow) (s t : ℕ) : Type 0 where
-  pub ipv4-header : flow .version ≡ V4 → Verifies (take 20 (buildOf flow s t))
+  pub ipv4-header : flow .version ≡ V4 → Verifies (take ipv4HeaderBytes (buildOf flow s t))
   pub udp : let v : IpVersion = flow .version in
       Verifies (pseudoHeader v (address v (flow .src)) (address v (flow .dst)) 32 ++ drop (ipHeaderLength v) (buildOf flow s t))
-  pub not-zero : field 2 6 (drop (ipHeaderLength (flow .version)) (buildOf flow s t)) ≡ 0 → ⊥
+  pub not-zero : field 2 udpChecksum (drop (ipHeaderLength (flow .version)) (buildOf flow s t)) ≡ 0 → ⊥
   pub all-ones : let v : IpVersion = flow .version in
       checksumOf (pseudoHeader v (address v (flow .src)) (address v (flow .dst)) 32 ++ udpSegment 0 (flow .«src_port») (flow .«dst_port») s t) ≡ 0
-      → field 2 6 (drop (ipHeaderLength v) (buildOf flow s t)) ≡ 65535
+      → field 2 udpChecksum (drop (ipHeaderLength v) (buildOf flow s t)) ≡ 65535
 
 abbrev pub ChecksumsVerify : Type 0
 ChecksumsVerify = (flow : InnerIpFlow) (sequence time : ℕ) → InRange flow sequence time → ChecksumsRight flow sequence time

@@ -8,6 +8,7 @@ use lib.Dec.{eqb}
 use lib.ListN.{length, replicate}
 use Rattle.field.specs.Field.{bigEndian, bytesAt}
 use Rattle.checksum.specs.Sum.{checksumOf}
+use Rattle.measurement.specs.Layout.{ipv4HeaderBytes, ipv6HeaderBytes}
 use Rattle.measurement.specs.declared.InnerIpFlow.{InnerIpFlow}
 use Rattle.measurement.specs.declared.IpVersion.{IpVersion}
 use Rattle.measurement.specs.declared.IpVersion.the-variants.{V4, V6}
@@ -67,8 +68,8 @@ ipHeader V4 source destination = ipv4 source destination
 ipHeader V6 source destination = ipv6 source destination
 
 unfoldable pub ipHeaderLength : IpVersion → ℕ
-ipHeaderLength V4 = 20
-ipHeaderLength V6 = 40
+ipHeaderLength V4 = ipv4HeaderBytes
+ipHeaderLength V6 = ipv6HeaderBytes
 
 -- The pseudo-header that a UDP checksum covers: RFC 768; RFC 8200, section 8.1.
 unfoldable pub pseudoHeader : IpVersion → List ℕ → List ℕ → ℕ → List ℕ

@@ -10,6 +10,7 @@ use Rattle.error.specs.Number.{truncatedIpHeader, unsupportedIpVersion, truncat
 use Rattle.error.specs.Outcome.{Outcome, refused, gives, Cause, _⇒_, firstCause}
 use Rattle.field.specs.Field.{number, bytesAt, field}
 use Rattle.checksum.specs.Sum.{checksumOf}
+use Rattle.measurement.specs.Layout.{ipVersion, ipv4Ihl, ipv4TotalLength, ipv4Protocol, ipv4SourceAddress, ipv4DestinationAddress, ipv6PayloadLength, ipv6NextHeader, ipv6SourceAddress, ipv6DestinationAddress, ipv6HeaderBytes, udpSourcePort, udpDestinationPort, udpLength, udpChecksum, udpHeaderBytes, probeTag, probeSequence, probeSendTime}
 use Rattle.measurement.specs.Packet.{pseudoHeader, measurementMagic, padded, udpProtocol}
 use Rattle.measurement.specs.declared.DecodedTpdu.{DecodedTpdu}
 use Rattle.measurement.specs.declared.InnerIpFlow.{InnerIpFlow}
@@ -19,11 +20,11 @@ use Rattle.measurement.specs.declared.IpVersion.the-variants.{V4, V6}
 
 -- RFC 768: the length field counts header and data, so the payload is what it leaves behind 8 bytes of header.
 unfoldable pub payload : List ℕ → List ℕ
-payload part = take (field 2 4 part - 8) (drop 8 part)
+payload part = take (field 2 udpLength part - udpHeaderBytes) (drop udpHeaderBytes part)
 
 -- "UDP length under 8 or past its part"
 unfoldable pub lengthWrong : List ℕ → Bool
-lengthWrong part = ltb (field 2 4 part) 8 || ltb (length part) (field 2 4 part)
+lengthWrong part = ltb (field 2 udpLength part) 8 || ltb (length part) (field 2 udpLength part)
 
 -- Which bytes the UDP checksum covers: "that whole part and its length, even where the UDP length is less".
 unfoldable pub covered : List ℕ → List ℕ
@@ -37,17 +38,17 @@ sumWrong v source destination part = not (eqb (checksumOf (pseudoHeader v source
 unfoldable pub probeCauses : List ℕ → List Cause
 probeCauses probe =
     (ltb (length probe) 24 ⇒ truncatedMeasurementHeader)
-    ∷ (not (eqb (field 8 0 probe) (number measurementMagic)) ⇒ measurementMagicMismatch)
+    ∷ (not (eqb (field 8 probeTag probe) (number measurementMagic)) ⇒ measurementMagicMismatch)
     ∷ []
 
 -- "An IPv4 UDP checksum field of 0 is not verified; in IPv6 it is refused."
 unfoldable pub udpCauses : IpVersion → List ℕ → List ℕ → List ℕ → List Cause
 udpCauses V4 source destination part =
     (lengthWrong part ⇒ invalidUdpLength)
-    ∷ (not (eqb (field 2 6 part) 0) && sumWrong V4 source destination part ⇒ invalidUdpChecksum)
+    ∷ (not (eqb (field 2 udpChecksum part) 0) && sumWrong V4 source destination part ⇒ invalidUdpChecksum)
     ∷ []
 udpCauses V6 source destination part =
-    (eqb (field 2 6 part) 0 ⇒ ipv6UdpChecksumIsZero)
+    (eqb (field 2 udpChecksum part) 0 ⇒ ipv6UdpChecksumIsZero)
     ∷ (sumWrong V6 source destination part ⇒ invalidUdpChecksum)
     ∷ (lengthWrong part ⇒ invalidUdpLength)
     ∷ []
@@ -62,7 +63,8 @@ tpduWith v source destination sourcePort destinationPort sequence time = record 
 -- What a part gives, where it is not refused: the values that stand in it.
 abbrev pub tpduOf : IpVersion → List ℕ → List ℕ → List ℕ → DecodedTpdu
 tpduOf v source destination part =
-    tpduWith v source destination (field 2 0 part) (field 2 2 part) (field 8 8 (payload part)) (field 8 16 (payload part))
+    tpduWith v source destination (field 2 udpSourcePort part) (field 2 udpDestinationPort part)
+    (field 8 probeSequence (payload part)) (field 8 probeSendTime (payload part))
 
 unfoldable pub readProbe : IpVersion → List ℕ → List ℕ → List ℕ → Outcome DecodedTpdu
 readProbe v source destination part = firstCause (probeCauses (payload part)) (gives (tpduOf v source destination part))
@@ -73,7 +75,7 @@ readUdp v source destination part = firstCause (udpCauses v source destination p
 
 -- RFC 791, section 3.1: the header's length in 32-bit words.
 unfoldable pub ihl : List ℕ → ℕ
-ihl tpdu = getD tpdu 0 0 % 16
+ihl tpdu = getD tpdu ipv4Ihl 0 % 16
 
 -- "IPv4 under 20 bytes; IHL under 5, or bytes under IHL × 4 + 8; total length under IHL × 4 + 8 or past the input", "protocol not 17; IPv4
 -- header checksum"
@@ -81,8 +83,8 @@ unfoldable pub ipv4Causes : List ℕ → List Cause
 ipv4Causes tpdu =
     (ltb (length tpdu) 20 ⇒ truncatedIpv4Header)
     ∷ (ltb (ihl tpdu) 5 || ltb (length tpdu) (ihl tpdu * 4 + 8) ⇒ invalidIpv4Ihl)
-    ∷ (ltb (field 2 2 tpdu) (ihl tpdu * 4 + 8) || ltb (length tpdu) (field 2 2 tpdu) ⇒ invalidIpv4TotalLength)
-    ∷ (not (eqb (getD tpdu 9 0) udpProtocol) ⇒ payloadIsNotUdp)
+    ∷ (ltb (field 2 ipv4TotalLength tpdu) (ihl tpdu * 4 + 8) || ltb (length tpdu) (field 2 ipv4TotalLength tpdu) ⇒ invalidIpv4TotalLength)
+    ∷ (not (eqb (getD tpdu ipv4Protocol 0) udpProtocol) ⇒ payloadIsNotUdp)
     ∷ (not (eqb (checksumOf (take (ihl tpdu * 4) tpdu)) 0) ⇒ invalidIpv4HeaderChecksum)
     ∷ []
 
@@ -90,22 +92,26 @@ ipv4Causes tpdu =
 unfoldable pub readIpv4 : List ℕ → Outcome DecodedTpdu
 readIpv4 tpdu =
     firstCause (ipv4Causes tpdu)
-    (readUdp V4 (bytesAt 4 12 tpdu) (bytesAt 4 16 tpdu) (take (field 2 2 tpdu - ihl tpdu * 4) (drop (ihl tpdu * 4) tpdu)))
+    (readUdp V4 (bytesAt 4 ipv4SourceAddress tpdu) (bytesAt 4 ipv4DestinationAddress tpdu)
+    (take (field 2 ipv4TotalLength tpdu - ihl tpdu * 4) (drop (ihl tpdu * 4) tpdu)))
 
 -- "IPv6 under 48 bytes; payload length under 8 or past the input", with 6 before 9
 unfoldable pub ipv6Causes : List ℕ → List Cause
 ipv6Causes tpdu =
     (ltb (length tpdu) 48 ⇒ truncatedIpv6UdpPacket)
-    ∷ (not (eqb (getD tpdu 6 0) udpProtocol) ⇒ payloadIsNotUdp)
-    ∷ (ltb (field 2 4 tpdu) 8 || ltb (length tpdu) (field 2 4 tpdu + 40) ⇒ invalidIpv6PayloadLength)
+    ∷ (not (eqb (getD tpdu ipv6NextHeader 0) udpProtocol) ⇒ payloadIsNotUdp)
+    ∷ (ltb (field 2 ipv6PayloadLength tpdu) 8 || ltb (length tpdu) (field 2 ipv6PayloadLength tpdu + ipv6HeaderBytes) ⇒ invalidIpv6PayloadLength)
     ∷ []
 
 unfoldable pub readIpv6 : List ℕ → Outcome DecodedTpdu
-readIpv6 tpdu = firstCause (ipv6Causes tpdu) (readUdp V6 (bytesAt 16 8 tpdu) (bytesAt 16 24 tpdu) (take (field 2 4 tpdu) (drop 40 tpdu)))
+readIpv6 tpdu =
+    firstCause (ipv6Causes tpdu)
+    (readUdp V6 (bytesAt 16 ipv6SourceAddress tpdu) (bytesAt 16 ipv6DestinationAddress tpdu)
+    (take (field 2 ipv6PayloadLength tpdu) (drop ipv6HeaderBytes tpdu)))
 
 -- "The upper four bits of byte 0 choose the reader."
 abbrev pub versionOf : List ℕ → ℕ
-versionOf tpdu = getD tpdu 0 0 / 16
+versionOf tpdu = getD tpdu ipVersion 0 / 16
 
 -- "T-PDU empty; version not 4 or 6"
 unfoldable pub tpduCauses : List ℕ → List Cause

@@ -8,6 +8,8 @@ ghost use Rattle.measurement.specs.Packet.{versionNumbered, versionNumbe
 ghost use Rattle.measurement.specs.Echo.{reversedOf};
 ghost use Rattle.measurement.specs.Claims.{ReadsBack, EchoIsReversed, EchoOfEcho, ChecksumsVerify, DamageFound, SentIsRead, LegsChained};
 
+pub mod layout; // layout.rt: where each field stands
+
 // The bytes of an address, and those of a T-PDU as it is built.
 pub const ADDRESS_BYTES: usize = 16;
 

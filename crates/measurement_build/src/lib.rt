@@ -3,6 +3,7 @@ use measurement::InnerIpFlow;
 use measurement::IpVersion;
 use measurement::MeasurementHeader;
 use measurement::Written;
+use measurement::layout;
 ghost use mathlib.Core.Path.{_≡_};
 ghost use Prim.Native.Nat.{ℕ, _+_, _-_, _/_, _%_, _^_, _<_, _≤_};
 ghost use mathlib.Core.List.{_++_};
@@ -26,26 +27,26 @@ fn write_ipv4_header(pseudo: u64, src: [u8; 16], dst: [u8; 16], out: &mut [u8])
     ensures { λ _. ⌜ now (out .exit) ≡ ipv4Header (65535 - foldOf (0x8514 + pseudo)) (bytesAt 4 0 src) (bytesAt 4 0 dst) ++ drop 20 (now (out .entry)) ⌝ }
 {
     let checksum = 65535 - checksum::fold_u64(IPV4_MORE + pseudo);
-    out[0] = 0x45;
-    out[1] = 0;
-    out[2] = 0;
-    out[3] = 52;
-    out[4] = 0;
-    out[5] = 0;
-    out[6] = 0;
-    out[7] = 0;
-    out[8] = 64;
-    out[9] = 17;
-    out[10] = field::high(checksum);
-    out[11] = field::low(checksum);
-    out[12] = src[0];
-    out[13] = src[1];
-    out[14] = src[2];
-    out[15] = src[3];
-    out[16] = dst[0];
-    out[17] = dst[1];
-    out[18] = dst[2];
-    out[19] = dst[3];
+    out[layout::IP_VERSION] = 0x45;
+    out[layout::IPV4_TYPE_OF_SERVICE] = 0;
+    out[layout::IPV4_TOTAL_LENGTH] = 0;
+    out[layout::IPV4_TOTAL_LENGTH + 1] = 52;
+    out[layout::IPV4_IDENTIFICATION] = 0;
+    out[layout::IPV4_IDENTIFICATION + 1] = 0;
+    out[layout::IPV4_FLAGS_AND_FRAGMENT_OFFSET] = 0;
+    out[layout::IPV4_FLAGS_AND_FRAGMENT_OFFSET + 1] = 0;
+    out[layout::IPV4_TIME_TO_LIVE] = 64;
+    out[layout::IPV4_PROTOCOL] = 17;
+    out[layout::IPV4_HEADER_CHECKSUM] = field::high(checksum);
+    out[layout::IPV4_HEADER_CHECKSUM + 1] = field::low(checksum);
+    out[layout::IPV4_SOURCE_ADDRESS] = src[0];
+    out[layout::IPV4_SOURCE_ADDRESS + 1] = src[1];
+    out[layout::IPV4_SOURCE_ADDRESS + 2] = src[2];
+    out[layout::IPV4_SOURCE_ADDRESS + 3] = src[3];
+    out[layout::IPV4_DESTINATION_ADDRESS] = dst[0];
+    out[layout::IPV4_DESTINATION_ADDRESS + 1] = dst[1];
+    out[layout::IPV4_DESTINATION_ADDRESS + 2] = dst[2];
+    out[layout::IPV4_DESTINATION_ADDRESS + 3] = dst[3];
 }
 
 // Copies `bytes` to the place `at` of `out`.
@@ -61,10 +62,11 @@ fn write_ipv6_header(src: [u8; 16], dst: [u8; 16], out: &mut [u8])
     requires { ⌜ 40 ≤ length (now out) ⌝ }
     ensures { λ _. ⌜ now (out .exit) ≡ ipv6 (bytesAt 16 0 src) (bytesAt 16 0 dst) ++ drop 40 (now (out .entry)) ⌝ }
 {
+    // Version, traffic class and flow label (4), payload length (2), next header, hop limit.
     let first = [0x60, 0, 0, 0, 0, 32, 17, 64];
-    put(out, 0, &first);
-    put(out, 8, &src);
-    put(out, 24, &dst);
+    put(out, layout::IP_VERSION, &first);
+    put(out, layout::IPV6_SOURCE_ADDRESS, &src);
+    put(out, layout::IPV6_DESTINATION_ADDRESS, &dst);
 }
 
 // The checksum of a UDP segment from its sum: all ones where it comes to 0.
@@ -109,6 +111,7 @@ fn write_udp_segment(
 {
     let sum = checksum::fold_u64(pseudo + segment_words(src_port, dst_port, header));
     let checksum = nonzero_checksum(sum);
+    // Source port, destination port, length, checksum.
     let ports = [
         field::high(src_port),
         field::low(src_port),
@@ -120,8 +123,8 @@ fn write_udp_segment(
         field::low(checksum),
     ];
     let probe = header.encode();
-    put(out, 0, &ports);
-    put(out, 8, &probe);
+    put(out, layout::UDP_SOURCE_PORT, &ports);
+    put(out, layout::UDP_HEADER_BYTES, &probe);
 }
 
 // Builds the T-PDU at the front of `out`, and answers how many bytes it has.
@@ -140,7 +143,7 @@ pub fn build_measurement_tpdu(
         sequence: sequence,
         send_timestamp_ns: send_timestamp_ns,
     };
-    let mut start = 20;
+    let mut start = layout::IPV4_HEADER_BYTES;
     let pseudo = match version {
         IpVersion::V4 => {
             if out.len() < measurement::IPV4_TPDU_BYTES {
@@ -155,7 +158,7 @@ pub fn build_measurement_tpdu(
                 return Written::Refused(error::OUTPUT_TOO_SHORT);
             }
             write_ipv6_header(src, dst, out);
-            start = 40;
+            start = layout::IPV6_HEADER_BYTES;
             measurement::pseudo_header_words(version, src, dst, 32)
         }
     };
@@ -190,6 +193,12 @@ pub fn build_ipv4_tpdu(
     };
     let pseudo = measurement::pseudo_header_words(IpVersion::V4, src, dst, 32);
     write_ipv4_header(pseudo, src, dst, out);
-    write_udp_segment(pseudo, src_port, dst_port, header, &mut out[20..]);
+    write_udp_segment(
+        pseudo,
+        src_port,
+        dst_port,
+        header,
+        &mut out[layout::IPV4_HEADER_BYTES..],
+    );
     Written::Bytes(measurement::IPV4_TPDU_BYTES)
 }

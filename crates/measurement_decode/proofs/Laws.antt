@@ -30,7 +30,12 @@ use Rattle.measurement_decode.specs.Part.{Addresses, HasProbe}
 use Rattle.measurement_decode.specs.Numbers.{tpduNumbers, sourceLeft, destinationLeft, decodingNumbered}
 use Rattle.measurement_decode.specs.declared.TpduNumbers.{TpduNumbers}
 
--- 8 bytes, one by one
+-- 2 bytes, and 8, one by one
+pub two : (s : List ℕ) (at : ℕ) {n : ℕ} → n ≡ getD s at 0 * 256 + getD s (at + 1) 0 → n ≡ field 2 at s
+two s at e =
+    let low : getD s (at + 1) 0 ≡ getD s (suc at) 0 = ap (λ (k : ℕ). getD s k 0) (omega arith) in
+    omega arith
+
 pub eight : (s : List ℕ) (at : ℕ) {a b c d e f g h : ℕ}
     → a ≡ getD s at 0 → b ≡ getD s (at + 1) 0 → c ≡ getD s (at + 2) 0 → d ≡ getD s (at + 3) 0
     → e ≡ getD s (at + 4) 0 → f ≡ getD s (at + 5) 0 → g ≡ getD s (at + 6) 0 → h ≡ getD s (at + 7) 0

@@ -7,6 +7,7 @@ use measurement::Decoding;
 use measurement::InnerIpFlow;
 use measurement::IpVersion;
 use measurement::MeasurementHeader;
+use measurement::layout;
 ghost use mathlib.Core.Path.{_≡_};
 ghost use Prim.Native.Nat.{ℕ, _+_, _*_, _%_, _^_, _<_, _≤_};
 ghost use mathlib.Core.Bool.{false};
@@ -41,6 +42,14 @@ fn wide(x: u8) -> u64
     x as u64
 }
 
+// The number in the 2 bytes from `at` on.
+fn read_u16(bytes: &[u8], at: usize) -> u16
+    requires { ⌜ (at < 256) × (at + 2 ≤ length (now bytes)) ⌝ }
+    ensures { λ r. ⌜ r ≡ field 2 at (now (bytes .entry)) ⌝ }
+{
+    field::word(bytes[at], bytes[at + 1])
+}
+
 // The number in the 8 bytes from `at` on: in halves, of which the compiler makes one load.
 fn read_u64(bytes: &[u8], at: usize) -> u64
     requires { ⌜ (at < 256) × (at + 8 ≤ length (now bytes)) ⌝ }
@@ -62,7 +71,7 @@ fn length_wrong(udp: &[u8]) -> bool
     requires { ⌜ 8 ≤ length (now udp) ⌝ }
     ensures { λ r. ⌜ r ≡ lengthWrong (now (udp .entry)) ⌝ }
 {
-    let n = field::word(udp[4], udp[5]) as usize;
+    let n = read_u16(&udp[..], layout::UDP_LENGTH) as usize;
     if n < 8 {
         return true;
     }
@@ -102,12 +111,12 @@ fn judge_probe(udp: &[u8]) -> u8
     requires { ⌜ Part (now udp) × (lengthWrong (now udp) ≡ false) ⌝ }
     ensures { λ r. ⌜ ((v : IpVersion) (src dst : List ℕ) → r ≡ outcomeNumber (readProbe v src dst (now (udp .entry)))) ⌝ }
 {
-    let end = field::word(udp[4], udp[5]) as usize;
-    let payload = &udp[8..end];
+    let end = read_u16(&udp[..], layout::UDP_LENGTH) as usize;
+    let payload = &udp[layout::UDP_HEADER_BYTES..end];
     if payload.len() < 24 {
         return error::TRUNCATED_MEASUREMENT_HEADER;
     }
-    if read_u64(payload, 0) != 0x4f50_4344_5054_4b31 {
+    if read_u64(payload, layout::PROBE_TAG) != 0x4f50_4344_5054_4b31 {
         return error::MEASUREMENT_MAGIC_MISMATCH;
     }
     0
@@ -121,7 +130,7 @@ fn judge_ipv4_udp(addresses: u64, udp: &[u8]) -> u8
     if length_wrong(&udp[..]) {
         return error::INVALID_UDP_LENGTH;
     }
-    if field::word(udp[6], udp[7]) == 0 {
+    if read_u16(&udp[..], layout::UDP_CHECKSUM) == 0 {
         return judge_probe(&udp[..]);
     }
     if sum_wrong(addresses, &udp[..]) {
@@ -135,7 +144,7 @@ fn judge_ipv6_udp(addresses: u64, udp: &[u8]) -> u8
     requires { ⌜ (addresses < 2 ^ 35) × Part (now udp) ⌝ }
     ensures { λ r. ⌜ ((src dst : List ℕ) → Addresses V6 src dst addresses → r ≡ outcomeNumber (readUdp V6 src dst (now (udp .entry)))) ⌝ }
 {
-    if field::word(udp[6], udp[7]) == 0 {
+    if read_u16(&udp[..], layout::UDP_CHECKSUM) == 0 {
         return error::IPV6_UDP_CHECKSUM_IS_ZERO;
     }
     if sum_wrong(addresses, &udp[..]) {
@@ -161,7 +170,7 @@ fn judge_ipv4(tpdu: &[u8]) -> u8
     if tpdu.len() < 20 {
         return error::TRUNCATED_IPV4_HEADER;
     }
-    let ihl = low_half(tpdu[0]);
+    let ihl = low_half(tpdu[layout::IPV4_IHL]);
     if ihl < 5 {
         return error::INVALID_IPV4_IHL;
     }
@@ -169,20 +178,23 @@ fn judge_ipv4(tpdu: &[u8]) -> u8
     if tpdu.len() < start + 8 {
         return error::INVALID_IPV4_IHL;
     }
-    let end = field::word(tpdu[2], tpdu[3]) as usize;
+    let end = read_u16(&tpdu[..], layout::IPV4_TOTAL_LENGTH) as usize;
     if end < start + 8 {
         return error::INVALID_IPV4_TOTAL_LENGTH;
     }
     if tpdu.len() < end {
         return error::INVALID_IPV4_TOTAL_LENGTH;
     }
-    if tpdu[9] != 17 {
+    if tpdu[layout::IPV4_PROTOCOL] != 17 {
         return error::PAYLOAD_IS_NOT_UDP;
     }
     if checksum::checksum(&tpdu[..start]) != 0 {
         return error::INVALID_IPV4_HEADER_CHECKSUM;
     }
-    let addresses = ipv4_address_sum(&tpdu[12..16]) + ipv4_address_sum(&tpdu[16..20]);
+    let addresses = ipv4_address_sum(
+        &tpdu[layout::IPV4_SOURCE_ADDRESS..layout::IPV4_DESTINATION_ADDRESS],
+    )
+        + ipv4_address_sum(&tpdu[layout::IPV4_DESTINATION_ADDRESS..layout::IPV4_HEADER_BYTES]);
     judge_ipv4_udp(addresses, &tpdu[start..end])
 }
 
@@ -192,19 +204,22 @@ fn judge_ipv6(tpdu: &[u8]) -> u8
     if tpdu.len() < 48 {
         return error::TRUNCATED_IPV6_UDP_PACKET;
     }
-    if tpdu[6] != 17 {
+    if tpdu[layout::IPV6_NEXT_HEADER] != 17 {
         return error::PAYLOAD_IS_NOT_UDP;
     }
-    let length = field::word(tpdu[4], tpdu[5]) as usize;
+    let length = read_u16(&tpdu[..], layout::IPV6_PAYLOAD_LENGTH) as usize;
     if length < 8 {
         return error::INVALID_IPV6_PAYLOAD_LENGTH;
     }
-    let end = length + 40;
+    let end = length + layout::IPV6_HEADER_BYTES;
     if tpdu.len() < end {
         return error::INVALID_IPV6_PAYLOAD_LENGTH;
     }
-    let addresses = ipv6_address_sum(&tpdu[8..24]) + ipv6_address_sum(&tpdu[24..40]);
-    judge_ipv6_udp(addresses, &tpdu[40..end])
+    let addresses = ipv6_address_sum(
+        &tpdu[layout::IPV6_SOURCE_ADDRESS..layout::IPV6_DESTINATION_ADDRESS],
+    )
+        + ipv6_address_sum(&tpdu[layout::IPV6_DESTINATION_ADDRESS..layout::IPV6_HEADER_BYTES]);
+    judge_ipv6_udp(addresses, &tpdu[layout::IPV6_HEADER_BYTES..end])
 }
 
 // The number of the first cause of refusal, or 0.
@@ -214,7 +229,7 @@ fn judge(tpdu: &[u8]) -> u8
     if tpdu.len() == 0 {
         return error::TRUNCATED_IP_HEADER;
     }
-    match tpdu[0] >> 4 {
+    match tpdu[layout::IP_VERSION] >> 4 {
         4 => judge_ipv4(&tpdu[..]),
         6 => judge_ipv6(&tpdu[..]),
         _ => error::UNSUPPORTED_IP_VERSION,
@@ -250,15 +265,15 @@ fn values(version: IpVersion, udp: &[u8]) -> TpduNumbers
     requires { ⌜ HasProbe (now udp) ⌝ }
     ensures { λ r. ⌜ ((src dst : List ℕ) → r ≡ tpduNumbers (gives (tpduOf version src dst (now (udp .entry))))) ⌝ }
 {
-    let end = field::word(udp[4], udp[5]) as usize;
-    let payload = &udp[8..end];
+    let end = read_u16(&udp[..], layout::UDP_LENGTH) as usize;
+    let payload = &udp[layout::UDP_HEADER_BYTES..end];
     TpduNumbers {
-        sequence: read_u64(payload, 8),
+        sequence: read_u64(payload, layout::PROBE_SEQUENCE),
         number: 0,
-        src_port: field::word(udp[0], udp[1]),
-        send_timestamp_ns: read_u64(payload, 16),
+        src_port: read_u16(&udp[..], layout::UDP_SOURCE_PORT),
+        send_timestamp_ns: read_u64(payload, layout::PROBE_SEND_TIME),
         version: version,
-        dst_port: field::word(udp[2], udp[3]),
+        dst_port: read_u16(&udp[..], layout::UDP_DESTINATION_PORT),
     }
 }
 
@@ -286,17 +301,18 @@ pub fn decode_into(tpdu: &[u8], src: &mut [u8; 16], dst: &mut [u8; 16]) -> TpduN
     if number != 0 {
         return no_values(number);
     }
-    if tpdu[0] >> 4 == 4 {
-        *src = ipv4_address(&tpdu[..], 12);
-        *dst = ipv4_address(&tpdu[..], 16);
-        let start = low_half(tpdu[0]) * 4;
-        let end = field::word(tpdu[2], tpdu[3]) as usize;
+    if tpdu[layout::IP_VERSION] >> 4 == 4 {
+        *src = ipv4_address(&tpdu[..], layout::IPV4_SOURCE_ADDRESS);
+        *dst = ipv4_address(&tpdu[..], layout::IPV4_DESTINATION_ADDRESS);
+        let start = low_half(tpdu[layout::IPV4_IHL]) * 4;
+        let end = read_u16(&tpdu[..], layout::IPV4_TOTAL_LENGTH) as usize;
         return values(IpVersion::V4, &tpdu[start..end]);
     }
-    *src = ipv6_address(&tpdu[..], 8);
-    *dst = ipv6_address(&tpdu[..], 24);
-    let end = (field::word(tpdu[4], tpdu[5]) as usize) + 40;
-    values(IpVersion::V6, &tpdu[40..end])
+    *src = ipv6_address(&tpdu[..], layout::IPV6_SOURCE_ADDRESS);
+    *dst = ipv6_address(&tpdu[..], layout::IPV6_DESTINATION_ADDRESS);
+    let end = (read_u16(&tpdu[..], layout::IPV6_PAYLOAD_LENGTH) as usize)
+        + layout::IPV6_HEADER_BYTES;
+    values(IpVersion::V6, &tpdu[layout::IPV6_HEADER_BYTES..end])
 }
 
 // Whether a T-PDU was read, from the number that reading came to.

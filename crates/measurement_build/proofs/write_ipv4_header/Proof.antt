@@ -26,17 +26,26 @@ slice-write-out-2 c = simp length-set (omega arith)
 slice-write-out-3 : tie.Need-slice-write-out-3
 slice-write-out-3 c = simp length-set (omega arith)
 
+add-out : tie.Need-add-out
+add-out c = search needs
+
 slice-write-out-4 : tie.Need-slice-write-out-4
 slice-write-out-4 c = simp length-set (omega arith)
 
 slice-write-out-5 : tie.Need-slice-write-out-5
 slice-write-out-5 c = simp length-set (omega arith)
 
+add-out-2 : tie.Need-add-out-2
+add-out-2 c = search needs
+
 slice-write-out-6 : tie.Need-slice-write-out-6
 slice-write-out-6 c = simp length-set (omega arith)
 
 slice-write-out-7 : tie.Need-slice-write-out-7
 slice-write-out-7 c = simp length-set (omega arith)
+
+add-out-3 : tie.Need-add-out-3
+add-out-3 c = search needs
 
 slice-write-out-8 : tie.Need-slice-write-out-8
 slice-write-out-8 c = simp length-set (omega arith)
@@ -56,6 +65,9 @@ slice-write-out-11 c = simp length-set (omega arith)
 low-requires : tie.Need-low-requires
 low-requires c κs = search needs
 
+add-out-4 : tie.Need-add-out-4
+add-out-4 c = search needs
+
 slice-write-out-12 : tie.Need-slice-write-out-12
 slice-write-out-12 c = simp length-set (omega arith)
 
@@ -68,17 +80,26 @@ slice-write-out-13 c = simp length-set (omega arith)
 array-read-out-2 : tie.Need-array-read-out-2
 array-read-out-2 c = search needs
 
+add-out-5 : tie.Need-add-out-5
+add-out-5 c = search needs
+
 slice-write-out-14 : tie.Need-slice-write-out-14
 slice-write-out-14 c = simp length-set (omega arith)
 
 array-read-out-3 : tie.Need-array-read-out-3
 array-read-out-3 c = search needs
 
+add-out-6 : tie.Need-add-out-6
+add-out-6 c = search needs
+
 slice-write-out-15 : tie.Need-slice-write-out-15
 slice-write-out-15 c = simp length-set (omega arith)
 
 array-read-out-4 : tie.Need-array-read-out-4
 array-read-out-4 c = search needs
+
+add-out-7 : tie.Need-add-out-7
+add-out-7 c = search needs
 
 slice-write-out-16 : tie.Need-slice-write-out-16
 slice-write-out-16 c = simp length-set (omega arith)
@@ -92,17 +113,26 @@ slice-write-out-17 c = simp length-set (omega arith)
 array-read-out-6 : tie.Need-array-read-out-6
 array-read-out-6 c = search needs
 
+add-out-8 : tie.Need-add-out-8
+add-out-8 c = search needs
+
 slice-write-out-18 : tie.Need-slice-write-out-18
 slice-write-out-18 c = simp length-set (omega arith)
 
 array-read-out-7 : tie.Need-array-read-out-7
 array-read-out-7 c = search needs
 
+add-out-9 : tie.Need-add-out-9
+add-out-9 c = search needs
+
 slice-write-out-19 : tie.Need-slice-write-out-19
 slice-write-out-19 c = simp length-set (omega arith)
 
 array-read-out-8 : tie.Need-array-read-out-8
 array-read-out-8 c = search needs
+
+add-out-10 : tie.Need-add-out-10
+add-out-10 c = search needs
 
 slice-write-out-20 : tie.Need-slice-write-out-20
 slice-write-out-20 c = simp length-set (omega arith)
@@ -128,32 +158,42 @@ write-ipv4-header-spec =
     slice-write-out
     slice-write-out-2
     slice-write-out-3
+    add-out
     slice-write-out-4
     slice-write-out-5
+    add-out-2
     slice-write-out-6
     slice-write-out-7
+    add-out-3
     slice-write-out-8
     slice-write-out-9
     slice-write-out-10
     high-requires
     slice-write-out-11
     low-requires
+    add-out-4
     slice-write-out-12
     array-read-out
     slice-write-out-13
     array-read-out-2
+    add-out-5
     slice-write-out-14
     array-read-out-3
+    add-out-6
     slice-write-out-15
     array-read-out-4
+    add-out-7
     slice-write-out-16
     array-read-out-5
     slice-write-out-17
     array-read-out-6
+    add-out-8
     slice-write-out-18
     array-read-out-7
+    add-out-9
     slice-write-out-19
     array-read-out-8
+    add-out-10
     slice-write-out-20
     same-length
     returns)

@@ -6,7 +6,7 @@ use mathlib.Core.List.{List}
 use native.Mathlib.Omega.{arith}
 use borrow.Author.Needs.{needs}
 use Rattle.error.specs.Outcome.{Outcome, gives}
-use Rattle.field.specs.Field.{bytesAt, field}
+use Rattle.field.specs.Field.{bytesAt}
 use Rattle.measurement.specs.Packet.{padded}
 use Rattle.measurement.specs.Read.{tpduOf, ihl, readOf}
 use Rattle.measurement.specs.declared.DecodedTpdu.{DecodedTpdu}
@@ -71,26 +71,14 @@ low-half-requires c κs = search needs
 mul-start : tie.Need-mul-start
 mul-start c = search needs
 
-shared-slice-read-word : tie.Need-shared-slice-read-word
-shared-slice-read-word c =
-    let t2 = c .before .before .before .before .before in
+read-u16-requires : tie.Need-read-u16-requires
+read-u16-requires c κs =
+    let t2 = c .before .before .before .before in
     let e1 = t2 .before .before in
     let j = e1 .before in
     let p = j .before .before .args .tpdu .now in
     let r = as-ipv4 p (j .judge .ensures) (e1 .if1 .left) (t2 .if2 .taken) in
-    omega (arith, r .low, r .fits, r .within)
-
-shared-slice-read-word-2 : tie.Need-shared-slice-read-word-2
-shared-slice-read-word-2 c =
-    let t2 = c .before .before .before .before .before .before in
-    let e1 = t2 .before .before in
-    let j = e1 .before in
-    let p = j .before .before .args .tpdu .now in
-    let r = as-ipv4 p (j .judge .ensures) (e1 .if1 .left) (t2 .if2 .taken) in
-    omega (arith, r .low, r .fits, r .within)
-
-word-requires : tie.Need-word-requires
-word-requires c κs = search needs
+    (omega arith, omega (arith, r .low, r .fits, r .within))
 
 cast-end : tie.Need-cast-end
 cast-end c = search needs
@@ -98,26 +86,26 @@ cast-end c = search needs
 sub-values : tie.Need-sub-values
 unfolding ihl
 sub-values c =
-    let t2 = c .before .before .before .before .before .before .before in
+    let t2 = c .before .before .before .before .before in
     let e1 = t2 .before .before in
     let j = e1 .before in
     let p = j .before .before .args .tpdu .now in
     let r = as-ipv4 p (j .judge .ensures) (e1 .if1 .left) (t2 .if2 .taken) in
-    omega (arith, r .fits, c .before .before .before .low-half .ensures .0)
+    omega (arith, r .fits, c .before .low-half .ensures .0)
 
 part-values-start : tie.Need-part-values-start
 unfolding ihl
 part-values-start c =
-    let t2 = c .before .before .before .before .before .before .before in
+    let t2 = c .before .before .before .before .before in
     let e1 = t2 .before .before in
     let j = e1 .before in
     let p = j .before .before .args .tpdu .now in
     let r = as-ipv4 p (j .judge .ensures) (e1 .if1 .left) (t2 .if2 .taken) in
-    omega (arith, r .fits, c .before .before .before .low-half .ensures .0)
+    omega (arith, r .fits, c .before .low-half .ensures .0)
 
 part-values-end : tie.Need-part-values-end
 part-values-end c =
-    let t2 = c .before .before .before .before .before .before .before in
+    let t2 = c .before .before .before .before .before in
     let e1 = t2 .before .before in
     let j = e1 .before in
     let p = j .before .before .args .tpdu .now in
@@ -127,31 +115,29 @@ part-values-end c =
 values-requires : tie.Need-values-requires
 unfolding ihl
 values-requires c κs =
-    let t2 = c .before .before .before .before .before .before .before .before in
+    let t2 = c .before .before .before .before .before .before in
     let e1 = t2 .before .before in
     let j = e1 .before in
     let p = j .before .before .args .tpdu .now in
     let r = as-ipv4 p (j .judge .ensures) (e1 .if1 .left) (t2 .if2 .taken) in
     let w = c .before in
-    let en : w .word .result ≡ field 2 2 p = omega arith in
-    has-probe (ipv4-part p en (w .before .before .before .low-half .ensures .0)) (r .part)
+    has-probe (ipv4-part p (w .read-u16 .ensures) (w .before .low-half .ensures .0)) (r .part)
 
 returns-2 : tie.Need-returns-2
 unfolding ihl sourceLeft destinationLeft
 returns-2 c =
-    let t2 = c .before .before .before .before .before .before .before .before .before in
+    let t2 = c .before .before .before .before .before .before .before in
     let e1 = t2 .before .before in
     let j = e1 .before in
     let p = j .before .before .args .tpdu .now in
     let r = as-ipv4 p (j .judge .ensures) (e1 .if1 .left) (t2 .if2 .taken) in
     let w = c .before .before in
     let a = j .before .before .args in
-    let l = w .before .before .before in
+    let l = w .before in
     let second = l .before .before in
-    let en : w .word .result ≡ field 2 2 p = omega arith in
     let e = sym (r .is) in (
       c .values .ensures (bytesAt 4 12 p) (bytesAt 4 16 p)
-          ∙ ap (λ (u : List ℕ). tpduNumbers (gives (tpduOf V4 (bytesAt 4 12 p) (bytesAt 4 16 p) u))) (ipv4-part p en (l .low-half .ensures .0)) ∙ ap tpduNumbers e,
+          ∙ ap (λ (u : List ℕ). tpduNumbers (gives (tpduOf V4 (bytesAt 4 12 p) (bytesAt 4 16 p) u))) (ipv4-part p (w .read-u16 .ensures) (l .low-half .ensures .0)) ∙ ap tpduNumbers e,
       (
         second .before .ipv4-address .ensures ∙ ap (λ (o : Outcome DecodedTpdu). sourceLeft o (a .src .now)) e,
         second .ipv4-address2 .ensures ∙ ap (λ (o : Outcome DecodedTpdu). destinationLeft o (a .dst .now)) e,
@@ -176,26 +162,14 @@ ipv6-address-requires-2 c κs =
     let r = as-ipv6 p (j .judge .ensures) (e1 .if1 .left) (e2 .if2 .left) in
     (omega arith, omega (arith, r .within))
 
-shared-slice-read-word-3 : tie.Need-shared-slice-read-word-3
-shared-slice-read-word-3 c =
-    let e2 = c .before .before .before in
+read-u16-requires-2 : tie.Need-read-u16-requires-2
+read-u16-requires-2 c κs =
+    let e2 = c .before .before in
     let e1 = e2 .before .before in
     let j = e1 .before in
     let p = j .before .before .args .tpdu .now in
     let r = as-ipv6 p (j .judge .ensures) (e1 .if1 .left) (e2 .if2 .left) in
-    omega (arith, r .within)
-
-shared-slice-read-word-4 : tie.Need-shared-slice-read-word-4
-shared-slice-read-word-4 c =
-    let e2 = c .before .before .before .before in
-    let e1 = e2 .before .before in
-    let j = e1 .before in
-    let p = j .before .before .args .tpdu .now in
-    let r = as-ipv6 p (j .judge .ensures) (e1 .if1 .left) (e2 .if2 .left) in
-    omega (arith, r .within)
-
-word-requires-2 : tie.Need-word-requires-2
-word-requires-2 c κs = search needs
+    (omega arith, omega (arith, r .within))
 
 cast-end-2 : tie.Need-cast-end-2
 cast-end-2 c = search needs
@@ -211,7 +185,7 @@ part-values-start-2 c = search needs
 
 part-values-end-2 : tie.Need-part-values-end-2
 part-values-end-2 c =
-    let e2 = c .before .before .before .before .before in
+    let e2 = c .before .before .before in
     let e1 = e2 .before .before in
     let j = e1 .before in
     let p = j .before .before .args .tpdu .now in
@@ -220,29 +194,27 @@ part-values-end-2 c =
 
 values-requires-2 : tie.Need-values-requires-2
 values-requires-2 c κs =
-    let e2 = c .before .before .before .before .before .before in
+    let e2 = c .before .before .before .before in
     let e1 = e2 .before .before in
     let j = e1 .before in
     let p = j .before .before .args .tpdu .now in
     let r = as-ipv6 p (j .judge .ensures) (e1 .if1 .left) (e2 .if2 .left) in
-    let en : c .before .word2 .result ≡ field 2 4 p = omega arith in
-    has-probe (ipv6-part p en) (r .part)
+    has-probe (ipv6-part p (c .before .read-u162 .ensures)) (r .part)
 
 returns-3 : tie.Need-returns-3
 unfolding sourceLeft destinationLeft
 returns-3 c =
-    let e2 = c .before .before .before .before .before .before .before in
+    let e2 = c .before .before .before .before .before in
     let e1 = e2 .before .before in
     let j = e1 .before in
     let p = j .before .before .args .tpdu .now in
     let r = as-ipv6 p (j .judge .ensures) (e1 .if1 .left) (e2 .if2 .left) in
     let w = c .before .before in
     let a = j .before .before .args in
-    let second = w .before .before .before in
-    let en : w .word2 .result ≡ field 2 4 p = omega arith in
+    let second = w .before in
     let e = sym (r .is) in (
       c .values2 .ensures (bytesAt 16 8 p) (bytesAt 16 24 p)
-          ∙ ap (λ (u : List ℕ). tpduNumbers (gives (tpduOf V6 (bytesAt 16 8 p) (bytesAt 16 24 p) u))) (ipv6-part p en) ∙ ap tpduNumbers e,
+          ∙ ap (λ (u : List ℕ). tpduNumbers (gives (tpduOf V6 (bytesAt 16 8 p) (bytesAt 16 24 p) u))) (ipv6-part p (w .read-u162 .ensures)) ∙ ap tpduNumbers e,
       (
         second .before .ipv6-address .ensures ∙ padded-whole p 8 ∙ ap (λ (o : Outcome DecodedTpdu). sourceLeft o (a .src .now)) e,
         second .ipv6-address2 .ensures ∙ padded-whole p 24 ∙ ap (λ (o : Outcome DecodedTpdu). destinationLeft o (a .dst .now)) e,
@@ -262,9 +234,7 @@ decode-into-spec =
     shared-slice-read-low-half
     low-half-requires
     mul-start
-    shared-slice-read-word
-    shared-slice-read-word-2
-    word-requires
+    read-u16-requires
     cast-end
     sub-values
     part-values-start
@@ -273,9 +243,7 @@ decode-into-spec =
     returns-2
     ipv6-address-requires
     ipv6-address-requires-2
-    shared-slice-read-word-3
-    shared-slice-read-word-4
-    word-requires-2
+    read-u16-requires-2
     cast-end-2
     add-end
     sub-values-2

@@ -7,7 +7,7 @@ use borrow.Author.Needs.{needs}
 use lib.ListN.{drop, length-take, length-drop}
 use lib.Seq.{length-take-le}
 use Rattle.error.specs.Outcome.{outcomeNumber}
-use Rattle.field.specs.Field.{bytesAt, field}
+use Rattle.field.specs.Field.{bytesAt}
 use Rattle.measurement.specs.Packet.{addressLength}
 use Rattle.measurement.specs.Read.{ihl}
 use Rattle.measurement.specs.declared.IpVersion.the-variants.{V4}
@@ -45,14 +45,8 @@ returns-3 c =
     let e1 = l .before .before in
     ap outcomeNumber (row-4-cut (e1 .before .before .args .tpdu .now) (e1 .if1 .left) (l .low-half .ensures .0) (c .if3 .taken))
 
-shared-slice-read-word : tie.Need-shared-slice-read-word
-shared-slice-read-word c = search needs
-
-shared-slice-read-word-2 : tie.Need-shared-slice-read-word-2
-shared-slice-read-word-2 c = search needs
-
-word-requires : tie.Need-word-requires
-word-requires c κs = search needs
+read-u16-requires : tie.Need-read-u16-requires
+read-u16-requires c κs = search needs
 
 cast-end : tie.Need-cast-end
 cast-end c = search needs
@@ -64,25 +58,23 @@ returns-4 : tie.Need-returns-4
 unfolding ihl
 returns-4 c =
     let w = c .before in
-    let e3 = w .before .before .before in
+    let e3 = w .before in
     let e2 = e3 .before in
     let l = e2 .before in
     let e1 = l .before .before in
     let p = e1 .before .before .args .tpdu .now in
-    let en : w .word .result ≡ field 2 2 p = omega arith in
-    ap outcomeNumber (row-5-low p (e1 .if1 .left) (l .low-half .ensures .0) (e2 .if2 .left) (e3 .if3 .left) en (c .if4 .taken))
+    ap outcomeNumber (row-5-low p (e1 .if1 .left) (l .low-half .ensures .0) (e2 .if2 .left) (e3 .if3 .left) (w .read-u16 .ensures) (c .if4 .taken))
 
 returns-5 : tie.Need-returns-5
 unfolding ihl
 returns-5 c =
     let w = c .before .before in
-    let e3 = w .before .before .before in
+    let e3 = w .before in
     let e2 = e3 .before in
     let l = e2 .before in
     let e1 = l .before .before in
     let p = e1 .before .before .args .tpdu .now in
-    let en : w .word .result ≡ field 2 2 p = omega arith in
-    ap outcomeNumber (row-5-past p (e1 .if1 .left) (l .low-half .ensures .0) (e2 .if2 .left) (e3 .if3 .left) en (c .if5 .taken))
+    ap outcomeNumber (row-5-past p (e1 .if1 .left) (l .low-half .ensures .0) (e2 .if2 .left) (e3 .if3 .left) (w .read-u16 .ensures) (c .if5 .taken))
 
 shared-slice-read-if6 : tie.Need-shared-slice-read-if6
 shared-slice-read-if6 c = search needs
@@ -93,17 +85,16 @@ returns-6 c =
     let e5 = c .before .before in
     let e4 = e5 .before in
     let w = e4 .before in
-    let e3 = w .before .before .before in
+    let e3 = w .before in
     let e2 = e3 .before in
     let l = e2 .before in
     let e1 = l .before .before in
     let p = e1 .before .before .args .tpdu .now in
-    let en : w .word .result ≡ field 2 2 p = omega arith in
-    ap outcomeNumber (row-6-ipv4 p (e1 .if1 .left) (l .low-half .ensures .0) (e2 .if2 .left) (e3 .if3 .left) en (e4 .if4 .left) (e5 .if5 .left) (c .if6 .taken))
+    ap outcomeNumber (row-6-ipv4 p (e1 .if1 .left) (l .low-half .ensures .0) (e2 .if2 .left) (e3 .if3 .left) (w .read-u16 .ensures) (e4 .if4 .left) (e5 .if5 .left) (c .if6 .taken))
 
 slice-aggregate-checksum : tie.Need-slice-aggregate-checksum
 slice-aggregate-checksum c =
-    let e3 = c .before .before .before .before .before .before .before .before in
+    let e3 = c .before .before .before .before .before .before in
     let l = e3 .before .before in
     let p = l .before .before .before .before .args .tpdu .now in
     sym (length-take-le (l .low-half .result * 4) p (omega (arith, e3 .if3 .left)))
@@ -119,13 +110,12 @@ returns-7 c =
     let e5 = e6 .before .before in
     let e4 = e5 .before in
     let w = e4 .before in
-    let e3 = w .before .before .before in
+    let e3 = w .before in
     let e2 = e3 .before in
     let l = e2 .before in
     let e1 = l .before .before in
     let p = e1 .before .before .args .tpdu .now in
-    let en : w .word .result ≡ field 2 2 p = omega arith in
-    ap outcomeNumber (row-7 p (e1 .if1 .left) (l .low-half .ensures .0) (e2 .if2 .left) (e3 .if3 .left) en (e4 .if4 .left) (e5 .if5 .left) (e6 .if6 .left) (k .checksum .ensures) (c .if7 .taken))
+    ap outcomeNumber (row-7 p (e1 .if1 .left) (l .low-half .ensures .0) (e2 .if2 .left) (e3 .if3 .left) (w .read-u16 .ensures) (e4 .if4 .left) (e5 .if5 .left) (e6 .if6 .left) (k .checksum .ensures) (c .if7 .taken))
 
 sub-ipv4-address-sum : tie.Need-sub-ipv4-address-sum
 sub-ipv4-address-sum c = search needs
@@ -177,15 +167,14 @@ returns-8 c =
     let e5 = e6 .before .before in
     let e4 = e5 .before in
     let w = e4 .before in
-    let e3 = w .before .before .before in
+    let e3 = w .before in
     let e2 = e3 .before in
     let l = e2 .before in
     let e1 = l .before .before in
     let p = e1 .before .before .args .tpdu .now in
-    let en : w .word .result ≡ field 2 2 p = omega arith in
     c .judge-ipv4-udp .ensures (bytesAt 4 12 p) (bytesAt 4 16 p)
     (addresses V4 p 12 16 20 (x .ipv4-address-sum .result) (y .ipv4-address-sum2 .result) (omega arith) (omega arith) (x .ipv4-address-sum .ensures .0) (y .ipv4-address-sum2 .ensures .0))
-    ∙ ap outcomeNumber (rest-ipv4 p (e1 .if1 .left) (l .low-half .ensures .0) (e2 .if2 .left) (e3 .if3 .left) en (e4 .if4 .left) (e5 .if5 .left) (e6 .if6 .left) (k .checksum .ensures) (e7 .if7 .left))
+    ∙ ap outcomeNumber (rest-ipv4 p (e1 .if1 .left) (l .low-half .ensures .0) (e2 .if2 .left) (e3 .if3 .left) (w .read-u16 .ensures) (e4 .if4 .left) (e5 .if5 .left) (e6 .if6 .left) (k .checksum .ensures) (e7 .if7 .left))
 
 pub judge-ipv4-spec : {M : Type 1} → statement M
 judge-ipv4-spec =
@@ -198,9 +187,7 @@ judge-ipv4-spec =
     mul-start
     add-if3
     returns-3
-    shared-slice-read-word
-    shared-slice-read-word-2
-    word-requires
+    read-u16-requires
     cast-end
     add-if4
     returns-4

@@ -19,23 +19,17 @@ returns c =
     let l = c .before in
     λ src dst a. ap outcomeNumber (udp4-10 V4 src dst (l .before .before .args .udp .now) refl (sym (l .length-wrong .ensures) ∙ c .if1 .taken))
 
-shared-slice-read-word : tie.Need-shared-slice-read-word
-shared-slice-read-word c = search needs
-
-shared-slice-read-word-2 : tie.Need-shared-slice-read-word-2
-shared-slice-read-word-2 c = search needs
-
-word-requires : tie.Need-word-requires
-word-requires c κs = search needs
+read-u16-requires : tie.Need-read-u16-requires
+read-u16-requires c κs = search needs
 
 judge-probe-requires : tie.Need-judge-probe-requires
 judge-probe-requires c κs =
-    let e1 = c .before .before .before .before in
+    let e1 = c .before .before in
     (e1 .before .before .before .pre .1, sym (e1 .before .length-wrong .ensures) ∙ e1 .if1 .left)
 
 returns-2 : tie.Need-returns-2
 returns-2 c =
-    let e1 = c .before .before .before .before .before in
+    let e1 = c .before .before .before in
     let l = e1 .before in
     let u = l .before .before .args .udp .now in
     let z : field 2 6 u ≡ 0 = omega arith in
@@ -48,7 +42,7 @@ returns-3 : tie.Need-returns-3
 returns-3 c =
     let q = c .before in
     let e2 = q .before in
-    let e1 = e2 .before .before .before .before in
+    let e1 = e2 .before .before in
     let l = e1 .before in
     let u = l .before .before .args .udp .now in
     λ src dst a. ap outcomeNumber (udp4-12 V4 src dst u refl (sym (l .length-wrong .ensures) ∙ e1 .if1 .left) (λ z. e2 .if2 .left (omega arith))
@@ -56,14 +50,14 @@ returns-3 c =
 
 judge-probe-requires-2 : tie.Need-judge-probe-requires-2
 judge-probe-requires-2 c κs =
-    let e1 = c .before .before .before .before .before .before in
+    let e1 = c .before .before .before .before in
     (e1 .before .before .before .pre .1, sym (e1 .before .length-wrong .ensures) ∙ e1 .if1 .left)
 
 returns-4 : tie.Need-returns-4
 returns-4 c =
     let e3 = c .before in
     let q = e3 .before in
-    let e1 = q .before .before .before .before .before in
+    let e1 = q .before .before .before in
     let l = e1 .before in
     let u = l .before .before .args .udp .now in
     λ src dst a. c .judge-probe2 .ensures V4 src dst
@@ -75,9 +69,7 @@ judge-ipv4-udp-spec =
     (tie.spec
     length-wrong-requires
     returns
-    shared-slice-read-word
-    shared-slice-read-word-2
-    word-requires
+    read-u16-requires
     judge-probe-requires
     returns-2
     sum-wrong-requires

@@ -6,7 +6,7 @@ use native.Mathlib.Omega.{arith}
 use borrow.Author.Needs.{needs}
 use lib.ListN.{drop, length-take, length-drop}
 use Rattle.error.specs.Outcome.{outcomeNumber}
-use Rattle.field.specs.Field.{bytesAt, field}
+use Rattle.field.specs.Field.{bytesAt}
 use Rattle.measurement.specs.Packet.{addressLength}
 use Rattle.measurement.specs.declared.IpVersion.the-variants.{V6}
 use Rattle.measurement.proofs.Rows.{row-8, row-6-ipv6, row-9-low, row-9-past, rest-ipv6}
@@ -25,14 +25,8 @@ returns-2 c =
     let e1 = c .before .before in
     ap outcomeNumber (row-6-ipv6 (e1 .before .before .args .tpdu .now) (e1 .if1 .left) (c .if2 .taken))
 
-shared-slice-read-word : tie.Need-shared-slice-read-word
-shared-slice-read-word c = search needs
-
-shared-slice-read-word-2 : tie.Need-shared-slice-read-word-2
-shared-slice-read-word-2 c = search needs
-
-word-requires : tie.Need-word-requires
-word-requires c κs = search needs
+read-u16-requires : tie.Need-read-u16-requires
+read-u16-requires c κs = search needs
 
 cast-length : tie.Need-cast-length
 cast-length c = search needs
@@ -40,11 +34,10 @@ cast-length c = search needs
 returns-3 : tie.Need-returns-3
 returns-3 c =
     let w = c .before in
-    let e2 = w .before .before .before in
+    let e2 = w .before in
     let e1 = e2 .before .before in
     let p = e1 .before .before .args .tpdu .now in
-    let en : w .word .result ≡ field 2 4 p = omega arith in
-    ap outcomeNumber (row-9-low p (e1 .if1 .left) (e2 .if2 .left) en (c .if3 .taken))
+    ap outcomeNumber (row-9-low p (e1 .if1 .left) (e2 .if2 .left) (w .read-u16 .ensures) (c .if3 .taken))
 
 add-end : tie.Need-add-end
 add-end c = search needs
@@ -52,11 +45,10 @@ add-end c = search needs
 returns-4 : tie.Need-returns-4
 returns-4 c =
     let w = c .before .before in
-    let e2 = w .before .before .before in
+    let e2 = w .before in
     let e1 = e2 .before .before in
     let p = e1 .before .before .args .tpdu .now in
-    let en : w .word .result ≡ field 2 4 p = omega arith in
-    ap outcomeNumber (row-9-past p (e1 .if1 .left) (e2 .if2 .left) en (c .if4 .taken))
+    ap outcomeNumber (row-9-past p (e1 .if1 .left) (e2 .if2 .left) (w .read-u16 .ensures) (c .if4 .taken))
 
 sub-ipv6-address-sum : tie.Need-sub-ipv6-address-sum
 sub-ipv6-address-sum c = search needs
@@ -105,13 +97,12 @@ returns-5 c =
     let e4 = x .before .before in
     let e3 = e4 .before in
     let w = e3 .before in
-    let e2 = w .before .before .before in
+    let e2 = w .before in
     let e1 = e2 .before .before in
     let p = e1 .before .before .args .tpdu .now in
-    let en : w .word .result ≡ field 2 4 p = omega arith in
     c .judge-ipv6-udp .ensures (bytesAt 16 8 p) (bytesAt 16 24 p)
     (addresses V6 p 8 24 40 (x .ipv6-address-sum .result) (y .ipv6-address-sum2 .result) (omega arith) (omega arith) (x .ipv6-address-sum .ensures .0) (y .ipv6-address-sum2 .ensures .0))
-    ∙ ap outcomeNumber (rest-ipv6 p (e1 .if1 .left) (e2 .if2 .left) en (e3 .if3 .left) (e4 .if4 .left))
+    ∙ ap outcomeNumber (rest-ipv6 p (e1 .if1 .left) (e2 .if2 .left) (w .read-u16 .ensures) (e3 .if3 .left) (e4 .if4 .left))
 
 pub judge-ipv6-spec : {M : Type 1} → statement M
 judge-ipv6-spec =
@@ -120,9 +111,7 @@ judge-ipv6-spec =
     returns
     shared-slice-read-if2
     returns-2
-    shared-slice-read-word
-    shared-slice-read-word-2
-    word-requires
+    read-u16-requires
     cast-length
     returns-3
     add-end

@@ -11,18 +11,12 @@ use Rattle.measurement.specs.declared.IpVersion.the-variants.{V6}
 use Rattle.measurement_decode.proofs.judge_ipv6_udp.Statement.{statement}
 use Rattle.measurement_decode.proofs.judge_ipv6_udp.Tie as tie
 
-shared-slice-read-word : tie.Need-shared-slice-read-word
-shared-slice-read-word c = search needs
-
-shared-slice-read-word-2 : tie.Need-shared-slice-read-word-2
-shared-slice-read-word-2 c = search needs
-
-word-requires : tie.Need-word-requires
-word-requires c κs = search needs
+read-u16-requires : tie.Need-read-u16-requires
+read-u16-requires c κs = search needs
 
 returns : tie.Need-returns
 returns c =
-    let u = c .before .before .before .before .before .args .udp .now in
+    let u = c .before .before .before .args .udp .now in
     let z : field 2 6 u ≡ 0 = omega arith in
     λ src dst a. ap outcomeNumber (udp6-11 V6 src dst u refl z)
 
@@ -33,7 +27,7 @@ returns-2 : tie.Need-returns-2
 returns-2 c =
     let q = c .before in
     let e1 = q .before in
-    let u = e1 .before .before .before .before .before .args .udp .now in
+    let u = e1 .before .before .before .args .udp .now in
     λ src dst a. ap outcomeNumber (udp6-12 V6 src dst u refl (λ z. e1 .if1 .left (omega arith)) (sym (q .sum-wrong .ensures V6 src dst a) ∙ c .if2 .taken))
 
 length-wrong-requires : tie.Need-length-wrong-requires
@@ -45,14 +39,14 @@ returns-3 c =
     let e2 = l .before in
     let q = e2 .before in
     let e1 = q .before in
-    let u = e1 .before .before .before .before .before .args .udp .now in
+    let u = e1 .before .before .before .args .udp .now in
     λ src dst a. ap outcomeNumber (udp6-10 V6 src dst u refl (λ z. e1 .if1 .left (omega arith)) (sym (q .sum-wrong .ensures V6 src dst a) ∙ e2 .if2 .left)
     (sym (l .length-wrong .ensures) ∙ c .if3 .taken))
 
 judge-probe-requires : tie.Need-judge-probe-requires
 judge-probe-requires c κs =
     let e1 = c .before .before .before .before in
-    (e1 .before .before .before .before .before .pre .1, sym (c .before .length-wrong .ensures) ∙ c .if3 .left)
+    (e1 .before .before .before .pre .1, sym (c .before .length-wrong .ensures) ∙ c .if3 .left)
 
 returns-4 : tie.Need-returns-4
 returns-4 c =
@@ -61,7 +55,7 @@ returns-4 c =
     let e2 = l .before in
     let q = e2 .before in
     let e1 = q .before in
-    let u = e1 .before .before .before .before .before .args .udp .now in
+    let u = e1 .before .before .before .args .udp .now in
     λ src dst a. c .judge-probe .ensures V6 src dst
     ∙ ap outcomeNumber (udp6-right V6 src dst u refl (λ z. e1 .if1 .left (omega arith)) (sym (q .sum-wrong .ensures V6 src dst a) ∙ e2 .if2 .left) (sym (l .length-wrong .ensures) ∙ e3 .if3 .left))
 
@@ -69,9 +63,7 @@ pub judge-ipv6-udp-spec : {M : Type 1} → statement M
 judge-ipv6-udp-spec =
     tie.close
     (tie.spec
-    shared-slice-read-word
-    shared-slice-read-word-2
-    word-requires
+    read-u16-requires
     returns
     sum-wrong-requires
     returns-2

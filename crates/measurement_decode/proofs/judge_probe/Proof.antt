@@ -1,42 +1,33 @@
 -- `measurement_decode::judge_probe` meets its contract.
 -- Assumes nothing.
-use Prim.Native.Nat.{ℕ}
-use mathlib.Core.Path.{_≡_, ap}
+use mathlib.Core.Path.{ap}
 use native.Mathlib.Omega.{arith}
 use borrow.Author.Needs.{needs}
 use Rattle.error.specs.Outcome.{outcomeNumber}
-use Rattle.field.specs.Field.{field}
 use Rattle.measurement.proofs.Rows.{length-right, probe-13, probe-14, probe-gives}
 use Rattle.measurement_decode.proofs.judge_probe.Statement.{statement}
 use Rattle.measurement_decode.proofs.judge_probe.Tie as tie
 
-shared-slice-read-word : tie.Need-shared-slice-read-word
-shared-slice-read-word c = search needs
-
-shared-slice-read-word-2 : tie.Need-shared-slice-read-word-2
-shared-slice-read-word-2 c = search needs
-
-word-requires : tie.Need-word-requires
-word-requires c κs = search needs
+read-u16-requires : tie.Need-read-u16-requires
+read-u16-requires c κs = search needs
 
 cast-end : tie.Need-cast-end
 cast-end c = search needs
 
 sub-payload : tie.Need-sub-payload
-sub-payload c = omega (arith, length-right (c .before .before .before .before .args .udp .now) (c .before .before .before .before .pre .1))
+sub-payload c = omega (arith, length-right (c .before .before .args .udp .now) (c .before .before .pre .1))
 
 part-payload-start : tie.Need-part-payload-start
-part-payload-start c = omega (arith, length-right (c .before .before .before .before .args .udp .now) (c .before .before .before .before .pre .1))
+part-payload-start c = omega (arith, length-right (c .before .before .args .udp .now) (c .before .before .pre .1))
 
 part-payload-end : tie.Need-part-payload-end
-part-payload-end c = omega (arith, length-right (c .before .before .before .before .args .udp .now) (c .before .before .before .before .pre .1))
+part-payload-end c = omega (arith, length-right (c .before .before .args .udp .now) (c .before .before .pre .1))
 
 returns : tie.Need-returns
 returns c =
     let w = c .before .before in
-    let u = w .before .before .before .before .args .udp .now in
-    let e : w .word .result ≡ field 2 4 u = omega arith in
-    λ v src dst. ap outcomeNumber (probe-13 v src dst u e (c .if1 .taken))
+    let u = w .before .before .args .udp .now in
+    λ v src dst. ap outcomeNumber (probe-13 v src dst u (w .read-u16 .ensures) (c .if1 .taken))
 
 read-u64-requires : tie.Need-read-u64-requires
 read-u64-requires c κs = search needs
@@ -45,25 +36,21 @@ returns-2 : tie.Need-returns-2
 returns-2 c =
     let r = c .before in
     let w = r .before .before .before in
-    let u = w .before .before .before .before .args .udp .now in
-    let e : w .word .result ≡ field 2 4 u = omega arith in
-    λ v src dst. ap outcomeNumber (probe-14 v src dst u e (r .read-u64 .ensures) (r .before .if1 .left) (c .if2 .taken))
+    let u = w .before .before .args .udp .now in
+    λ v src dst. ap outcomeNumber (probe-14 v src dst u (w .read-u16 .ensures) (r .read-u64 .ensures) (r .before .if1 .left) (c .if2 .taken))
 
 returns-3 : tie.Need-returns-3
 returns-3 c =
     let r = c .before in
     let w = r .before .before .before in
-    let u = w .before .before .before .before .args .udp .now in
-    let e : w .word .result ≡ field 2 4 u = omega arith in
-    λ v src dst. ap outcomeNumber (probe-gives v src dst u e (r .read-u64 .ensures) (r .before .if1 .left) (c .if2 .left))
+    let u = w .before .before .args .udp .now in
+    λ v src dst. ap outcomeNumber (probe-gives v src dst u (w .read-u16 .ensures) (r .read-u64 .ensures) (r .before .if1 .left) (c .if2 .left))
 
 pub judge-probe-spec : {M : Type 1} → statement M
 judge-probe-spec =
     tie.close
     (tie.spec
-    shared-slice-read-word
-    shared-slice-read-word-2
-    word-requires
+    read-u16-requires
     cast-end
     sub-payload
     part-payload-start
