@@ -30,7 +30,7 @@ use Rattle.reflector_sessions.specs.declared.ReflectorSession.{ReflectorSession
 use Rattle.reflector_sessions.specs.declared.SocketAddr.{SocketAddr}
 use Rattle.reflector_answer.specs.State.{counted, stateCounted, nextErrorSequence}
 use Rattle.reflector_answer.specs.Answer.{Answer, Action, noop, gpduOutcome, gpduCounted, gpduKnown, gpduUnknown, echoRequestOutcome, echoRequest, otherMessage, gpduAnswer, ignored, reflected, errorIndicationTo, answer}
-use Rattle.reflector_answer.specs.Handle.{handledOf, forwarded, placed, Answers, handleFound}
+use Rattle.reflector_answer.specs.Handle.{handledOf, forwarded, placed, Answers, EchoFits, reflectorBytes, handleFound}
 use Rattle.reflector_answer.specs.declared.GtpuMessage.{GtpuMessage}
 use Rattle.reflector_answer.specs.declared.Handled.{Handled}
 use Rattle.reflector_answer.specs.declared.MultiSessionReflectorConfig.{MultiSessionReflectorConfig}
@@ -48,7 +48,7 @@ use Rattle.reflector_answer.specs.declared.SequenceNumber.the-variants.{
 abbrev refusal : ℕ → ReflectorState → Answer
 refusal n state = record { outcome = refused n; state = state }
 
--- ---- what the echo of a payload leaves in the output, which is long enough for every echo
+-- ---- what the echo of a payload leaves in the output; the least output is long enough for every echo
 
 module _ (payload out : List ℕ) where
   echo-refusal : {n : ℕ} → echoOf payload ≡ refused n → writingOf (echoOf payload) out ≡ record { outcome = refused n; buffer = out }
@@ -59,9 +59,9 @@ module _ (payload out : List ℕ) where
   unfolding writingOf
   echo-given {b} x l = ap (λ (o : Outcome (List ℕ)). writingOf o out) x ∙ sym (writing-fits b out l)
 
-  echo-fits : {b : List ℕ} → echoOf payload ≡ gives b → 72 ≤ length out → length b ≤ length out
+  pub echo-fits : reflectorBytes ≤ length out → EchoFits payload out
   unfolding echoOf
-  echo-fits {b} x fits = go (readOf payload) refl
+  echo-fits fits b x = go (readOf payload) refl
     where
       go : (o : Outcome DecodedTpdu) → readOf payload ≡ o → length b ≤ length out
       go (refused m) y = absurd (refused-gives (let z : echoOf payload ≡ refused m = rw (y, echoOf) in sym z ∙ x))
@@ -83,7 +83,7 @@ module _ (config : MultiSessionReflectorConfig) (state : ReflectorState) (sessio
     unfolding gpduKnown gpduOutcome
     known-is q = rw (p, q, gpduKnown)
 
-    pub echo-refused : {n : ℕ} {r : Handled} → 72 ≤ length out → w ≡ written.Refused n → r ≡ handledOf (refusal n received) → Answers r after (gpduKnown config state session payload) out
+    pub echo-refused : {n : ℕ} {r : Handled} → EchoFits payload out → w ≡ written.Refused n → r ≡ handledOf (refusal n received) → Answers r after (gpduKnown config state session payload) out
     echo-refused {n} {r} fits q h = go (echoOf payload) refl
       where
         go : (o : Outcome (List ℕ)) → echoOf payload ≡ o → Answers r after (gpduKnown config state session payload) out
@@ -92,16 +92,16 @@ module _ (config : MultiSessionReflectorConfig) (state : ReflectorState) (sessio
             let v : refused n ≡ refused m = ap (λ (y : Writing). y .outcome) u in
             let i : m ≡ n = cc in
             (h ∙ ap (λ (k : ℕ). handledOf (refusal k received)) (sym i) ∙ ap handledOf (sym (known-is x)), ap (λ (y : Writing). y .buffer) u ∙ ap (λ (y : Answer). placed (y .outcome) out) (sym (known-is x)))
-        go (gives b) x = absurd (refused-gives (ap (λ (y : Writing). y .outcome) (ap (λ (y : Written). wrote y after) (sym q) ∙ e ∙ echo-given payload out x (echo-fits payload out x fits))))
+        go (gives b) x = absurd (refused-gives (ap (λ (y : Writing). y .outcome) (ap (λ (y : Written). wrote y after) (sym q) ∙ e ∙ echo-given payload out x (fits b x))))
 
-    pub echoed : {n : ℕ} {r : Handled} → 72 ≤ length out → w ≡ written.Bytes n → r ≡ forwarded received ReflectedGpdu (valueOf (session .«peer_addr»)) (session .«peer_teid») n
+    pub echoed : {n : ℕ} {r : Handled} → EchoFits payload out → w ≡ written.Bytes n → r ≡ forwarded received ReflectedGpdu (valueOf (session .«peer_addr»)) (session .«peer_teid») n
         → Answers r after (gpduKnown config state session payload) out
     echoed {n} {r} fits q h = go (echoOf payload) refl
       where
         go : (o : Outcome (List ℕ)) → echoOf payload ≡ o → Answers r after (gpduKnown config state session payload) out
         go (refused m) x = absurd (refused-gives (ap (λ (y : Writing). y .outcome) (sym (echo-refusal payload out x) ∙ sym e ∙ ap (λ (y : Written). wrote y after) q)))
         go (gives b) x =
-            let u : wrote (written.Bytes n) after ≡ record { outcome = gives (length b); buffer = b ++ drop (length b) out } = ap (λ (y : Written). wrote y after) (sym q) ∙ e ∙ echo-given payload out x (echo-fits payload out x fits) in
+            let u : wrote (written.Bytes n) after ≡ record { outcome = gives (length b); buffer = b ++ drop (length b) out } = ap (λ (y : Written). wrote y after) (sym q) ∙ e ∙ echo-given payload out x (fits b x) in
             let v : gives n ≡ gives (length b) = ap (λ (y : Writing). y .outcome) u in
             let i : n ≡ length b = cc in
             (h ∙ ap (forwarded received ReflectedGpdu (valueOf (session .«peer_addr»)) (session .«peer_teid»)) i ∙ ap handledOf (sym (known-is x)), ap (λ (y : Writing). y .buffer) u ∙ ap (λ (y : Answer). placed (y .outcome) out) (sym (known-is x)))
@@ -227,22 +227,22 @@ module _ (rows used : ℕ) (config : MultiSessionReflectorConfig) (state : Refle
   handled = handleFound rows used config state session source message payload out
 
   abbrev causes : List Cause
-  causes = tableCauses rows used (config .«max_sessions») ++ (ltb (length out) 72 ⇒ outputTooShort) ∷ []
+  causes = tableCauses rows used (config .«max_sessions») ++ (ltb (length out) reflectorBytes ⇒ outputTooShort) ∷ []
 
   first : {n : ℕ} → Refuses causes n → refusal n state ≡ handled
   unfolding handleFound
   first {n} h = rw (sym (refuses (gives (tt {0})) h), handleFound)
 
   pub handling-refused : {n : ℕ} → refused n ≡ tableOutcome rows used (config .«max_sessions») → refusal n state ≡ handled
-  handling-refused e = first (refuses-front ((ltb (length out) 72 ⇒ outputTooShort) ∷ []) (judged-refused rows used (config .«max_sessions») e))
+  handling-refused e = first (refuses-front ((ltb (length out) reflectorBytes ⇒ outputTooShort) ∷ []) (judged-refused rows used (config .«max_sessions») e))
 
-  pub handling-short : {n : ℕ} → gives n ≡ tableOutcome rows used (config .«max_sessions») → length out < 72 → refusal outputTooShort state ≡ handled
-  handling-short e l = first (refuses-behind (is-sound rows used (config .«max_sessions») (judged-sound rows used (config .«max_sessions») e .0)) (here (lt-ltb (length out) 72 l)))
+  pub handling-short : {n : ℕ} → gives n ≡ tableOutcome rows used (config .«max_sessions») → length out < reflectorBytes → refusal outputTooShort state ≡ handled
+  handling-short e l = first (refuses-behind (is-sound rows used (config .«max_sessions») (judged-sound rows used (config .«max_sessions») e .0)) (here (lt-ltb (length out) reflectorBytes l)))
 
-  pub handling-passed : {n : ℕ} → gives n ≡ tableOutcome rows used (config .«max_sessions») → 72 ≤ length out → answer config state session source message payload ≡ handled
+  pub handling-passed : {n : ℕ} → gives n ≡ tableOutcome rows used (config .«max_sessions») → reflectorBytes ≤ length out → answer config state session source message payload ≡ handled
   unfolding handleFound
   handling-passed {n} e l =
-      rw (sym (passes {rows = causes} (gives (tt {0})) (passes-both (is-sound rows used (config .«max_sessions») (judged-sound rows used (config .«max_sessions») e .0)) (past (le-ltb (length out) 72 l) no-row))), handleFound)
+      rw (sym (passes {rows = causes} (gives (tt {0})) (passes-both (is-sound rows used (config .«max_sessions») (judged-sound rows used (config .«max_sessions») e .0)) (past (le-ltb (length out) reflectorBytes l) no-row))), handleFound)
 
 -- two bytes stored at the front
 pub two-stored : (out : List ℕ) (x y : ℕ) → 2 ≤ length out → set (set out 0 x) 1 y ≡ x ∷ y ∷ drop 2 out

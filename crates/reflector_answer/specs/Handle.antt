@@ -1,7 +1,7 @@
 -- What a call that handles a message hands back: the code's answer, the state and the output. "A refusal returns its number and nothing else",
 -- so what stands beside it is all zeros, and so it is where nothing is sent.
 -- Assumes nothing.
-use Prim.Native.Nat.{ℕ}
+use Prim.Native.Nat.{ℕ, _≤_}
 use mathlib.Core.Path.{_≡_}
 use mathlib.Core.List.{List, [], _∷_, _++_}
 use mathlib.Core.Bool.{true, false}
@@ -10,6 +10,7 @@ use lib.Dec.{ltb}
 use lib.ListN.{length, take, drop, replicate}
 use Rattle.error.specs.Number.{outputTooShort}
 use Rattle.error.specs.Outcome.{Outcome, refused, gives, _⇒_, firstCause}
+use Rattle.measurement.specs.Echo.{echoOf}
 use Rattle.measurement.specs.declared.IpVersion.the-variants.{V4}
 use Rattle.gtpu.specs.Message.{gtpuMsgGpdu}
 use Rattle.reflector_answer.specs.State.{stateCounted}
@@ -93,10 +94,18 @@ placed (gives (send message)) buffer = elim (message .payload) [ written bytes �
 abbrev pub Answers : Handled → List ℕ → Answer → List ℕ → Type 0
 Answers r after a before = (r ≡ handledOf a) × (after ≡ placed (a .outcome) before)
 
+-- The output has room for the echo of a payload, if there is one.
+abbrev pub EchoFits : List ℕ → List ℕ → Type 0
+EchoFits payload output = (bytes : List ℕ) → echoOf payload ≡ gives bytes → length bytes ≤ length output
+
+-- The least output: the code's REFLECTOR_BYTES, room for the longest answer, the echo of an IPv6 T-PDU.
+abbrev pub reflectorBytes : ℕ
+reflectorBytes = 72
+
 -- "It is judged 30, 31, 15 (output under 72 bytes), then by type." A refusal by these leaves all.
 unfoldable pub handleFound : ℕ → ℕ → MultiSessionReflectorConfig → ReflectorState → Option ReflectorSession → SocketAddr → GtpuMessage → List ℕ → List ℕ → Answer
 handleFound rows used config state session source message payload buffer =
-    elim (firstCause (tableCauses rows used (config .«max_sessions») ++ (ltb (length buffer) 72 ⇒ outputTooShort) ∷ []) (gives (tt {0}))) [
+    elim (firstCause (tableCauses rows used (config .«max_sessions») ++ (ltb (length buffer) reflectorBytes ⇒ outputTooShort) ∷ []) (gives (tt {0}))) [
       | refused number ↦ record { outcome = refused number; state = state }
       | gives u ↦ answer config state session source message payload
     ]

@@ -18,7 +18,7 @@ ghost use Rattle.reflector_sessions.specs.Judge.{sessionFound};
 ghost use Rattle.reflector_answer.specs.State.{counted, nextErrorSequence, stateCounted};
 ghost use Rattle.reflector_answer.specs.Answer.{errorIndicationBlock, errorIndicationTo, ignored, gpduKnown, gpduUnknown, echoRequest, otherMessage, answer};
 ghost use Rattle.reflector_answer.specs.Claims.{IndicationAccepted, EchoReadsBack};
-ghost use Rattle.reflector_answer.specs.Handle.{nothingSent, handledOf, forwarded, Answers, handleFound};
+ghost use Rattle.reflector_answer.specs.Handle.{nothingSent, handledOf, forwarded, Answers, EchoFits, reflectorBytes, handleFound};
 
 // Where the policy `Route` sends G-PDUs.
 pub struct RouteTarget {
@@ -258,7 +258,7 @@ fn error_indication(teid: u32, length: u8, address: [u8; 16]) -> [u8; 24]
 
 // Writes the payload of an Error Indication to the front of `out`.
 fn write_error_indication(teid: u32, peer: SocketAddr, out: &mut [u8]) -> usize
-    requires { ⌜ 72 ≤ length (now out) ⌝ }
+    requires { ⌜ 24 ≤ length (now out) ⌝ }
     ensures { λ r. ⌜ (r ≡ length (errorIndicationTo teid peer)) × (now (out .exit) ≡ errorIndicationTo teid peer ++ drop (length (errorIndicationTo teid peer)) (now (out .entry))) ⌝ }
 {
     let version = peer.version;
@@ -272,7 +272,7 @@ fn write_error_indication(teid: u32, peer: SocketAddr, out: &mut [u8]) -> usize
 
 // A G-PDU of an unknown TEID: an Error Indication to its sender.
 fn answer_unknown(state: ReflectorState, source: SocketAddr, teid: u32, out: &mut [u8]) -> Handled
-    requires { ⌜ 72 ≤ length (now out) ⌝ }
+    requires { ⌜ 24 ≤ length (now out) ⌝ }
     ensures { λ r. ⌜ Answers r (now (out .exit)) (gpduUnknown state source teid) (now (out .entry)) ⌝ }
 {
     let sequence = state.next_error_sequence;
@@ -323,7 +323,7 @@ fn answer_known(
     payload: &[u8],
     out: &mut [u8],
 ) -> Handled
-    requires { ⌜ 72 ≤ length (now out) ⌝ }
+    requires { ⌜ EchoFits (now payload) (now out) ⌝ }
     ensures { λ r. ⌜ Answers r (now (out .exit)) (gpduKnown config state session (now (payload .entry))) (now (out .entry)) ⌝ }
 {
     let received = state.counted(ReflectorCounter::GpduReceived);
@@ -367,7 +367,7 @@ fn answer_echo_request(
     message: GtpuMessage,
     out: &mut [u8],
 ) -> Handled
-    requires { ⌜ 72 ≤ length (now out) ⌝ }
+    requires { ⌜ 2 ≤ length (now out) ⌝ }
     ensures { λ r. ⌜ Answers r (now (out .exit)) (echoRequest config state source message) (now (out .entry)) ⌝ }
 {
     if message.teid != 0 {
@@ -428,7 +428,7 @@ fn answer_message(
     payload: &[u8],
     out: &mut [u8],
 ) -> Handled
-    requires { ⌜ 72 ≤ length (now out) ⌝ }
+    requires { ⌜ reflectorBytes ≤ length (now out) ⌝ }
     ensures { λ r. ⌜ Answers r (now (out .exit)) (answer config state (sessionFound used found) source message (now (payload .entry))) (now (out .entry)) ⌝ }
 {
     let message_type = message.message_type;

@@ -1,13 +1,16 @@
 -- `reflector_answer::answer_message` meets its contract.
 -- Assumes nothing.
+use native.Mathlib.Omega.{arith}
 use mathlib.Core.Path.{ap, _∙_}
-use Rattle.reflector_answer.proofs.Answers.{message-known, message-unknown, message-request, message-other, answers, other-leaves}
+use Rattle.reflector_answer.proofs.Answers.{echo-fits, message-known, message-unknown, message-request, message-other, answers, other-leaves}
 use borrow.Author.Needs.{needs}
 use Rattle.reflector_answer.proofs.answer_message.Statement.{statement}
 use Rattle.reflector_answer.proofs.answer_message.Tie as tie
 
 answer-known-requires : tie.Need-answer-known-requires
-answer-known-requires c κs = search needs
+answer-known-requires c κs =
+    let s = c .before .before .before .before .before .before in
+    echo-fits (s .args .payload .now) (s .args .out .now) (s .pre)
 
 same-length : tie.Need-same-length
 same-length c = search needs
@@ -21,10 +24,14 @@ returns c =
     answers (a .config) (a .state) (a .used) (a .found) (a .source) (a .message) (a .payload .now) (a .out .now) (met .answer-known .ensures) (message-known (a .config) (a .state) (a .used) (a .found) (a .source) (a .message) (a .payload .now) (a .out .now) (key .match .keys1) (here .if1 .taken))
 
 answer-unknown-requires : tie.Need-answer-unknown-requires
-answer-unknown-requires c κs = search needs
+answer-unknown-requires c κs =
+    let least = c .before .before .before .before .before .before .pre in
+    omega arith
 
 answer-echo-request-requires : tie.Need-answer-echo-request-requires
-answer-echo-request-requires c κs = search needs
+answer-echo-request-requires c κs =
+    let least = c .before .before .before .before .pre in
+    omega arith
 
 answer-other-requires : tie.Need-answer-other-requires
 answer-other-requires c κs = search needs
