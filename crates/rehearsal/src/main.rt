@@ -1,50 +1,209 @@
-// Rehearses a cutover in memory, as the arguments say; without any, the default one. README.md has the words.
-fn set(text: &mut [u8], at: usize, byte: u8) {
-    if at < text.len() {
-        text[at] = byte;
+// Rehearses a cutover in memory, as its words say; without any, the default one; by the word `-`, one for each line of standard input. Its last
+// line is `status N`, the exit status of the command `rehearse`, which runs it: 0 passed, 1 failed, 2 words not accepted, 3 no run.
+mod words;
+
+use evidence::PacketContinuityReport;
+use reflector_answer::ReflectorState;
+use verdict::Verdict;
+use report::Reported;
+use scenario::Scenario;
+ghost use mathlib.Core.Path.{_≡_};
+ghost use Prim.Native.Nat.{_≤_};
+ghost use lib.ListN.{length};
+ghost use Rattle.rehearsal.specs.Status.{statusOf};
+
+const PASSED: u64 = 0;
+
+const FAILED: u64 = 1;
+
+const NOT_ACCEPTED: u64 = 2;
+
+const NO_RUN: u64 = 3;
+
+// A column of the run sheet.
+fn column() -> [u64; 2048]
+    ensures { λ r. ⌜ 2048 ≡ length r ⌝ }
+{
+    [0; 2048]
+}
+
+fn byte_column(byte: u8) -> [u8; 2048]
+    ensures { λ r. ⌜ 2048 ≡ length r ⌝ }
+{
+    [byte; 2048]
+}
+
+// Prints a run in the format that the scenario asks for.
+fn print_run(
+    s: &Scenario,
+    r: PacketContinuityReport,
+    verdict: Verdict,
+    state: ReflectorState,
+    refusals: &[u64; 64],
+    sequences: &[u64],
+    send_timestamps: &[u64],
+    latencies: &[u64],
+    marks: &[u8],
+    fates: &[u8],
+) {
+    match scenario::first(s, scenario::FORMAT) {
+        scenario::JSON => rehearsal_records::print_json(
+            s,
+            r,
+            verdict,
+            state,
+            refusals,
+            sequences,
+            send_timestamps,
+            latencies,
+            marks,
+            fates,
+        ),
+        scenario::CSV => rehearsal_records::csv::print_sheet(
+            sequences,
+            send_timestamps,
+            latencies,
+            marks,
+            fates,
+        ),
+        _ => rehearsal_lines::print_rehearsal(s, r, verdict, state, fates, refusals),
     }
 }
 
-// Puts one argument and a space at a place of the text, and answers where the next one goes: not before the end, where there is no room.
-fn put(number: usize, text: &mut [u8], at: usize) -> usize {
-    if text.len() <= at {
-        return at;
-    }
-    let n = os::arg(number, &mut text[at..]);
-    if os::errno() != 0 {
-        return text.len();
-    }
-    let end = std::num::wrapping_add_usize(at, n);
-    set(text, end, b' ');
-    std::num::wrapping_add_usize(end, 1)
+// A run that the calls refused, as no words that are accepted make one.
+fn print_no_run(number: u8) -> u64 {
+    text::print_count(b"rehearse: the plan was refused by number ", number as u64);
+    text::print(b" of the card\n");
+    NO_RUN
 }
 
-// All arguments, each with a space after it: how many bytes, or no fewer than the text has, where they do not fit.
-fn put_all(text: &mut [u8]) -> usize {
-    let count = os::arg_count();
-    let mut at = 0;
-    let mut i = 1;
-    while i < count {
-        at = put(i, text, at);
-        i += 1;
+// The status of a verdict.
+fn status(verdict: Verdict) -> u64
+    ensures { λ r. ⌜ r ≡ statusOf verdict ⌝ }
+{
+    match verdict {
+        Verdict::Pass => PASSED,
+        Verdict::NothingReturned => FAILED,
+        Verdict::TooManyLost(_, _) => FAILED,
+        Verdict::TooManyInARow(_, _) => FAILED,
+        Verdict::OutageTooLong(_, _) => FAILED,
+        Verdict::ErrorIndicated(_) => FAILED,
     }
-    at
 }
 
-// Rehearses by the first bytes of the text, where the arguments fit.
-fn rehearse_first(text: &[u8], n: usize) {
-    if n < text.len() {
-        rehearsal_run::rehearse_words(&text[0..n]);
-        return;
-    }
-    io::write_all(
-        1,
-        b"rehearsal: not accepted: so many bytes of arguments; accepted: fewer than 4096, spaces between them included\n",
+// Rehearses a scenario, prints the run, and answers its status.
+fn rehearse(s: &Scenario) -> u64 {
+    let mut sequences = column();
+    let mut send_timestamps = column();
+    let mut latencies = column();
+    let mut marks = byte_column(0);
+    let mut fates = byte_column(probe_fate::LOST);
+    let mut refusals = [0; 64];
+    let run = rehearsal_run::rehearse(
+        s,
+        &mut sequences,
+        &mut send_timestamps,
+        &mut latencies,
+        &mut marks,
+        &mut fates,
+        &mut refusals,
     );
+    let reported = run.reported;
+    match reported {
+        Reported::Refused(number) => print_no_run(number),
+        Reported::Given(r) => {
+            let verdict = verdict::judge(r);
+            print_run(
+                s,
+                r,
+                verdict,
+                run.state,
+                &refusals,
+                &sequences,
+                &send_timestamps,
+                &latencies,
+                &marks,
+                text::part(&fates, 0, scenario::first(s, scenario::COUNT) as usize),
+            );
+            status(verdict)
+        }
+    }
+}
+
+// Rehearses what the words ask for, each with a separator after it, and answers the status.
+fn rehearse_words(words: &[u8], separator: u8) -> u64 {
+    if words.len() == 0 {
+        let s = scenario::default_cutover();
+        return rehearse(&s);
+    }
+    let mut s = scenario::quiet();
+    let judged = scenario_words::take_words(&mut s, words, separator);
+    if judged.reason == scenario_words::ACCEPTED {
+        return rehearse(&s);
+    }
+    scenario_lines::print_not_accepted(&s, judged, words);
+    NOT_ACCEPTED
+}
+
+fn print_status(status: u64) {
+    text::print_count(b"status ", status);
+    text::print(b"\n");
+}
+
+// One line of standard input: the words, what their run prints, and its status.
+fn rehearse_line(words: &[u8]) -> u64 {
+    text::print(b"$ rehearse ");
+    text::print_word(words, 4096);
+    text::print(b"\n");
+    let status = rehearse_words(words, b' ');
+    print_status(status);
+    text::print(b"\n");
+    status
+}
+
+// Each line of a text: the greatest status.
+fn rehearse_lines(lines: &[u8]) -> u64 {
+    let mut worst = PASSED;
+    let mut at = 0;
+    while at < lines.len() {
+        let end = text::find_from(lines, at, b'\n');
+        let status = rehearse_line(text::part(lines, at, end - at));
+        if worst < status {
+            worst = status;
+        }
+        if lines.len() <= end {
+            break;
+        }
+        at = end + 1;
+    }
+    worst
+}
+
+fn rehearse_input() -> u64 {
+    let mut text = io::large_buffer();
+    let n = io::read_full(0, &mut text);
+    rehearse_lines(&text[..n])
+}
+
+fn too_long() -> u64 {
+    text::print(b"rehearse: the words have more than 4000 bytes (see --help)\n");
+    NOT_ACCEPTED
+}
+
+// The words of the command line; `-` alone stands for standard input.
+fn rehearse_arguments(text: &[u8], n: usize) -> u64 {
+    if words::LIMIT <= n {
+        return too_long();
+    }
+    let given = text::part(text, 0, n);
+    if check::same(given, b"-\0") {
+        return rehearse_input();
+    }
+    rehearse_words(given, 0)
 }
 
 fn main() {
     let mut text = io::buffer();
-    let n = put_all(&mut text);
-    rehearse_first(&text, n);
+    let n = words::put_all(&mut text);
+    print_status(rehearse_arguments(&text, n));
 }

@@ -1,0 +1,46 @@
+// What became of a probe in a rehearsal, as a number, from the best to the worst.
+pub const RETURNED: u8 = 0;
+
+pub const DUPLICATE: u8 = 1;
+
+pub const OUT_OF_ORDER: u8 = 2;
+
+// Nothing came back: what every probe starts with.
+pub const LOST: u8 = 3;
+
+pub const ERROR_INDICATION: u8 = 4;
+
+// A return was refused: this and the card's number.
+const REFUSED: u8 = 64;
+
+// The fate of a probe whose return was refused by a number.
+pub fn refused(number: u8) -> u8 {
+    std::num::wrapping_add_u8(REFUSED, number)
+}
+
+// The number by which a return was refused, or 0.
+pub fn number_of(fate: u8) -> u8 {
+    if fate < REFUSED { 0 } else { fate - REFUSED }
+}
+
+// Notes what came back for a probe: the first return counts, and after it what is worse.
+fn note_fate(fates: &mut [u8], row: usize, fate: u8) {
+    if row < fates.len() {
+        if fates[row] == LOST || fates[row] < fate {
+            fates[row] = fate;
+        }
+    }
+}
+
+// One more refusal by a number; by none, 0, nothing.
+fn count_refusal(refusals: &mut [u64], number: usize) {
+    if 0 < number && number < refusals.len() {
+        refusals[number] = std::num::wrapping_add_u64(refusals[number], 1);
+    }
+}
+
+// Notes what came back for the probe of a row, and counts a refusal by its number.
+pub fn note(fates: &mut [u8], refusals: &mut [u64], row: usize, fate: u8) {
+    note_fate(fates, row, fate);
+    count_refusal(refusals, number_of(fate) as usize);
+}

@@ -1,0 +1,2 @@
+-- The rehearsal's status.
+pub mod Status

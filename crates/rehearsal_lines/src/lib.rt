@@ -1,0 +1,107 @@
+// A rehearsal in lines of at most 80 columns, the last of them the verdict.
+mod timeline;
+
+use evidence::PacketContinuityReport;
+use reflector_answer::ReflectorState;
+use verdict::Verdict;
+use scenario::Scenario;
+
+fn print_plan(s: &Scenario) {
+    text::print_count(b"plan:      IPv", scenario::first(s, scenario::IP));
+    text::print_count(b", ", scenario::first(s, scenario::COUNT));
+    text::print_count(b" probes, ", scenario::first(s, scenario::RATE));
+    text::print(b" each second\n");
+}
+
+fn microseconds(s: &Scenario, word: usize) -> u64 {
+    scenario::first(s, word) % 1_000_000_000_000 * 1_000
+}
+
+fn print_way(s: &Scenario) {
+    text::print(b"path:      there and back ");
+    text::print_milliseconds(microseconds(s, scenario::LATENCY_US));
+    if scenario::last(s, scenario::LOSE) > 0 {
+        text::print(b", after the loss ");
+        text::print_milliseconds(microseconds(s, scenario::LATENCY_AFTER_US));
+    }
+    text::print(b"\n");
+}
+
+// A window, where there is one.
+fn print_window(s: &Scenario, word: usize) {
+    let last = scenario::last(s, word);
+    if last == 0 {
+        return;
+    }
+    text::print(b"           ");
+    word_names::print_name(word);
+    text::print(b" ");
+    word_names::print_probes(scenario::first(s, word), last);
+    text::print(b"\n");
+}
+
+fn print_windows(s: &Scenario) {
+    let mut word = scenario::LOSE;
+    while word < scenario::WORDS {
+        print_window(s, word);
+        word += 1;
+    }
+}
+
+fn print_reflector(state: ReflectorState) {
+    let stats = state.stats;
+    text::print_count(b"reflector: received ", stats.gpdu_received);
+    text::print_count(b", echoed ", stats.gpdu_forwarded);
+    text::print_count(b", error indications ", stats.error_indications_sent);
+    text::print(b"\n");
+}
+
+// A number of the card, with its name and how often it came up.
+fn print_refusal(number: u8, times: u64) {
+    text::print_count(b"refused:   ", number as u64);
+    text::print(b" ");
+    card_name::print_name(number);
+    text::print_count(b", ", times);
+    if times == 1 {
+        return text::print(b" time\n");
+    }
+    text::print(b" times\n");
+}
+
+// Every number of the card that came up.
+fn print_refusals(refusals: &[u64; 64]) {
+    let mut any = false;
+    let mut number = 1;
+    while number < 64 {
+        let times = refusals[number as usize];
+        if times > 0 {
+            print_refusal(number, times);
+            any = true;
+        }
+        number += 1;
+    }
+    if !any {
+        text::print(b"refused:   none\n");
+    }
+}
+
+// All lines. `fates` has what became of each probe.
+pub fn print_rehearsal(
+    s: &Scenario,
+    r: PacketContinuityReport,
+    verdict: Verdict,
+    state: ReflectorState,
+    fates: &[u8],
+    refusals: &[u64; 64],
+) {
+    let budget = r.budget;
+    print_plan(s);
+    print_way(s);
+    print_windows(s);
+    report_lines::print_budget(budget);
+    report_lines::print_report(r);
+    print_reflector(state);
+    print_refusals(refusals);
+    timeline::print_rows(fates);
+    report_lines::print_verdict(verdict);
+}

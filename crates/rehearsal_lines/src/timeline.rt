@@ -1,0 +1,42 @@
+// What became of each probe, as the proved calls answered, in marks: rows of 50, the number of the first probe in front.
+ghost use Prim.Native.Nat.{_≤_};
+ghost use lib.ListN.{length};
+
+// The marks of a row.
+const WIDTH: usize = 50;
+
+fn print_mark(fate: u8) {
+    match fate {
+        probe_fate::RETURNED => text::print(b"."),
+        probe_fate::DUPLICATE => text::print(b"+"),
+        probe_fate::OUT_OF_ORDER => text::print(b"~"),
+        probe_fate::LOST => text::print(b"_"),
+        probe_fate::ERROR_INDICATION => text::print(b"E"),
+        _ => text::print(b"!"),
+    }
+}
+
+// What stands before a mark: at the front of a row, the number of its first probe.
+fn print_before(row: usize) {
+    if row % WIDTH != 0 {
+        return;
+    }
+    if row == 0 {
+        text::print(b"timeline:     1 ");
+        return;
+    }
+    text::print(b"\n           ");
+    text::print_in_four(std::num::wrapping_add_u64(row as u64, 1));
+    text::print(b" ");
+}
+
+pub fn print_rows(fates: &[u8]) {
+    let mut row = 0;
+    while row < fates.len() {
+        print_before(row);
+        print_mark(fates[row]);
+        row += 1;
+    }
+    text::print(b"\n           . returned  + duplicate  ~ out of order  ! refused\n");
+    text::print(b"           _ lost  E error indication; a mark for each probe\n");
+}

@@ -1,0 +1,42 @@
+// The run sheet in comma-separated values: a head line, and a line for each row.
+use crate::column;
+use crate::fate;
+
+fn print_row(sequence: u64, sent: u64, latency: u64, mark: u8, fate: u8) {
+    text::print_number(sequence);
+    text::print_count(b",", sent);
+    text::print_count(b",", mark as u64);
+    text::print(b",");
+    if mark != 0 {
+        text::print_number(latency);
+    }
+    text::print(b",");
+    fate::print_fate(fate);
+    text::print(b",");
+    let number = probe_fate::number_of(fate);
+    if number != 0 {
+        text::print_number(number as u64);
+    }
+    text::print(b"\n");
+}
+
+pub fn print_sheet(
+    sequences: &[u64],
+    send_timestamps: &[u64],
+    latencies: &[u64],
+    marks: &[u8],
+    fates: &[u8],
+) {
+    text::print(b"probe,sent_ns,returned,latency_ns,fate,refused\n");
+    let mut row = 0;
+    while row < fates.len() {
+        print_row(
+            column::number_at(sequences, row),
+            column::number_at(send_timestamps, row),
+            column::number_at(latencies, row),
+            column::byte_at(marks, row),
+            fates[row],
+        );
+        row += 1;
+    }
+}

@@ -1,0 +1,162 @@
+// A rehearsal as records that a program reads: one JSON object (RFC 8259), or a line of comma-separated values for each row of the run sheet.
+mod column;
+pub mod csv;
+mod fate;
+
+use evidence::PacketContinuityReport;
+use reflector_answer::ReflectorState;
+use verdict::Verdict;
+use scenario::Scenario;
+
+fn print_word_number(name: &[u8], s: &Scenario, word: usize) {
+    text::print_count(name, scenario::first(s, word));
+}
+
+fn print_plan(s: &Scenario, window_start_ns: u64) {
+    print_word_number(b"{\n\"plan\": {\"ip\": ", s, scenario::IP);
+    print_word_number(b", \"count\": ", s, scenario::COUNT);
+    print_word_number(b", \"rate\": ", s, scenario::RATE);
+    text::print_count(b",\n  \"first_send_timestamp_ns\": ", window_start_ns);
+    text::print(b"},\n");
+}
+
+// A window: null, or its first and its last probe.
+fn print_window(s: &Scenario, word: usize) {
+    text::print(b",\n  \"");
+    word_names::print_name(word);
+    let last = scenario::last(s, word);
+    if last == 0 {
+        return text::print(b"\": null");
+    }
+    text::print_count(b"\": [", scenario::first(s, word));
+    text::print_count(b", ", last);
+    text::print(b"]");
+}
+
+// What the path does, by the words.
+fn print_path(s: &Scenario) {
+    print_word_number(b"\"path\": {\n  \"latency-us\": ", s, scenario::LATENCY_US);
+    print_word_number(b", \"latency-after-us\": ", s, scenario::LATENCY_AFTER_US);
+    let mut word = scenario::LOSE;
+    while word < scenario::WORDS {
+        print_window(s, word);
+        word += 1;
+    }
+    text::print(b"},\n");
+}
+
+fn print_reflector(state: ReflectorState) {
+    let stats = state.stats;
+    text::print_count(b"\"reflector\": {\"received\": ", stats.gpdu_received);
+    text::print_count(b", \"echoed\": ", stats.gpdu_forwarded);
+    text::print_count(
+        b",\n  \"error_indications\": ",
+        stats.error_indications_sent,
+    );
+    text::print(b"},\n");
+}
+
+// A number of the card that came up.
+fn print_refusal(number: u8, times: u64) {
+    text::print_count(b"  {\"number\": ", number as u64);
+    text::print(b", \"name\": \"");
+    card_name::print_name(number);
+    text::print_count(b"\",\n    \"times\": ", times);
+    text::print(b"}");
+}
+
+// Between two entries of a list.
+fn print_between(any: bool) {
+    if any {
+        return text::print(b",\n");
+    }
+    text::print(b"\n")
+}
+
+fn print_refusals(refusals: &[u64; 64]) {
+    text::print(b"\"refused\": [");
+    let mut any = false;
+    let mut number = 1;
+    while number < 64 {
+        let times = refusals[number as usize];
+        if times > 0 {
+            print_between(any);
+            print_refusal(number, times);
+            any = true;
+        }
+        number += 1;
+    }
+    text::print(b"],\n");
+}
+
+// A latency, or null where the probe did not return.
+fn print_latency_of(mark: u8, latency: u64) {
+    if mark == 0 {
+        return text::print(b"null");
+    }
+    text::print_number(latency)
+}
+
+fn print_probe(sequence: u64, sent: u64, latency: u64, mark: u8, fate: u8) {
+    text::print_count(b"  {\"probe\": ", sequence);
+    text::print_count(b", \"sent_ns\": ", sent);
+    text::print(b", \"latency_ns\": ");
+    print_latency_of(mark, latency);
+    text::print(b",\n    \"fate\": \"");
+    fate::print_fate(fate);
+    text::print(b"\", \"refused\": ");
+    let number = probe_fate::number_of(fate);
+    if number == 0 {
+        return text::print(b"null}");
+    }
+    text::print_number(number as u64);
+    text::print(b"}");
+}
+
+// An entry for each row of the sheet.
+fn print_probes(
+    sequences: &[u64],
+    send_timestamps: &[u64],
+    latencies: &[u64],
+    marks: &[u8],
+    fates: &[u8],
+) {
+    text::print(b"\"probes\": [");
+    let mut row = 0;
+    while row < fates.len() {
+        print_between(row > 0);
+        print_probe(
+            column::number_at(sequences, row),
+            column::number_at(send_timestamps, row),
+            column::number_at(latencies, row),
+            column::byte_at(marks, row),
+            fates[row],
+        );
+        row += 1;
+    }
+    text::print(b"]\n}\n");
+}
+
+// The object.
+pub fn print_json(
+    s: &Scenario,
+    r: PacketContinuityReport,
+    verdict: Verdict,
+    state: ReflectorState,
+    refusals: &[u64; 64],
+    sequences: &[u64],
+    send_timestamps: &[u64],
+    latencies: &[u64],
+    marks: &[u8],
+    fates: &[u8],
+) {
+    let budget = r.budget;
+    print_plan(s, r.window_start_ns);
+    print_path(s);
+    report_json::print_budget(budget);
+    report_json::print_report(r);
+    report_json::print_verdict(verdict);
+    print_reflector(state);
+    print_refusals(refusals);
+    print_probes(sequences, send_timestamps, latencies, marks, fates);
+}
