@@ -4,9 +4,9 @@ mod words;
 
 use evidence::PacketContinuityReport;
 use reflector_answer::ReflectorState;
-use verdict::Verdict;
 use report::Reported;
 use scenario::Scenario;
+use verdict::Verdict;
 ghost use mathlib.Core.Path.{_≡_};
 ghost use Prim.Native.Nat.{_≤_};
 ghost use lib.ListN.{length};

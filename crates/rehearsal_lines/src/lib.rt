@@ -3,8 +3,8 @@ mod timeline;
 
 use evidence::PacketContinuityReport;
 use reflector_answer::ReflectorState;
-use verdict::Verdict;
 use scenario::Scenario;
+use verdict::Verdict;
 
 fn print_plan(s: &Scenario) {
     text::print_count(b"plan:      IPv", scenario::first(s, scenario::IP));

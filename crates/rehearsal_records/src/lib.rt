@@ -5,8 +5,8 @@ mod fate;
 
 use evidence::PacketContinuityReport;
 use reflector_answer::ReflectorState;
-use verdict::Verdict;
 use scenario::Scenario;
+use verdict::Verdict;
 
 fn print_word_number(name: &[u8], s: &Scenario, word: usize) {
     text::print_count(name, scenario::first(s, word));
