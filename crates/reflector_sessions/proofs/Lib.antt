@@ -7,4 +7,5 @@ pub mod Calls
 pub mod Means
 pub mod Memory
 pub mod Finds
+pub mod Changes
 pub mod Claims
