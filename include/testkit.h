@@ -61,10 +61,10 @@
  * Time. Every call ends; none waits. How long it takes, up to a constant:
  *   - checksums, reading, echo and the walk over elements: the bytes that they are lent, or fewer;
  *   - testkit_generate: the bytes that it writes;
- *   - each call on a run sheet scans all used rows for TESTKIT_MALFORMED_OBSERVER (21), up to 2,048 (a list of returns
- *     twice, whatever its length). Then a row is found by halving. A new sequence moves every row above it by one:
- *     nothing where sequences rise, all rows where they fall. A first return looks through the marks above its row. So
- *     a plan takes one scan and a list two, and each packet the rest; single calls take a scan each;
+ *   - each call on a run sheet scans all used rows for TESTKIT_MALFORMED_OBSERVER (21) once, up to 2,048. Then a row is
+ *     found by halving. A new sequence moves every row above it by one: nothing where sequences rise, all rows where
+ *     they fall. A first return looks through the marks above its row. So a plan or a list takes one scan, and each of
+ *     its packets the rest; single calls take a scan each;
  *   - each call on a session table searches the used rows one after the other, up to 4,096, whatever the message is;
  *   - the report: the used rows. The verdict and the version: nothing that grows.
  * Times that are handed in are in nanoseconds since whatever moment the caller chose.
@@ -441,7 +441,7 @@ struct testkit_continuity_report {
     bool packet_continuity_proven; /* lost, longest run and longest time within budget, and no Error Indication */
 };
 
-/* What a report comes to: pass, or the first reason against it. */
+/* The verdict on a report: pass, or the first reason against it. */
 enum testkit_verdict_reason {
     TESTKIT_VERDICT_PASS = 0,
     TESTKIT_VERDICT_NOTHING_RETURNED = 1,
@@ -485,7 +485,7 @@ static inline struct testkit_continuity_report testkit_sheet_report(
     const struct testkit_sheet *sheet, uint64_t window_start_ns, uint64_t window_end_ns, struct testkit_budget budget);
 
 /*
- * What a report comes to under a budget, which need not be the one that it was made with: the first of
+ * The verdict on a report under a budget, which need not be the one that it was made with: the first of
  * TESTKIT_VERDICT_NO_REPORT, NOTHING_RETURNED, TOO_MANY_LOST, TOO_MANY_IN_A_ROW, OUTAGE_TOO_LONG and ERROR_INDICATED
  * that holds of its figures, or TESTKIT_VERDICT_PASS. The report's own budget, forwarding_proven and
  * packet_continuity_proven are not looked at. Beside TOO_MANY_LOST, TOO_MANY_IN_A_ROW and OUTAGE_TOO_LONG stand the

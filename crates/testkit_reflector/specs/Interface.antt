@@ -70,6 +70,12 @@ RemovesNumbers r rows to = (r ≡ removedNumbers (to .outcome) (to .table .used)
 unfoldable pub policyNumbered : ℕ → ReflectorPolicy
 policyNumbered n = elim (eqb n 0) [ true ↦ Echo | false ↦ elim (eqb n 1) [ true ↦ SinkAndCount | false ↦ Route ] ]
 
+-- The number of a policy, in the header's enum.
+abbrev pub policyNumber : ReflectorPolicy → ℕ
+policyNumber Echo = 0
+policyNumber SinkAndCount = 1
+policyNumber Route = 2
+
 -- A message has no sequence where the number beside it is 0.
 unfoldable pub sequenceOf : ℕ → ℕ → SequenceNumber
 sequenceOf has sequence = elim (eqb has 0) [ true ↦ Absent | false ↦ Present sequence ]

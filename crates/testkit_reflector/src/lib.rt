@@ -25,7 +25,7 @@ ghost use Rattle.reflector_sessions.specs.Table.{tableOf};
 ghost use Rattle.reflector_sessions.specs.Register.{registerSession, registrationMeans};
 ghost use Rattle.reflector_sessions.specs.Remove.{removeSession, removalMeans};
 ghost use Rattle.reflector.specs.Handle.{handleDatagram};
-ghost use Rattle.testkit_reflector.specs.Interface.{registeredNumbers, RegistersNumbers, removedNumbers, RemovesNumbers, policyNumbered, sequenceOf, configOf, stateOf, messageOf, argumentsOf, noopNumber, sendNumber, actionNumbers, sequenceNumbers, addressNumbers, messageNumbers, stateNumbers, handledNumbers, AnswersNumbers};
+ghost use Rattle.testkit_reflector.specs.Interface.{registeredNumbers, RegistersNumbers, removedNumbers, RemovesNumbers, policyNumbered, policyNumber, sequenceOf, configOf, stateOf, messageOf, argumentsOf, noopNumber, sendNumber, actionNumbers, sequenceNumbers, addressNumbers, messageNumbers, stateNumbers, handledNumbers, AnswersNumbers};
 ghost use Rattle.reflector_sessions.specs.Session.{valueOf};
 
 // What registering answers: 0 and whether the session was added, or a refusal's number; and the used count that it
@@ -239,7 +239,7 @@ fn policy_of(policy: u8) -> ReflectorPolicy
 
 // The number of a policy, which is read back as that policy.
 pub fn policy_number(policy: ReflectorPolicy) -> u8
-    ensures { λ r. ⌜ policyNumbered r ≡ policy ⌝ }
+    ensures { λ r. ⌜ (r ≡ policyNumber policy) × (policyNumbered r ≡ policy) ⌝ }
 {
     match policy {
         ReflectorPolicy::Echo => POLICY_ECHO,
