@@ -3,7 +3,7 @@ use Prim.Native.Nat.{ℕ}
 use Rattle.verdict.specs.declared.Verdict.{Verdict}
 use Rattle.verdict.specs.declared.Verdict.the-variants.{Pass, NothingReturned, TooManyLost, TooManyInARow, OutageTooLong, ErrorIndicated}
 
-unfoldable pub statusOf : Verdict → ℕ
+abbrev pub statusOf : Verdict → ℕ
 statusOf Pass = 0
 statusOf NothingReturned = 1
 statusOf (TooManyLost n most) = 1

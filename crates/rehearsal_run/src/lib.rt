@@ -1,16 +1,12 @@
 // A rehearsal of a cutover in memory: a plan's probes go through the reflector and back over a path that does what the scenario says, and what
 // came back is recorded in the order of arrival. Thin: packets, echoes, the run sheet and the report are the proved calls'; what is proved here
 // is that it is safe and ends.
-use continuity::GtpuReturnDatagramOutcome;
-use continuity::MessageRecorded;
-use continuity::ReturnRecording;
 use evidence::PacketContinuityBudget;
 use measurement::Written;
 use observer::ObserverCounts;
 use observer::Recording;
 use plan::TrafficPlan;
-use reflector_answer::Handled;
-use reflector_answer::ReflectorAction;
+use probe_delivery::Progress;
 use reflector_answer::ReflectorState;
 use report::Reported;
 use scenario::Scenario;
@@ -19,12 +15,6 @@ ghost use lib.ListN.{length};
 
 // The first probe is sent at 1 s, so that a return can be early.
 const FIRST_SEND_NS: u64 = 1_000_000_000;
-
-// What changes from return to return, beside the columns.
-struct Progress {
-    counts: ObserverCounts,
-    state: ReflectorState,
-}
 
 // Room for the packets of the largest plan.
 fn room() -> [u8; 147456]
@@ -49,15 +39,6 @@ fn fresh() -> ObserverCounts {
     }
 }
 
-// 4 or 6.
-fn ip(s: &Scenario) -> u8 {
-    if scenario::first(s, scenario::IP) == 4 {
-        4
-    } else {
-        6
-    }
-}
-
 fn plan_of(s: &Scenario) -> TrafficPlan {
     TrafficPlan {
         packet_count: scenario::first(s, scenario::COUNT),
@@ -73,100 +54,6 @@ fn budget_of(s: &Scenario) -> PacketContinuityBudget {
         max_consecutive_lost_packets: scenario::first(s, scenario::MAX_RUN),
         outage_budget_ns: outage_ms * 1_000_000,
     }
-}
-
-// What became of a return, by the answer and by the counter that rose.
-fn fate(before: ObserverCounts, recorded: MessageRecorded) -> u8 {
-    let answer = recorded.answer;
-    let after = recorded.counts;
-    match answer {
-        ReturnRecording::Refused(number) => probe_fate::refused(number),
-        ReturnRecording::Accepted(kind) => match kind {
-            GtpuReturnDatagramOutcome::ErrorIndication => probe_fate::ERROR_INDICATION,
-            _ => {
-                if before.duplicate_packets < after.duplicate_packets {
-                    return probe_fate::DUPLICATE;
-                }
-                if before.out_of_order_packets < after.out_of_order_packets {
-                    return probe_fate::OUT_OF_ORDER;
-                }
-                probe_fate::RETURNED
-            }
-        },
-    }
-}
-
-// How many bytes the reflector sends.
-fn sent_length(action: ReflectorAction) -> usize {
-    match action {
-        ReflectorAction::Send(_, n) => n,
-        _ => 0,
-    }
-}
-
-// The packet of a probe: 52 or 72 bytes, end to end.
-fn packet_of(ip: u8, packets: &[u8], probe: u64) -> &[u8] {
-    let k = rehearsal_path::row(probe);
-    if 2048 <= k {
-        return text::part(packets, 0, 0);
-    }
-    if ip == 4 {
-        return text::part(packets, k * 52, 52);
-    }
-    text::part(packets, k * 72, 72)
-}
-
-fn first_bytes(out: &[u8; 72], length: usize) -> &[u8] {
-    text::part(out, 0, length)
-}
-
-// A probe reaches the reflector, and what it sends comes back at a time and is recorded.
-fn deliver(
-    s: &Scenario,
-    probe: u64,
-    time: u64,
-    run: Progress,
-    packets: &[u8],
-    sequences: &[u64],
-    send_timestamps: &[u64],
-    latencies: &mut [u64],
-    marks: &mut [u8],
-    fates: &mut [u8],
-    refusals: &mut [u64],
-) -> Progress {
-    let mut out = [0u8; 72];
-    let before = run.counts;
-    let packet = packet_of(ip(s), packets, probe);
-    let known = !rehearsal_path::is_indicated(s, probe);
-    let handled = rehearsal_reflector::reflect(ip(s), known, run.state, packet, &mut out);
-    let action = handled.action;
-    let message = handled.message;
-    let length = return_damage::length_back(s, probe, sent_length(action));
-    return_damage::damage(s, probe, &mut out);
-    let recorded = continuity::record_return_gtpu_datagram(
-        sequences,
-        send_timestamps,
-        latencies,
-        marks,
-        before,
-        time,
-        message.message_type,
-        first_bytes(&out, length),
-    );
-    probe_fate::note(
-        fates,
-        refusals,
-        rehearsal_path::row(probe),
-        fate(before, recorded),
-    );
-    after(handled, recorded)
-}
-
-// What stands after a return.
-fn after(handled: Handled, recorded: MessageRecorded) -> Progress {
-    let counts = recorded.counts;
-    let state = handled.state;
-    Progress { counts, state }
 }
 
 // The key in a place of the order.
@@ -193,7 +80,7 @@ fn deliver_all(
     while i < returns {
         let key = key_at(order, i);
         i += 1;
-        run = deliver(
+        run = probe_delivery::deliver(
             s,
             rehearsal_path::probe_of(return_order::number_of(key)),
             return_order::time_of(key),
@@ -250,7 +137,7 @@ fn generate(s: &Scenario, out: &mut [u8]) -> Written {
     let mut next_sequence = 1;
     traffic::generate_from(
         &mut next_sequence,
-        rehearsal_reflector::flow(ip(s)),
+        rehearsal_reflector::flow(probe_delivery::ip(s)),
         plan_of(s),
         out,
     )

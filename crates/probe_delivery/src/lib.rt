@@ -1,0 +1,118 @@
+// One probe through the reflector and back: what it sends is damaged as the scenario says, recorded on the run sheet by the proved call, and noted.
+use continuity::GtpuReturnDatagramOutcome;
+use continuity::MessageRecorded;
+use continuity::ReturnRecording;
+use observer::ObserverCounts;
+use reflector_answer::Handled;
+use reflector_answer::ReflectorAction;
+use reflector_answer::ReflectorState;
+use scenario::Scenario;
+
+// What changes from return to return, beside the columns.
+pub struct Progress {
+    pub counts: ObserverCounts,
+    pub state: ReflectorState,
+}
+
+// 4 or 6.
+pub fn ip(s: &Scenario) -> u8 {
+    if scenario::first(s, scenario::IP) == 4 {
+        4
+    } else {
+        6
+    }
+}
+
+// What became of a return, by the answer and by the counter that rose.
+fn fate(before: ObserverCounts, recorded: MessageRecorded) -> u8 {
+    let answer = recorded.answer;
+    let after = recorded.counts;
+    match answer {
+        ReturnRecording::Refused(number) => probe_fate::refused(number),
+        ReturnRecording::Accepted(kind) => match kind {
+            GtpuReturnDatagramOutcome::ErrorIndication => probe_fate::ERROR_INDICATION,
+            _ => {
+                if before.duplicate_packets < after.duplicate_packets {
+                    return probe_fate::DUPLICATE;
+                }
+                if before.out_of_order_packets < after.out_of_order_packets {
+                    return probe_fate::OUT_OF_ORDER;
+                }
+                probe_fate::RETURNED
+            }
+        },
+    }
+}
+
+// How many bytes the reflector sends.
+fn sent_length(action: ReflectorAction) -> usize {
+    match action {
+        ReflectorAction::Send(_, n) => n,
+        _ => 0,
+    }
+}
+
+// The packet of a probe: 52 or 72 bytes, end to end.
+fn packet_of(ip: u8, packets: &[u8], probe: u64) -> &[u8] {
+    let k = rehearsal_path::row(probe);
+    if 2048 <= k {
+        return text::part(packets, 0, 0);
+    }
+    if ip == 4 {
+        return text::part(packets, k * 52, 52);
+    }
+    text::part(packets, k * 72, 72)
+}
+
+fn first_bytes(out: &[u8; 72], length: usize) -> &[u8] {
+    text::part(out, 0, length)
+}
+
+// What stands after a return.
+fn after(handled: Handled, recorded: MessageRecorded) -> Progress {
+    let counts = recorded.counts;
+    let state = handled.state;
+    Progress { counts, state }
+}
+
+// A probe reaches the reflector, and what it sends comes back at a time and is recorded.
+pub fn deliver(
+    s: &Scenario,
+    probe: u64,
+    time: u64,
+    run: Progress,
+    packets: &[u8],
+    sequences: &[u64],
+    send_timestamps: &[u64],
+    latencies: &mut [u64],
+    marks: &mut [u8],
+    fates: &mut [u8],
+    refusals: &mut [u64],
+) -> Progress {
+    let mut out = [0u8; 72];
+    let before = run.counts;
+    let packet = packet_of(ip(s), packets, probe);
+    let known = !rehearsal_path::is_indicated(s, probe);
+    let handled = rehearsal_reflector::reflect(ip(s), known, run.state, packet, &mut out);
+    let action = handled.action;
+    let message = handled.message;
+    let length = return_damage::length_back(s, probe, sent_length(action));
+    return_damage::damage(s, probe, &mut out);
+    let recorded = continuity::record_return_gtpu_datagram(
+        sequences,
+        send_timestamps,
+        latencies,
+        marks,
+        before,
+        time,
+        message.message_type,
+        first_bytes(&out, length),
+    );
+    probe_fate::note(
+        fates,
+        refusals,
+        rehearsal_path::row(probe),
+        fate(before, recorded),
+    );
+    after(handled, recorded)
+}
