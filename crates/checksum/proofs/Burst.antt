@@ -1,7 +1,6 @@
 -- The checksum finds every burst: bits turned within one span of at most 16 neighbouring bits.
 -- The bytes are read as one number, in base 2. As 2 ^ 16 is 1 modulo 65535, the sum of the words is that number (with a zero byte behind
 -- it, if the count of bytes is odd), and as 2 has an inverse there, equal sums have equal spans.
--- Assumes nothing.
 use Prim.Native.Nat.{ℕ, zero, suc, _+_, _-_, _*_, _/_, _%_, _^_, _<_, _≤_}
 use native.Mathlib.Omega.{arith}
 use native.Mathlib.Nat.{pow-suc}
@@ -50,7 +49,7 @@ missing (suc (suc n)) = missing n
 sixteen : (n m : ℕ) → 8 * suc (suc n) + m ≡ 16 + (8 * n + m)
 sixteen n m = omega arith
 
--- so many bits are whole words, and a power of 2 ^ 16 is 1
+-- these bits are whole words, and a power of 2 ^ 16 is 1
 whole : (n : ℕ) → Same (2 ^ (8 * n + missing n)) 1
 unfolding missing
 whole zero = record { left = 0; right = 0; eq = refl }

@@ -1,5 +1,4 @@
 -- What `foldOf n` is: below 2 ^ 16, 0 only at 0, and less than `n` by a multiple of 65535. No other number is so.
--- Assumes nothing.
 use Prim.Native.Nat.{ℕ, zero, suc, _+_, _-_, _*_, _/_, _%_, _<_, _≤_}
 use native.Mathlib.Omega.{arith}
 use native.Mathlib.Decide.{decLt}

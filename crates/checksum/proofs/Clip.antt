@@ -1,5 +1,4 @@
 -- Damage to the whole is damage to each part: `Turned` is kept by `take` and by `drop`, and by equal bytes put in front or behind.
--- Assumes nothing.
 use Prim.Native.Nat.{ℕ, zero, suc, _+_, _-_, _*_, _<_, _≤_, min}
 use native.Mathlib.Omega.{arith}
 use native.Mathlib.Nat.{zero-sub, sub-zero, suc-sub-suc}

@@ -1,5 +1,4 @@
 -- What is claimed of the checksum. proofs/Claims.antt proves each claim, for a list of bytes of every length.
--- Assumes nothing.
 use Prim.Native.Nat.{ℕ, _+_, _-_, _/_, _%_, _≤_}
 use mathlib.Core.Path.{_≡_}
 use mathlib.Core.List.{List, [], _∷_, _++_}

@@ -1,6 +1,5 @@
 -- Damage as demand 3 has it: bits turn "within one span of at most 16 neighbouring bits .., length kept, and the span not 16 equal bits
 -- all turned".
--- Assumes nothing.
 use Prim.Native.Nat.{ℕ, zero, suc, _+_, _/_, _%_, _≤_}
 use mathlib.Core.Path.{_≡_}
 use mathlib.Core.List.{List, [], _∷_, _++_}
@@ -13,7 +12,7 @@ unfoldable pub isOne : ℕ → Bool
 isOne zero = false
 isOne (suc n) = true
 
--- The low bits of a number, so many, the most significant first.
+-- The low `k` bits of a number, the most significant first.
 unfoldable pub lowBits : ℕ → ℕ → List Bool
 lowBits zero n = []
 lowBits (suc k) n = lowBits k (n / 2) ++ (isOne (n % 2) ∷ [])

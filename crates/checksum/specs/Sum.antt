@@ -1,5 +1,4 @@
 -- The Internet checksum: RFC 1071, section 1, and document 01, leaf 2.
--- Assumes nothing.
 use Prim.Native.Nat.{ℕ, zero, suc, _+_, _-_, _*_, _/_, _%_}
 use mathlib.Core.List.{List, [], _∷_}
 use mathlib.Core.Bool.{Bool, true, false}
@@ -12,7 +11,7 @@ sumOf [] = 0
 sumOf (a ∷ []) = a * 256
 sumOf (a ∷ b ∷ l) = a * 256 + b + sumOf l
 
--- Carries, what stands above the low 16 bits, are added to the low 16 bits, at most so many times.
+-- Carries, what stands above the low 16 bits, are added to the low 16 bits, at most `times` times.
 unfoldable pub folding : ℕ → ℕ → ℕ
 folding zero n = n
 folding (suc times) n = elim (ltb n 65536) [ true ↦ n | false ↦ folding times (n / 65536 + n % 65536) ]

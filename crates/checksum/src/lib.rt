@@ -17,7 +17,7 @@ pub fn fold(sum: u32) -> u16
     twice as u16
 }
 
-// The same of a sum in 64 bits.
+// The same fold, of a sum in 64 bits.
 pub fn fold_u64(sum: u64) -> u16
     ensures { λ r. ⌜ r ≡ foldOf sum ⌝ }
 {
@@ -56,7 +56,7 @@ fn sum_tail(bytes: &[u8]) -> u64
     first + sum_last(&bytes[4..])
 }
 
-// The same of a block, eight bytes a turn.
+// The sum of a block, eight bytes a turn.
 fn sum_block(bytes: &[u8]) -> u64
     requires { ⌜ length (now bytes) ≤ 65536 ⌝ }
     ensures { λ r. ⌜ (foldOf r ≡ foldOf (sumOf (now (bytes .entry)))) × (r < 2 ^ 47) ⌝ }

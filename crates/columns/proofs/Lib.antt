@@ -1,4 +1,4 @@
--- The laws that the proofs of the loops rest on, and what they come to on columns that rise.
+-- The laws that the proofs of the loops rest on, and what they are on columns that rise.
 pub mod Gathering
 pub mod Search
 pub mod Insertion

@@ -24,7 +24,7 @@ recordReceivedTpdu o time tpdu = afterReading o (sequenceRead tpdu) (recordRetur
 abbrev pub recordElements : Observer → List ℕ → Step
 recordElements o elements = afterReading o (elementsOf elements) (λ accepted. recordErrorIndication o)
 
--- What a message comes to: what it was, or a refusal; and the observer as it leaves it.
+-- A message recorded: what it was, or a refusal; and the observer as it leaves it.
 pub record MessageStep : Type 0 where
   pub outcome : Outcome GtpuReturnDatagramOutcome
   pub observer : Observer

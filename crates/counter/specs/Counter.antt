@@ -1,5 +1,4 @@
 -- Document 01, leaf 6: "counters .., which saturate"; leaf 9: "The counts saturate."
--- Assumes nothing.
 use Prim.Native.Nat.{ℕ, _+_, min}
 
 -- One more, and no more than the top of a u64.

@@ -1,5 +1,4 @@
 -- The first cause that holds: which row it is, or that none holds; forwards from the tests, and backwards from the outcome.
--- Assumes nothing.
 use Prim.Native.Nat.{ℕ, _<_}
 use mathlib.Core.Path.{_≡_, refl, sym, _∙_}
 use mathlib.Core.List.{List, [], _∷_, _++_}

@@ -1,5 +1,4 @@
 -- The tests of rows: of "or" and "and", and of numbers that differ or do not.
--- Assumes nothing.
 use Prim.Native.Nat.{ℕ}
 use mathlib.Core.Path.{_≡_, refl}
 use mathlib.Core.Bool.{Bool, true, false, not, _||_, _&&_}

@@ -1,6 +1,5 @@
 -- The causes of refusal and their numbers: document 01's card, row by row, in its words.
 -- "Added" is the card's own mark: the Rust has no such refusal.
--- Assumes nothing.
 use Prim.Native.Nat.{ℕ}
 use mathlib.Core.List.{List, [], _∷_}
 

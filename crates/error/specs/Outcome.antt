@@ -1,5 +1,4 @@
--- What a call comes to, and the rule by which document 01 orders its refusals.
--- Assumes nothing.
+-- The outcome of a call, and the rule by which document 01 orders its refusals.
 use Prim.Native.Nat.{ℕ}
 use mathlib.Core.List.{List, [], _∷_}
 use mathlib.Core.Bool.{Bool, true, false}

@@ -1,5 +1,4 @@
 -- Document 01, leaf 1: "the budget (lost, longest run, outage in ns)".
--- Assumes nothing.
 use Rattle.evidence.specs.declared.PacketContinuityBudget.{PacketContinuityBudget}
 
 -- the budget of a run that may lose nothing

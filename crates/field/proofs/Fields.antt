@@ -1,5 +1,4 @@
 -- The laws of big-endian fields: what is written is read back, what is read is written back, and a field of a part is a field of the whole.
--- Assumes nothing.
 use Prim.Native.Nat.{ℕ, zero, suc, _+_, _-_, _*_, _/_, _%_, _^_, _<_, _≤_}
 use native.Mathlib.Omega.{arith}
 use native.Mathlib.Decide.{decLt}

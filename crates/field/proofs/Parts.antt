@@ -1,5 +1,4 @@
 -- A buffer that is written one part after the other: what stands at its front grows, and what lies past it is as it was.
--- Assumes nothing.
 use Prim.Native.Nat.{ℕ, _+_, _-_, _≤_}
 use native.Mathlib.Omega.{arith}
 use mathlib.Core.Path.{_≡_, refl, sym, ap, ap₂, _∙_}

@@ -1,5 +1,4 @@
 -- Fields of a packet: numbers in bytes. Document 01: "Integers in packets are big-endian."
--- Assumes nothing.
 use Prim.Native.Nat.{ℕ, zero, suc, _+_, _*_, _/_, _%_, _^_, _<_}
 use mathlib.Core.List.{List, [], _∷_}
 use mathlib.Core.Bool.{Bool, true, false, _&&_}
@@ -18,7 +17,7 @@ sameBytes [] (y ∷ ys) = false
 sameBytes (x ∷ xs) [] = false
 sameBytes (x ∷ xs) (y ∷ ys) = eqb x y && sameBytes xs ys
 
--- A number in a field of so many bytes, the most significant first.
+-- A number in a field of `width` bytes, the most significant first.
 abbrev pub bigEndian : ℕ → ℕ → List ℕ
 bigEndian zero x = []
 bigEndian (suc width) x = x / 256 ^ width % 256 ∷ bigEndian width x
@@ -28,11 +27,11 @@ abbrev pub number : List ℕ → ℕ
 number [] = 0
 number (b ∷ l) = b * 256 ^ length l + number l
 
--- The bytes from a place on, so many. Past the end they read 0; no definition of a packet looks there before its length is judged.
+-- `width` bytes from a place on. Past the end they read 0; no definition of a packet looks there before its length is judged.
 abbrev pub bytesAt : ℕ → ℕ → List ℕ → List ℕ
 bytesAt zero at l = []
 bytesAt (suc width) at l = getD l at 0 ∷ bytesAt width (suc at) l
 
--- The number in the field of so many bytes at a place.
+-- The number in the field of `width` bytes at a place.
 abbrev pub field : ℕ → ℕ → List ℕ → ℕ
 field width at l = number (bytesAt width at l)

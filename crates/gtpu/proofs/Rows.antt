@@ -1,5 +1,4 @@
 -- One element's rows: for each way out of its judging, which row holds, or that none does.
--- Assumes nothing.
 use Prim.Native.Nat.{ℕ, _+_, _<_, _≤_}
 use native.Mathlib.Omega.{arith}
 use mathlib.Core.Path.{_≡_, sym, ap, _∙_}

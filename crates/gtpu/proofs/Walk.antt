@@ -1,5 +1,4 @@
 -- The walk: what follows an element is read by the same rule, whatever number bounds the recursion.
--- Assumes nothing.
 use Prim.Native.Nat.{ℕ, zero, suc, _+_, _-_, _<_, _≤_}
 use native.Mathlib.Omega.{arith}
 use mathlib.Core.Path.{_≡_, refl, sym, ap, _∙_}

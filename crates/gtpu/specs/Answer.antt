@@ -1,5 +1,4 @@
 -- What the answers say: for each case of each enum, document 01's number, or what follows.
--- Assumes nothing.
 use Prim.Native.Nat.{ℕ, _+_, _-_, _/_, _%_, _<_, _≤_}
 use mathlib.Core.List.{List}
 use mathlib.Core.Bool.{Bool, true, false}

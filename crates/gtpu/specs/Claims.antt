@@ -1,5 +1,4 @@
 -- What is claimed of the information elements of an Error Indication. Proved in proofs/Claims.antt.
--- Assumes nothing.
 use Prim.Native.Nat.{ℕ}
 use mathlib.Core.Path.{_≡_}
 use mathlib.Core.Logic.{_⊎_}
@@ -36,7 +35,7 @@ abbrev pub ErrorIndicationAccepted : Type 0
 ErrorIndicationAccepted = (teid address : List ℕ) → length teid ≡ 4 → (length address ≡ 4) ⊎ (length address ≡ 16)
     → elementsOf (errorIndication teid address) ≡ gives tt
 
--- Worked examples: a list, and what it comes to.
+-- Worked examples: a list, and its outcome.
 pub data Example : Type 0 where
   _↝_ : List ℕ → Outcome (Unit {0}) → Example
 

@@ -1,5 +1,4 @@
 -- The information elements of an Error Indication: document 01, leaf 8, with the card's numbers 25 to 29.
--- Assumes nothing.
 use Prim.Native.Nat.{ℕ, zero, suc, _+_}
 use mathlib.Core.List.{List, [], _∷_}
 use mathlib.Core.Bool.{Bool, true, false, not, _||_, _&&_}

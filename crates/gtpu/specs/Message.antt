@@ -1,5 +1,4 @@
 -- The GTP-U message types (3GPP TS 29.281) that the Rust names, by their numbers.
--- Assumes nothing.
 use Prim.Native.Nat.{ℕ}
 use mathlib.Core.List.{List, [], _∷_}
 

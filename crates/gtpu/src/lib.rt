@@ -1,5 +1,5 @@
 // GTP-U (the Rust's gtpu.rs, without its codec): the message types, and the information elements of an Error Indication,
-// document 01's leaf 8. What a list of elements comes to is defined in specs/Element.antt.
+// document 01's leaf 8. How a list of elements is judged is defined in specs/Element.antt.
 ghost use mathlib.Core.Path.{_≡_};
 ghost use Prim.Native.Nat.{_<_, _≤_};
 ghost use lib.ListN.{length, getD};
@@ -53,7 +53,7 @@ const WALK_DEPTH: usize = 16;
 // A walk answers by one number, which stays in a register: 0, a refusal's number, or one from here on, that it is to go on.
 const GO_ON: u8 = 128;
 
-// One element, judged: refused by this number, or so many bytes long, its type and length included.
+// One element, judged: refused by this number, or how many bytes long it is, its type and length included.
 enum JudgedElement {
     Refused(u8),
     Size(usize),

@@ -1,5 +1,4 @@
 -- The heart of the damage theorem, for both versions: addresses and segment, of which one span was turned, are refused or read the same.
--- Assumes nothing.
 use Prim.Native.Nat.{ℕ, zero, suc, _+_, _-_, _*_, _/_, _%_, _<_, _≤_}
 use native.Mathlib.Omega.{arith}
 use native.Mathlib.Nat.{zero-add, min-le-left}

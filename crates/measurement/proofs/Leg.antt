@@ -1,6 +1,5 @@
 -- One leg: a built T-PDU of which one span was turned is refused, or read as it was built. The proof goes by the UDP length first, so the same
 -- steps serve both versions; the IPv4 header checksum is not needed.
--- Assumes nothing.
 use Prim.Native.Nat.{ℕ, _+_, _-_, _*_, _/_, _%_, _^_, _<_, _≤_}
 use native.Mathlib.Omega.{arith}
 use native.Mathlib.Nat.{min-le-left, min-le-right}

@@ -1,5 +1,4 @@
--- The pseudo-header: its length, and what its words come to.
--- Assumes nothing.
+-- The pseudo-header: its length, and the sum of its words.
 use Prim.Native.Nat.{ℕ, _+_, _*_, _/_, _%_, _<_}
 use native.Mathlib.Omega.{arith}
 use mathlib.Core.Path.{_≡_, refl, sym, ap, ap₂, _∙_}

@@ -1,5 +1,4 @@
 -- The reader's rows: which facts lead to which answer. Each law is one row of a table in specs/Read.antt.
--- Assumes nothing.
 use Prim.Native.Nat.{ℕ, _+_, _-_, _*_, _/_, _%_, _<_, _≤_}
 use native.Mathlib.Omega.{arith}
 use mathlib.Core.Path.{_≡_, refl, sym, ap, ap₂, _∙_}

@@ -1,5 +1,4 @@
 -- The calls' answers and what each of their cases means; and what a call leaves in the buffer that it was lent.
--- Assumes nothing.
 use Prim.Native.Nat.{ℕ}
 use mathlib.Core.List.{List, _++_}
 use mathlib.Core.Bool.{true, false}
@@ -32,7 +31,7 @@ unfoldable pub decodeResult : Outcome DecodedTpdu → DecodeResult
 decodeResult (refused n) = record { decoding = decoding.Refused n; tpdu = noTpdu }
 decodeResult (gives t) = record { decoding = decoding.Accepted; tpdu = t }
 
--- What a writer's answer means: so many bytes, or a refusal.
+-- What a writer's answer means: how many bytes it wrote, or a refusal.
 abbrev pub writtenMeans : Written → Outcome ℕ
 writtenMeans (written.Bytes n) = gives n
 writtenMeans (written.Refused n) = refused n
@@ -50,7 +49,7 @@ writing bytes buffer =
       | false ↦ record { outcome = gives (length bytes); buffer = bytes ++ drop (length bytes) buffer }
     ]
 
--- The same of an outcome: where it refuses, so does the writer, and 15 comes last.
+-- Writing an outcome: where it refuses, so does the writer, and 15 comes last.
 unfoldable pub writingOf : Outcome (List ℕ) → List ℕ → Writing
 writingOf (refused n) buffer = record { outcome = refused n; buffer = buffer }
 writingOf (gives bytes) buffer = writing bytes buffer

@@ -1,5 +1,4 @@
 -- What is claimed of T-PDUs. proofs/Claims.antt proves each claim.
--- Assumes nothing.
 use Prim.Native.Nat.{ℕ, zero, suc, _+_, _^_, _<_}
 use mathlib.Core.Path.{_≡_}
 use mathlib.Core.List.{List, [], _∷_, _++_}

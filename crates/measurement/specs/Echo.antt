@@ -1,5 +1,4 @@
 -- The echo of a T-PDU: document 01, leaf 4.
--- Assumes nothing.
 use Prim.Native.Nat.{ℕ}
 use mathlib.Core.List.{List}
 use Rattle.error.specs.Outcome.{Outcome, refused, gives}

@@ -1,6 +1,5 @@
 -- A measurement T-PDU, field by field in the order of the RFCs' diagrams. What the RFCs leave free is the Rust's choice (document 01, leaf 3),
 -- and marked so.
--- Assumes nothing.
 use Prim.Native.Nat.{ℕ, _+_, _-_, _*_}
 use mathlib.Core.List.{List, [], _∷_, _++_}
 use mathlib.Core.Bool.{Bool, true, false}

@@ -1,6 +1,5 @@
 -- Reading a T-PDU: document 01, leaf 4. Each cause of refusal is a row, and the rows stand in the order of that leaf: "IPv4 3, 4, 5, 6, 7, 10,
 -- 12, 13, 14; IPv6 8, 6, 9, 11, 12, 10, 13, 14. Number 1, then 2, come before both."
--- Assumes nothing.
 use Prim.Native.Nat.{ℕ, _+_, _-_, _*_, _/_, _%_}
 use mathlib.Core.List.{List, [], _∷_, _++_}
 use mathlib.Core.Bool.{Bool, true, false, not, _||_, _&&_}

@@ -1,4 +1,4 @@
--- What the stores and copies of the builder leave in the buffer, and what its sums come to.
+-- What the stores and copies of the builder leave in the buffer, and what its sums are.
 pub mod Words
 pub mod Headers
 pub mod Whole

@@ -1,5 +1,4 @@
 -- The sums of the headers from numbers: what folds as the words of a number, of the UDP segment and of the IPv4 header do.
--- Assumes nothing.
 use Prim.Native.Nat.{ℕ, _+_, _-_, _*_, _/_, _%_, _^_, _<_}
 use native.Mathlib.Omega.{arith}
 use mathlib.Core.Path.{_≡_, refl, sym, ap, ap₂, _∙_}

@@ -1,6 +1,5 @@
--- The UDP segment as the writer has it: over the number that the pseudo-header comes to, and not over its bytes. For the contract of a private
+-- The UDP segment as the writer has it: over the sum of the pseudo-header, and not over its bytes. For the contract of a private
 -- function; the public call's is over `udp` of the crate measurement, and a law carries the one to the other.
--- Assumes nothing.
 use Prim.Native.Nat.{ℕ, _+_, _-_}
 use mathlib.Core.List.{List}
 use Rattle.checksum.specs.Sum.{sumOf, foldOf}

@@ -15,10 +15,10 @@ ghost use Rattle.measurement.specs.Answer.{wrote, writing};
 ghost use Rattle.measurement.specs.declared.IpVersion.the-variants.{V4};
 ghost use Rattle.measurement_build.specs.Segment.{segmentOver};
 
-// What the words of the IPv4 header come to more than those of the pseudo-header, which has the addresses, protocol and UDP length.
+// The sum of the IPv4 header's words less that of the pseudo-header's, which has the addresses, protocol and UDP length.
 const IPV4_MORE: u64 = 0x4500 + 52 + 0x4011 - 17 - 32;
 
-// What the words of a UDP segment come to that are the same in each: the length, and the probe's tag.
+// The sum of the words that every UDP segment has: the length, and the probe's tag.
 const UDP_SAME: u64 = 32 + 0x4f50 + 0x4344 + 0x5054 + 0x4b31;
 
 // The IPv4 header, byte by byte in the Rust's order. `pseudo` folds, in any sum, as the words of the pseudo-header do.
@@ -69,7 +69,7 @@ fn write_ipv6_header(src: [u8; 16], dst: [u8; 16], out: &mut [u8])
     put(out, layout::IPV6_DESTINATION_ADDRESS, &dst);
 }
 
-// The checksum of a UDP segment from its sum: all ones where it comes to 0.
+// The checksum of a UDP segment from its sum: all ones where it would be 0.
 fn nonzero_checksum(sum: u16) -> u16
     ensures { λ r. ⌜ r ≡ nonzero (65535 - sum) ⌝ }
 {

@@ -1,5 +1,4 @@
 -- What a caller knows of a T-PDU from the numbers that reading it gave.
--- Assumes nothing.
 use Prim.Native.Nat.{ℕ}
 use mathlib.Core.Path.{_≡_, refl, sym, ap, _∙_}
 use mathlib.Core.List.{List}

@@ -1,5 +1,4 @@
 -- What the code of the reader computes, in the definitions' terms.
--- Assumes nothing.
 use Prim.Native.Nat.{ℕ, zero, suc, _+_, _-_, _*_, _/_, _<_, _≤_}
 use native.Mathlib.Omega.{arith}
 use native.Mathlib.Nat.{min-le-left, add-zero}
@@ -78,7 +77,7 @@ pub refused-by : {A : Type 0} (o : Outcome A) {n : ℕ} → n ≡ outcomeNumber 
 refused-by (refused m) e h = ap refused (sym e)
 refused-by (gives x) e h = absurd (h e)
 
--- a part of at most so many bytes
+-- a part of at most this many bytes
 pub part-short : (m : ℕ) (l : List ℕ) → m < 65536 → length (take m l) < 65536
 part-short m l h = simp length-take (omega (arith, min-le-left m (length l)))
 

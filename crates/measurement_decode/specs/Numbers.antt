@@ -1,5 +1,4 @@
 -- What reading answers in numbers, and what it leaves in the arrays that were lent for the addresses.
--- Assumes nothing.
 use Prim.Native.Nat.{ℕ, zero, suc}
 use mathlib.Core.List.{List}
 use Rattle.error.specs.Outcome.{Outcome, refused, gives}

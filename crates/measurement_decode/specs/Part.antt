@@ -1,5 +1,4 @@
 -- What the reader's helpers are handed. For the contracts of private functions.
--- Assumes nothing.
 use Prim.Native.Nat.{ℕ, _+_, _<_, _≤_}
 use mathlib.Core.Path.{_≡_}
 use mathlib.Core.List.{List}

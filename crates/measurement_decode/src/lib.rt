@@ -1,4 +1,4 @@
-// Reading a measurement T-PDU (leaf 4; `decode_measurement_tpdu` of the Rust's measurement.rs). A T-PDU is judged first, which comes to one
+// Reading a measurement T-PDU (leaf 4; `decode_measurement_tpdu` of the Rust's measurement.rs). A T-PDU is judged first, by one
 // number, and its values are read where nothing is refused: a struct that is handed up from function to function is copied each time. Each
 // test stands in the order of the rows in measurement's specs/Read.antt. A slice that is handed on is sliced anew, as in `checksum::sum`.
 use measurement::DecodeResult;
@@ -86,7 +86,7 @@ fn ipv4_address_sum(address: &[u8]) -> u64
     field::double_word(address[0], address[1], address[2], address[3]) as u64
 }
 
-// The same of an IPv6 address.
+// The sum of an IPv6 address's words.
 fn ipv6_address_sum(address: &[u8]) -> u64
     requires { ⌜ 16 ≤ length (now address) ⌝ }
     ensures { λ r. ⌜ ((n : ℕ) → foldOf (n + r) ≡ foldOf (n + sumOf (bytesAt 16 0 (now (address .entry))))) × (r < 2 ^ 34) ⌝ }
@@ -315,7 +315,7 @@ pub fn decode_into(tpdu: &[u8], src: &mut [u8; 16], dst: &mut [u8; 16]) -> TpduN
     values(IpVersion::V6, &tpdu[layout::IPV6_HEADER_BYTES..end])
 }
 
-// Whether a T-PDU was read, from the number that reading came to.
+// Whether a T-PDU was read, from the number that reading gave.
 fn decoding_of(number: u8) -> Decoding
     ensures { λ r. ⌜ r ≡ decodingNumbered number ⌝ }
 {

@@ -1,5 +1,4 @@
 -- The block that an echo is made in. For the contract of a private function.
--- Assumes nothing.
 use Prim.Native.Nat.{ℕ}
 use mathlib.Core.Path.{_≡_}
 use mathlib.Core.List.{List}

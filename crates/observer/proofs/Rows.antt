@@ -12,7 +12,7 @@ use Rattle.columns.specs.Columns.{inserted}
 use Rattle.columns.proofs.Insertion.{inserted-is}
 use Rattle.rows.proofs.Within.{Within, within}
 
--- every column has so many entries
+-- every column has this many entries
 pub room-for : (n : ℕ) (o : Observer) → n ≤ capacity o → Within n (columnsIn o)
 unfolding capacity
 room-for n o h = within n (columnsIn o) h

@@ -1,6 +1,5 @@
 -- The counts beside the columns. Document 01, leaf 6: "Beside it stand the used count and counters for duplicates, out-of-order returns and
 -- error indications, which saturate." The record is the declared struct of the code; calls change it by the named updates below.
--- Assumes nothing.
 use Prim.Native.Nat.{ℕ}
 use mathlib.Core.Bool.{Bool, true, false}
 use Rattle.counter.specs.Counter.{oneMore}
@@ -10,7 +9,7 @@ use Rattle.observer.specs.declared.ObserverCounts.{ObserverCounts}
 abbrev pub fresh : ObserverCounts
 fresh = record { used = 0; «duplicate_packets» = 0; «out_of_order_packets» = 0; «gtpu_error_indications» = 0 }
 
--- so many used rows
+-- this many used rows
 abbrev pub withUsed : ℕ → ObserverCounts → ObserverCounts
 withUsed n c = record {
   used = n;

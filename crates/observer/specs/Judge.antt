@@ -1,4 +1,4 @@
--- Cause 21, which every call judges first, and what a call comes to.
+-- Cause 21, which every call judges first, and the step that a call makes.
 use Prim.Native.Nat.{ℕ}
 use mathlib.Core.List.{List, [], _∷_}
 use mathlib.Core.Bool.{Bool, true, not, _&&_}
@@ -24,7 +24,7 @@ wellFormed o = leb (o .counts .used) (capacity o) && (rising (sequencesOf (rows 
 unfoldable pub judged : {A : Type 0} → Observer → Outcome A → Outcome A
 judged o onward = firstCause ((not (wellFormed o) ⇒ malformedObserver) ∷ []) onward
 
--- What a call that may change the observer comes to: its outcome, and the observer as it leaves it.
+-- The step of a call that may change the observer: its outcome, and the observer as it leaves it.
 pub record Step : Type 0 where
   pub outcome : Outcome (Unit {0})
   pub observer : Observer

@@ -1,5 +1,4 @@
 -- Sending (the Rust's `record_sent`): document 01, leaf 6.
--- Assumes nothing.
 use Prim.Native.Nat.{ℕ}
 use mathlib.Core.List.{List, [], _∷_, _++_}
 use mathlib.Core.Bool.{true, false, not, _&&_}

@@ -1,5 +1,4 @@
 -- The claims of specs/Claims.antt, proved.
--- Assumes nothing.
 use Prim.Native.Nat.{ℕ, zero, suc, _+_, _*_, _<_, _≤_}
 use native.Mathlib.Omega.{arith}
 use native.Mathlib.Nat.{mul-le-mul-right}
@@ -19,7 +18,7 @@ use Rattle.plan.specs.declared.TrafficPlan.{TrafficPlan}
 use Rattle.plan.proofs.Rows.{passes, leaving-passes}
 use Rattle.plan.proofs.Judged.{judged-19, judged-20, judged-accepted, plan-accepted}
 
--- a plan whose rate and count are right comes to its packets' judgement
+-- a plan whose rate and count are right is judged by its packets
 first-rows : (plan : TrafficPlan) (next : ℕ) → 0 < plan .«target_rate_pps» → plan .«target_rate_pps» ≤ 1000000000 → plan .«packet_count» ≤ 2048
     → judgePackets plan next ≡ judgePlan plan next
 unfolding judgePlan planCauses rateCauses

@@ -1,6 +1,5 @@
--- The packets of a plan, judged one after the other, and what that comes to: the sequence and the time each have a first packet at which they
+-- The packets of a plan, judged one after the other: the sequence and the time each have a first packet at which they
 -- would pass their top, and the lower of the two decides.
--- Assumes nothing.
 use Prim.Native.Nat.{ℕ, zero, suc, _+_, _-_, _*_, _/_, _<_, _≤_}
 use native.Mathlib.Omega.{arith}
 use mathlib.Core.Path.{_≡_, refl, sym, ap, subst, _∙_}

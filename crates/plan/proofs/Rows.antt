@@ -1,5 +1,4 @@
 -- The first cause of a plan that holds, forwards from the tests and backwards from the outcome, as `Causes` of the crate error has it for other rows.
--- Assumes nothing.
 use Prim.Native.Nat.{ℕ}
 use mathlib.Core.Path.{_≡_, refl, sym}
 use mathlib.Core.List.{List, [], _∷_, _++_}

@@ -1,5 +1,4 @@
 -- What the code's answer to a judgement means, and the contracts of private functions.
--- Assumes nothing.
 use Prim.Native.Nat.{ℕ, _+_, _*_, _<_, _≤_}
 use mathlib.Core.Path.{_≡_}
 use mathlib.Core.List.{List}

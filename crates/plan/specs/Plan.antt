@@ -1,5 +1,4 @@
 -- A traffic plan, and how it is judged: document 01, leaf 5, and the card's causes 16 to 20.
--- Assumes nothing.
 use Prim.Native.Nat.{ℕ, zero, suc, _+_, _*_, _/_}
 use mathlib.Core.List.{List, [], _∷_, _++_}
 use mathlib.Core.Bool.{Bool, true, false}
@@ -69,7 +68,7 @@ causesAt plan next k =
     ∷ (ltb top (timeAt plan k) ⇒ sendTimestampOverflow leaves (next + k + 1))
     ∷ []
 
--- "19 before 20 at the lowest failing k": so many packets, from packet k on.
+-- "19 before 20 at the lowest failing k": the packets that are left, from packet k on.
 unfoldable pub causesFrom : TrafficPlan → ℕ → ℕ → ℕ → List PlanCause
 causesFrom plan next zero k = []
 causesFrom plan next (suc n) k = causesAt plan next k ++ causesFrom plan next n (suc k)

@@ -1,5 +1,4 @@
 -- The search's result may stand for the session that a message's TEID means: where the table is refused, no session is looked at; else the search found what the TEID means.
--- Assumes nothing.
 use Prim.Native.Nat.{ℕ}
 use mathlib.Core.Path.{_≡_, sym, ap, _∙_}
 use mathlib.Core.List.{List}

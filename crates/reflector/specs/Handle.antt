@@ -1,6 +1,5 @@
 -- A message (the Rust's `handle_datagram` after its decode): document 01, leaf 9. What is answered is defined in reflector_answer; here the
 -- session is the one that the message's TEID means in the table.
--- Assumes nothing.
 use Prim.Native.Nat.{ℕ}
 use mathlib.Core.List.{List}
 use lib.ListN.{length}

@@ -1,5 +1,4 @@
 -- What the code answers at each way out is what specs/Answer.antt and specs/Handle.antt say.
--- Assumes nothing.
 use Prim.Native.Nat.{ℕ, _<_, _≤_}
 use native.Mathlib.Omega.{arith}
 use mathlib.Core.Path.{_≡_, refl, sym, ap, _∙_}
@@ -77,7 +76,7 @@ module _ (config : MultiSessionReflectorConfig) (state : ReflectorState) (sessio
   abbrev received : ReflectorState
   received = stateCounted GpduReceived state
 
-  -- an echo, by what it came to
+  -- an echo, by its outcome
   module _ (p : config .policy ≡ Echo) (w : Written) (after : List ℕ) (e : wrote w after ≡ writingOf (echoOf payload) out) where
     known-is : {o : Outcome (List ℕ)} → echoOf payload ≡ o → gpduKnown config state session payload ≡ record { outcome = reflected session o; state = gpduCounted (reflected session o) received }
     unfolding gpduKnown gpduOutcome

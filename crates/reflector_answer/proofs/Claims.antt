@@ -1,5 +1,4 @@
 -- The claims of specs/Claims.antt: the laws of elements and of echoes, at the reflector's answers.
--- Assumes nothing.
 use Prim.Native.Nat.{ℕ}
 use mathlib.Core.Path.{_≡_, refl, sym, ap, _∙_}
 use mathlib.Core.Logic.{_⊎_, inl, inr}

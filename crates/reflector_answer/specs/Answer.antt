@@ -1,6 +1,5 @@
 -- What the reflector answers to a message whose TEID means this session, or none: document 01, leaf 9, with the card's numbers 35 to 37. The
 -- output buffer is not spoken of here: an answer has a payload, and specs/Handle.antt says where it stands.
--- Assumes nothing.
 use Prim.Native.Nat.{ℕ}
 use mathlib.Core.List.{List, [], _∷_, _++_}
 use mathlib.Core.Bool.{Bool, true, false, not}
@@ -55,7 +54,7 @@ pub data Action : Type 0 where
   noop : ReflectorNoopReason → Action
   send : Outbound → Action
 
--- What a message comes to, and the state that it leaves.
+-- The answer to a message: its outcome, and the state that it leaves.
 pub record Answer : Type 0 where
   pub outcome : Outcome Action
   pub state : ReflectorState
@@ -65,7 +64,7 @@ abbrev pub gpdu : ReflectorSendReason → SocketAddr → ℕ → Payload → Act
 gpdu reason destination teid payload =
     send (record { reason = reason; destination = destination; teid = teid; messageType = gtpuMsgGpdu; sequence = Absent; payload = payload })
 
--- What the echo of a payload comes to: "echo to the session's peer address and TEID".
+-- The outcome of echoing a payload: "echo to the session's peer address and TEID".
 abbrev pub reflected : ReflectorSession → Outcome (List ℕ) → Outcome Action
 reflected session (refused n) = refused n
 reflected session (gives bytes) = gives (gpdu ReflectedGpdu (valueOf (session .«peer_addr»)) (session .«peer_teid») (written bytes))
@@ -97,7 +96,7 @@ gpduKnown config state session payload =
 abbrev pub errorIndicationTo : ℕ → SocketAddr → List ℕ
 errorIndicationTo teid source = errorIndication (bigEndian 4 teid) (address (source .version) (source .address))
 
--- The same with all 16 bytes of an address, of which so many count.
+-- The same from all 16 bytes of an address, of which the length says how many count.
 abbrev pub errorIndicationBlock : ℕ → ℕ → List ℕ → List ℕ
 errorIndicationBlock teid counted bytes = 16 ∷ (bigEndian 4 teid ++ (133 ∷ 0 ∷ counted ∷ bytesAt 16 0 bytes))
 

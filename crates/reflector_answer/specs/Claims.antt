@@ -1,5 +1,4 @@
 -- What is claimed of the reflector's answers. Proved in proofs/Claims.antt.
--- Assumes nothing.
 use Prim.Native.Nat.{ℕ}
 use mathlib.Core.Path.{_≡_}
 use mathlib.Core.List.{List, _++_}

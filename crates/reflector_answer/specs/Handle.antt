@@ -1,6 +1,5 @@
 -- What a call that handles a message hands back: the code's answer, the state and the output. "A refusal returns its number and nothing else",
 -- so what stands beside it is all zeros, and so it is where nothing is sent.
--- Assumes nothing.
 use Prim.Native.Nat.{ℕ, _≤_}
 use mathlib.Core.Path.{_≡_}
 use mathlib.Core.List.{List, [], _∷_, _++_}
@@ -41,7 +40,7 @@ abbrev pub writtenLength : Payload → ℕ
 writtenLength (written bytes) = length bytes
 writtenLength handedOn = 0
 
--- What is sent for a reason, where so many bytes stand at the front of the output: only a route hands on what was received.
+-- What is sent for a reason, with `count` bytes at the front of the output: only a route hands on what was received.
 abbrev pub payloadMeant : ReflectorSendReason → ℕ → List ℕ → Payload
 payloadMeant ReflectedGpdu count output = written (take count output)
 payloadMeant RoutedGpdu count output = handedOn
@@ -76,7 +75,7 @@ messageOf (gives (send message)) =
 abbrev pub handledOf : Answer → Handled
 handledOf a = record { action = actionOf (a .outcome); message = messageOf (a .outcome); state = a .state }
 
--- A G-PDU that is sent on, with so many bytes in the output.
+-- A G-PDU that is sent on, with the count of its bytes in the output.
 abbrev pub forwarded : ReflectorState → ReflectorSendReason → SocketAddr → ℕ → ℕ → Handled
 forwarded state reason destination teid bytes = record {
   action = Send reason bytes;

@@ -1,5 +1,4 @@
 -- The reflector's state: its counts, and the sequence number of the next Error Indication (document 01, leaf 9).
--- Assumes nothing.
 use Prim.Native.Nat.{ℕ, _+_}
 use mathlib.Core.Bool.{true, false}
 use lib.Dec.{eqb}

@@ -224,7 +224,7 @@ fn address_length(version: IpVersion) -> u8
     }
 }
 
-// The payload of an Error Indication, with all 16 bytes of the address: TEID Data I, and the GTP-U Peer Address of so many bytes.
+// The payload of an Error Indication, with all 16 bytes of the address: TEID Data I, and the GTP-U Peer Address, 4 or 16 bytes long.
 fn error_indication(teid: u32, length: u8, address: [u8; 16]) -> [u8; 24]
     ensures { λ r. ⌜ r ≡ errorIndicationBlock teid length address ⌝ }
 {

@@ -1,5 +1,4 @@
--- What the two calls that change a table come to. The answer is decided by value from what a search found, and one row is stored where that answer tells: both are those of the specs.
--- Assumes nothing.
+-- The two calls that change a table. The answer is decided by value from what a search found, and one row is stored where that answer tells: both are those of the specs.
 use Prim.Native.Nat.{ℕ, _+_, _-_, _<_}
 use mathlib.Core.Path.{_≡_, refl, sym, ap, subst, _∙_}
 use mathlib.Core.List.{List, [], _∷_}

@@ -1,6 +1,5 @@
 -- The call `find_session(sessions, ..)` where `sessions` is a `&mut` slice, as one step of a walk. The slice is relent whole as a shared one at a new lifetime, `find_session` is
 -- called, the lifetime is ended and the slice comes back as it was. All that is known of `find_session` is that it meets its contract: so the result is what its contract says.
--- Assumes nothing.
 use mathlib.Core.Path.{_≡_, refl, sym, ap, subst}
 use Prim.Native.Nat.{ℕ, _<_, _^_}
 use mathlib.Core.List.{[], _∷_, List}

@@ -1,5 +1,4 @@
 -- 30 and 31 by their tests, and what a table that is not refused is like.
--- Assumes nothing.
 use Prim.Native.Nat.{ℕ, _<_, _≤_}
 use native.Mathlib.Omega.{arith}
 use mathlib.Core.Path.{_≡_, refl, sym, subst, _∙_}

@@ -1,5 +1,4 @@
 -- The rows of a session table in memory, as the walks of this crate have them: their type, their size, their machine values, and that their places fit.
--- Assumes nothing.
 use Prim.Native.Nat.{ℕ, _<_, _^_, _*_}
 use native.Mathlib.Omega.{arith}
 use mir.Val.{Val}

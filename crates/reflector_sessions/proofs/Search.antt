@@ -1,5 +1,4 @@
 -- What a search of the session table finds: row by row, as the code goes; what that is by the definitions; and of a table.
--- Assumes nothing.
 use Prim.Native.Nat.{ℕ, suc, _+_, _<_, _≤_}
 use mathlib.Core.Path.{_≡_, refl, sym, ap, _∙_}
 use mathlib.Core.List.{List, [], _∷_}
@@ -19,7 +18,7 @@ use Rattle.reflector_sessions.specs.declared.ReflectorSession.{Reflector
 use Rattle.reflector_sessions.proofs.Judging.{Sound, Judged, unsound, sound, judge, table-sound, searched-none, searched-all}
 
 -- ---- row by row
--- What a search of these rows finds, where so many rows stand before them.
+-- What a search of these rows finds, where other rows stand before them.
 unfoldable pub foundAfter : ℕ → List ReflectorSession → ℕ → ReflectorSession → FoundSession
 foundAfter before rows teid missing = record { place = before + placeOf teid rows; session = getD rows (placeOf teid rows) missing }
 

@@ -1,5 +1,4 @@
 -- What is claimed of the session table. Proved in proofs/Claims.antt.
--- Assumes nothing.
 use Prim.Native.Nat.{ℕ, _<_}
 use mathlib.Core.Path.{_≡_}
 use mathlib.Core.Bool.{true, false}

@@ -1,5 +1,4 @@
 -- Registering (the Rust's `register_session`): document 01, leaf 9, with the card's numbers 30 to 34.
--- Assumes nothing.
 use Prim.Native.Nat.{ℕ, _+_}
 use mathlib.Core.Path.{_≡_}
 use mathlib.Core.List.{List, [], _∷_, _++_}
@@ -38,7 +37,7 @@ unfoldable pub registerOutcome : ℕ → ℕ → ℕ → Option ReflectorSession
 registerOutcome rows used maximum existing session =
     firstCause (tableCauses rows used maximum) (sessionOutcome used maximum existing session)
 
--- What registering comes to: its outcome, and the table that it leaves.
+-- Registering: its outcome, and the table that it leaves.
 pub record Registering : Type 0 where
   pub outcome : Outcome Bool
   pub table : Table

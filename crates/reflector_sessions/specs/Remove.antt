@@ -1,6 +1,5 @@
 -- Removal (the Rust's `remove_session`): document 01, leaf 9: "Removal, after 30 and 31, gives the record or none and moves the last used row
 -- into the hole; rows past the count keep their contents."
--- Assumes nothing.
 use Prim.Native.Nat.{ℕ, _-_}
 use mathlib.Core.Path.{_≡_}
 use mathlib.Core.List.{List}
@@ -18,7 +17,7 @@ use Rattle.reflector_sessions.specs.declared.RemovedSession.{RemovedSess
 unfoldable pub removeOutcome : ℕ → ℕ → ℕ → Option ReflectorSession → Outcome (Option ReflectorSession)
 removeOutcome rows used maximum existing = firstCause (tableCauses rows used maximum) (gives existing)
 
--- What a removal comes to: its outcome, and the table that it leaves.
+-- A removal: its outcome, and the table that it leaves.
 pub record Removing : Type 0 where
   pub outcome : Outcome (Option ReflectorSession)
   pub table : Table

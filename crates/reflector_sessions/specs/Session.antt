@@ -1,5 +1,4 @@
 -- When two sessions are the same record: document 01, leaf 9, "same record (nothing changes) or 33".
--- Assumes nothing.
 use mathlib.Core.Bool.{Bool, true, false, _&&_}
 use lib.Dec.{eqb}
 use Rattle.field.specs.Field.{sameBytes}

@@ -1,5 +1,4 @@
 -- The session table: document 01, leaf 9, "a lent slice of session records with a used count and a maximum".
--- Assumes nothing.
 use Prim.Native.Nat.{ℕ, suc, _+_, _-_}
 use mathlib.Core.List.{List, [], _∷_}
 use mathlib.Core.Bool.{Bool, true, false}

@@ -51,7 +51,7 @@ impl LentSocketAddr {
     }
 }
 
-// A table judged: so many used rows, or why it is refused.
+// A table judged: how many rows are used, or why it is refused.
 pub enum JudgedTable {
     Used(usize),
     Refused(u8),
@@ -90,7 +90,7 @@ pub struct RemovedSession {
     pub session: ReflectorSession,
 }
 
-// The first of so many rows that has this TEID, and its place; past the rows and `missing` if none has it.
+// The first of the first `rows` rows that has this TEID, and its place; past the rows and `missing` if none has it.
 fn first_row(
     sessions: &[ReflectorSession],
     rows: usize,
@@ -259,7 +259,7 @@ fn invalid_session(session: ReflectorSession) -> bool
     address.port == 0
 }
 
-// What registering comes to where the table is not refused: 32, then same record or 33, then 34.
+// The outcome of registering where the table is not refused: 32, then same record or 33, then 34.
 fn judge_session(
     used: usize,
     max_sessions: usize,

@@ -1,6 +1,5 @@
 -- A function that copies its rows to a local, lends the copy to a call that may change it, and puts the call's answer and the rows together by a second call: `register_session` and
 -- `remove_session`, which differ in their types and in what they call. Its MIR, and a walk of it that knows of each call what it asks and what it gives.
--- Assumes nothing.
 use mathlib.Core.Path.{refl}
 use Prim.Native.Nat.{ℕ, _<_, _^_}
 use mathlib.Core.List.{[], _∷_, List}

@@ -1,6 +1,5 @@
 -- An array in a local that is lent to a call as a slice, and is had back: as `&mut` with what the call left in it, and as `&` as it was.
 -- Over any element type of one machine value that owns only facts, and any number of elements.
--- Assumes nothing.
 use mathlib.Core.Path.{refl, sym, subst}
 use Prim.Native.Nat.{ℕ}
 use mathlib.Core.List.{List, [], _∷_}

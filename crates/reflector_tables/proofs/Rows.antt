@@ -1,5 +1,4 @@
 -- The six rows of a table, as an array in a local: its machine value, and that it is lent to a call and had back (`Lent.antt`).
--- Assumes nothing.
 use mathlib.Core.List.{[], _∷_, List}
 use Prim.Native.Nat.{ℕ}
 use lib.Dec.{T, lit<}

@@ -11,7 +11,7 @@ pub fn byte(s: &[u8], at: usize) -> u8 {
     0
 }
 
-// The place so many bytes after another.
+// The place `n` bytes after another.
 pub fn after(at: usize, n: usize) -> usize {
     std::num::wrapping_add_usize(at, n)
 }

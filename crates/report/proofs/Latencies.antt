@@ -1,5 +1,4 @@
 -- The latency loop: what is gathered up to row i, with what is left, is the whole answer; and the summary of it is leaf 7's.
--- Assumes nothing.
 use Prim.Native.Nat.{ℕ, suc, _+_, _-_, _/_, _≤_, _<_, min, max}
 use mathlib.Core.Path.{_≡_, refl, ap, _∙_}
 use mathlib.Core.List.{List, [], _∷_, map}

@@ -1,5 +1,4 @@
 -- The report: leaf 7's definitions over the used rows are what the loops compute over the columns.
--- Assumes nothing.
 use Prim.Native.Nat.{ℕ, _-_, _≤_}
 use mathlib.Core.Path.{_≡_, refl, sym, ap, _∙_}
 use mathlib.Core.List.{List, map}

@@ -1,5 +1,4 @@
 -- The loop over the runs: the longest so far, with the longest of what is left, is the whole answer; and it is leaf 7's.
--- Assumes nothing.
 use Prim.Native.Nat.{ℕ, suc, _+_, _-_, _≤_, _<_, max}
 use mathlib.Core.Path.{_≡_, refl, ap}
 use mathlib.Core.List.{List, [], _∷_, map}

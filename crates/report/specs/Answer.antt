@@ -1,5 +1,4 @@
 -- What each case of the call's answer means.
--- Assumes nothing.
 use Rattle.error.specs.Outcome.{Outcome, refused, gives}
 use Rattle.evidence.specs.declared.PacketContinuityReport.{PacketContinuityReport}
 use Rattle.report.specs.declared.Reported.{Reported}

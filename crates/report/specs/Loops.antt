@@ -1,5 +1,4 @@
 -- What the report's loops compute over the columns, with what they carry: for their contracts. Proved to be leaf 7's definitions in proofs/.
--- Assumes nothing.
 use Prim.Native.Nat.{ℕ, suc, _+_, _-_, _*_, _/_, _≤_, min, max}
 use mathlib.Core.Path.{_≡_}
 use mathlib.Core.List.{List, [], _∷_}

@@ -1,5 +1,4 @@
 -- The report (the Rust's `ContinuityObserver::report`): document 01, leaf 7, over the used rows and the counts of an observer.
--- Assumes nothing.
 use Prim.Native.Nat.{ℕ, suc, _+_, _-_, _/_, min, max}
 use mathlib.Core.List.{List, [], _∷_, map}
 use mathlib.Core.Bool.{Bool, true, false, _&&_}

@@ -1,5 +1,4 @@
 -- A plan's packets, entered on a fresh observer: the rows stand in plan order, and an observer with room takes them all.
--- Assumes nothing.
 use Prim.Native.Nat.{ℕ, zero, suc, _+_, _≤_, _<_}
 use native.Mathlib.Omega.{arith}
 use mathlib.Core.Path.{_≡_, refl, sym, ap, ap₂, _∙_, subst}

@@ -1,5 +1,4 @@
 -- Packet k stands at its place in the generator's buffer.
--- Assumes nothing.
 use Prim.Native.Nat.{ℕ, _+_, _*_}
 use native.Mathlib.Omega.{arith}
 use mathlib.Core.Path.{refl, ap, _∙_}

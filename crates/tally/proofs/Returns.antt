@@ -1,5 +1,4 @@
 -- What a return of an accepted plan reads as: its own sequence, or a refusal; and made whole, its own sequence.
--- Assumes nothing.
 use Prim.Native.Nat.{ℕ, zero, suc, _+_, _<_}
 use native.Mathlib.Omega.{arith}
 use mathlib.Core.Path.{_≡_, refl, sym, ap, _∙_}

@@ -1,6 +1,5 @@
 -- Demand 3 speaks of single calls. The batch calls leave the observers that these leave, so it holds of runs that are
 -- made with them. proofs/Batches.antt proves it.
--- Assumes nothing.
 use Prim.Native.Nat.{ℕ}
 use mathlib.Core.Path.{_≡_}
 use mathlib.Core.List.{List, map}

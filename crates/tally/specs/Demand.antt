@@ -1,6 +1,5 @@
 -- Demand 3, whole: one claim about a whole list of returns, over the definitions that the contracts of the public calls name. proofs/Demand.antt
 -- proves it.
--- Assumes nothing.
 use Prim.Native.Nat.{ℕ, _+_, _<_}
 use mathlib.Core.Path.{_≡_}
 use mathlib.Core.List.{List, [], _∷_, map}

@@ -1,7 +1,6 @@
--- The tally ("tally" is document 01's word): what a run must come to, from the plan's packets and the list of returns. Defined from the section
+-- The tally ("tally" is document 01's word): what a run must show, from the plan's packets and the list of returns. Defined from the section
 -- "The tally" alone, in its words. It has no search and no call of the observer: the row of a return is the row of its packet, by its place in
 -- the plan, and the reader is asked only whether it refuses.
--- Assumes nothing.
 use Prim.Native.Nat.{ℕ, _-_}
 use mathlib.Core.List.{List, [], _∷_, map}
 use mathlib.Core.Bool.{Bool, true, false, _&&_, _||_}

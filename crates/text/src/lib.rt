@@ -129,7 +129,7 @@ fn print_plainly(s: &[u8]) {
     }
 }
 
-// A word as it was given, up to so many bytes.
+// A word as it was given, up to `most` bytes.
 pub fn print_word(s: &[u8], most: usize) {
     if s.len() <= most {
         print_plainly(s);

@@ -1,5 +1,4 @@
 -- What is claimed of what plans generate. proofs/Claims.antt proves each claim.
--- Assumes nothing.
 use Prim.Native.Nat.{ℕ, _+_, _*_, _<_, _≤_}
 use mathlib.Core.Path.{_≡_}
 use mathlib.Core.List.{List}
@@ -22,7 +21,7 @@ PacketsReadBack = (flow : InnerIpFlow) (plan : TrafficPlan) (next : ℕ) (buffer
     → (k : ℕ) → k < plan .«packet_count»
     → readOf (drop (k * (ipHeaderLength (flow .version) + 32)) (generateOf flow plan next buffer .buffer)) ≡ gives (tpduBuilt flow (next + k) (timeAt plan k))
 
--- What a success comes to: all packets, no more and no less.
+-- A success writes all packets, no more and no less.
 pub record Complete (flow : InnerIpFlow) (plan : TrafficPlan) (next : ℕ) (buffer : List ℕ) (n : ℕ) : Type 0 where
   pub judged : judgePlan plan next ≡ accepted plan next
   pub bytes : n ≡ plan .«packet_count» * (ipHeaderLength (flow .version) + 32)

@@ -1,5 +1,4 @@
 -- What the generator leaves: its outcome, the next sequence and the lent buffer (document 01, leaf 5, and the card).
--- Assumes nothing.
 use Prim.Native.Nat.{ℕ}
 use mathlib.Core.List.{List, [], _∷_, _++_}
 use Rattle.error.specs.Outcome.{Outcome, refused, gives}

@@ -1,4 +1,4 @@
--- The verdict that a crew reads: what a report comes to, and the numbers that say why.
+-- The verdict that a crew reads, from a report, with the numbers that say why.
 use Prim.Native.Nat.{ℕ}
 use mathlib.Core.Bool.{Bool, true, false, not}
 use lib.Dec.{ltb}

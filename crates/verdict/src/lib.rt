@@ -1,10 +1,10 @@
-// The verdict on a run: what its report comes to, with the numbers that say why. A crew acts on it, so it has a
+// The verdict on a run, from its report, with the numbers that say why. A crew acts on it, so it has a
 // contract (specs/Verdict.antt); that it is printed is left to its callers.
 use evidence::PacketContinuityReport;
 ghost use mathlib.Core.Path.{_≡_};
 ghost use Rattle.verdict.specs.Verdict.{verdictOf};
 
-// What a report comes to. Beside a reason stand the number that was too large and the budget's, in this order.
+// The verdict on a report. Beside a reason stand the number that was too large and the budget's, in this order.
 pub enum Verdict {
     Pass,
     NothingReturned,

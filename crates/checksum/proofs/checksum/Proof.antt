@@ -1,5 +1,4 @@
 -- `checksum::checksum` meets its contract.
--- Assumes nothing.
 use borrow.Author.Needs.{needs}
 use native.Mathlib.Nat.{zero-add}
 use Rattle.checksum.specs.Sum.{checksumOf}

@@ -1,5 +1,4 @@
 -- `checksum::fold` meets its contract.
--- Assumes nothing.
 use Prim.Native.Nat.{ℕ, _+_, _/_}
 use native.Mathlib.Omega.{arith}
 use lib.Bits.{bitAnd, and-mask}

@@ -1,5 +1,4 @@
 -- `checksum::sum_blocks` meets its contract. The loop's invariant: the sum so far and the words that are left fold to what all fold to.
--- Assumes nothing.
 use Prim.Native.Nat.{ℕ, _+_, _-_, _*_, _<_, _≤_}
 use mathlib.Core.Path.{_≡_, refl, sym, ap, _∙_}
 use borrow.Author.Needs.{needs}

@@ -1,5 +1,4 @@
 -- `checksum::sum_last` meets its contract.
--- Assumes nothing.
 use borrow.Author.Needs.{needs}
 use native.Mathlib.Omega.{arith}
 use Rattle.checksum.proofs.Sums.{sum-two, sum-one, sum-none}

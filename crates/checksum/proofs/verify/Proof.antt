@@ -1,5 +1,4 @@
 -- `checksum::verify` meets its contract: the sum is all ones, and then the damage law applies.
--- Assumes nothing.
 use mathlib.Core.Path.{ap, sym, _∙_}
 use borrow.Author.Needs.{needs}
 use borrow.Author.Tests.{eqb-true}

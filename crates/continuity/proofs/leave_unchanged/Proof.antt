@@ -1,5 +1,4 @@
 -- `continuity::leave_unchanged` meets its contract: cause 21, then the answer.
--- Assumes nothing.
 use borrow.Author.Needs.{needs}
 use mathlib.Core.Path.{sym, _∙_}
 use borrow.Author.Tests.{not-true, not-false}

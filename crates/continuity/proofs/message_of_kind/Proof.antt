@@ -1,5 +1,4 @@
 -- `continuity::message_of_kind` meets its contract.
--- Assumes nothing.
 use borrow.Author.Needs.{needs}
 use Rattle.continuity.proofs.Laws.{kind-refused, kind-accepted}
 use Rattle.continuity.proofs.message_of_kind.Statement.{statement}

@@ -1,5 +1,4 @@
 -- `counter::one_more` meets its contract.
--- Assumes nothing.
 use native.Mathlib.Omega.{arith}
 use borrow.Author.Needs.{needs}
 use Rattle.counter.specs.Counter.{oneMore}

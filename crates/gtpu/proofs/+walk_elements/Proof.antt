@@ -1,6 +1,5 @@
 -- `gtpu::walk_elements` meets its contract: where it may make no more calls; at an element that is refused; at the last element; and by
 -- its call of itself on what follows a sound element. The measure is the list's length, and every element has at least one byte.
--- Assumes nothing.
 use Prim.Native.Nat.{ℕ, _<_}
 use mathlib.Core.Path.{_≡_, sym, ap, _∙_}
 use native.Mathlib.Omega.{arith}

@@ -1,5 +1,4 @@
 -- `gtpu::go_on` meets its contract, for each of the four pairs of flags.
--- Assumes nothing.
 use Prim.Native.Nat.{_+_, _*_, _≤_}
 use mathlib.Core.Path.{_≡_, refl}
 use mathlib.Core.Bool.{Bool, true, false}

@@ -1,5 +1,4 @@
 -- `gtpu::judge_element` meets its contract: each way out is a law of proofs/Rows.antt, or what the callee ensures.
--- Assumes nothing.
 use native.Mathlib.Omega.{arith}
 use borrow.Author.Needs.{needs}
 use Rattle.gtpu.proofs.Rows.{refuses-27, teid-cut, teid-sound}

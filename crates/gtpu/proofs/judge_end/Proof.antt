@@ -1,5 +1,4 @@
 -- `gtpu::judge_end` meets its contract: the two tests are the two rows, in their order.
--- Assumes nothing.
 use native.Mathlib.Omega.{arith}
 use Rattle.error.proofs.Causes.{here, later, none, past, refuses, passes}
 use Rattle.gtpu.specs.Element.{endOf}

@@ -1,5 +1,4 @@
 -- `gtpu::judge_variable_length` meets its contract: each way out is a law of proofs/Rows.antt, at the length that was read.
--- Assumes nothing.
 use mathlib.Core.Path.{_≡_, sym, _∙_}
 use native.Mathlib.Omega.{arith}
 use borrow.Author.Needs.{needs}

@@ -1,5 +1,4 @@
 -- `gtpu::other_length` meets its contract. Where the `&&` is left early, its value is that of the test that failed.
--- Assumes nothing.
 use mathlib.Core.Path.{sym, _∙_}
 use mathlib.Core.Logic.{⊎-elim}
 use lib.Dec.{eqb}

@@ -1,6 +1,5 @@
--- `gtpu::validate_error_indication_ies` meets its contract. The loop's invariant: something is left, and with the flags so far it comes to
--- what the payload comes to. The measure is the length of what is left, from which each walk takes at least one byte.
--- Assumes nothing.
+-- `gtpu::validate_error_indication_ies` meets its contract. The loop's invariant: something is left, and with the flags so far it is judged as
+-- the payload is. The measure is the length of what is left, from which each walk takes at least one byte.
 use Prim.Native.Nat.{_<_}
 use mathlib.Core.Path.{_≡_, refl, sym, _∙_}
 use native.Mathlib.Omega.{arith}
@@ -31,7 +30,7 @@ loop-holds c = (omega arith, refl)
 walk-elements-requires : tie.Need-walk-elements-requires Inv-loop μ-loop
 walk-elements-requires c κs = omega arith
 
--- whatever the walk answers, it says what the payload comes to
+-- whatever the walk answers is the judgement of the payload
 comes : (w : tie.After-walk-elements Inv-loop μ-loop) → walkedMeans (w .walk-elements .result) (w .walk-elements .last .1 .1 .1 .1 .0) (w .before .before .loop .rest .now) ≡ elementsOf (w .before .before .before .before .before .args .payload .now)
 comes w = w .walk-elements .ensures .0 ∙ w .before .before .loop .inv .1
 

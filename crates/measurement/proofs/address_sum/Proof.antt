@@ -1,5 +1,4 @@
 -- `measurement::address_sum` meets its contract.
--- Assumes nothing.
 use native.Mathlib.Omega.{arith}
 use borrow.Author.Needs.{needs}
 use Rattle.measurement.proofs.Pseudo.{ipv4-folds, ipv6-folds}

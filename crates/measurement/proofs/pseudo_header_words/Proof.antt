@@ -1,5 +1,4 @@
 -- `measurement::pseudo_header_words` meets its contract.
--- Assumes nothing.
 use native.Mathlib.Omega.{arith}
 use borrow.Author.Needs.{needs}
 use Rattle.measurement.proofs.Pseudo.{pseudo-folds}

@@ -1,5 +1,4 @@
 -- `measurement::version_of` meets its contract.
--- Assumes nothing.
 use mathlib.Core.Path.{sym}
 use borrow.Author.Tests.{eq-eqb, ne-eqb}
 use Rattle.measurement.specs.Packet.{versionNumbered}

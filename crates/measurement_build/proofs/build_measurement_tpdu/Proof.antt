@@ -1,5 +1,4 @@
 -- `measurement_build::build_measurement_tpdu` meets its contract.
--- Assumes nothing.
 use Prim.Native.Nat.{ℕ, _+_}
 use mathlib.Core.Path.{_≡_, ap, _∙_}
 use mathlib.Core.Logic.{⊎-elim}

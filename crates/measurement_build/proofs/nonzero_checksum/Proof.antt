@@ -1,5 +1,4 @@
 -- `measurement_build::nonzero_checksum` meets its contract.
--- Assumes nothing.
 use Rattle.measurement_build.proofs.Headers.{ones-for-zero, as-it-is}
 use borrow.Author.Needs.{needs}
 use Rattle.measurement_build.proofs.nonzero_checksum.Statement.{statement}

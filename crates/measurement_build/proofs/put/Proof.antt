@@ -1,5 +1,4 @@
 -- `measurement_build::put` meets its contract.
--- Assumes nothing.
 use Rattle.field.proofs.Parts.{copied}
 use borrow.Author.Needs.{needs}
 use Rattle.measurement_build.proofs.put.Statement.{statement}

@@ -1,5 +1,4 @@
 -- `measurement_build::segment_words` meets its contract.
--- Assumes nothing.
 use native.Mathlib.Omega.{arith}
 use borrow.Author.Needs.{needs}
 use Rattle.measurement_build.proofs.Words.{halves-fold, segment-folds}

@@ -1,5 +1,4 @@
 -- `measurement_build::write_ipv4_header` meets its contract.
--- Assumes nothing.
 use Prim.Native.Nat.{_+_}
 use native.Mathlib.Omega.{arith}
 use lib.ListN.{length-set}

@@ -1,5 +1,4 @@
 -- `measurement_build::write_ipv6_header` meets its contract.
--- Assumes nothing.
 use native.Mathlib.Omega.{arith}
 use Rattle.measurement_build.proofs.Headers.{ipv6-put}
 use borrow.Author.Needs.{needs}

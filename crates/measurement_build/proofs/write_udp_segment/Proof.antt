@@ -1,5 +1,4 @@
 -- `measurement_build::write_udp_segment` meets its contract.
--- Assumes nothing.
 use Rattle.measurement_build.proofs.Headers.{segment-put}
 use borrow.Author.Needs.{needs}
 use Rattle.measurement_build.proofs.write_udp_segment.Statement.{statement}

@@ -1,5 +1,4 @@
 -- `measurement_decode::decode_measurement_tpdu` meets its contract.
--- Assumes nothing.
 use borrow.Author.Needs.{needs}
 use Rattle.measurement.specs.Read.{readOf}
 use Rattle.measurement.proofs.Accept.{read-by-zero}

@@ -1,5 +1,4 @@
 -- `measurement_decode::decoding_of` meets its contract.
--- Assumes nothing.
 use Prim.Native.Nat.{ℕ, zero, suc}
 use mathlib.Core.Path.{_≡_, refl, sym, ap}
 use Rattle.measurement.specs.declared.Decoding.the-variants.{Accepted, Refused}

@@ -1,5 +1,4 @@
 -- `measurement_decode::ipv4_address` meets its contract.
--- Assumes nothing.
 use Rattle.measurement_decode.proofs.Laws.{ipv4-made}
 use borrow.Author.Needs.{needs}
 use Rattle.measurement_decode.proofs.ipv4_address.Statement.{statement}

@@ -1,5 +1,4 @@
 -- `measurement_decode::ipv6_address` meets its contract.
--- Assumes nothing.
 use mathlib.Core.Path.{refl, _∙_}
 use Rattle.measurement_decode.proofs.Laws.{ipv6-copied}
 use borrow.Author.Needs.{needs}

@@ -1,5 +1,4 @@
 -- `measurement_decode::ipv6_address_sum` meets its contract.
--- Assumes nothing.
 use borrow.Author.Needs.{needs}
 use mathlib.Core.Path.{refl}
 use native.Mathlib.Omega.{arith}

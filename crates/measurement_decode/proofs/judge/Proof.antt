@@ -1,5 +1,4 @@
 -- `measurement_decode::judge` meets its contract.
--- Assumes nothing.
 use mathlib.Core.Path.{refl, ap, _∙_}
 use borrow.Author.Needs.{needs}
 use Rattle.error.specs.Outcome.{outcomeNumber}

@@ -1,5 +1,4 @@
 -- `measurement_decode::judge_ipv4` meets its contract.
--- Assumes nothing.
 use Prim.Native.Nat.{ℕ, _-_, _*_}
 use mathlib.Core.Path.{_≡_, ap, sym, _∙_}
 use native.Mathlib.Omega.{arith}

@@ -1,5 +1,4 @@
 -- `measurement_decode::length_wrong` meets its contract.
--- Assumes nothing.
 use Rattle.measurement.proofs.Rows.{length-short, length-past}
 use borrow.Author.Needs.{needs}
 use Rattle.measurement_decode.proofs.length_wrong.Statement.{statement}

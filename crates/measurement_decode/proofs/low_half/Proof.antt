@@ -1,5 +1,4 @@
 -- `measurement_decode::low_half` meets its contract.
--- Assumes nothing.
 use native.Mathlib.Omega.{arith}
 use lib.Bits.{and-mask}
 use borrow.Author.Needs.{needs}

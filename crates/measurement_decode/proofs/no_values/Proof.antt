@@ -1,5 +1,4 @@
 -- `measurement_decode::no_values` meets its contract.
--- Assumes nothing.
 use mathlib.Core.Path.{refl}
 use Rattle.measurement_decode.specs.Numbers.{tpduNumbers}
 use Rattle.measurement_decode.proofs.no_values.Statement.{statement}

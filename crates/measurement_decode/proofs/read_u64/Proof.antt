@@ -1,5 +1,4 @@
 -- `measurement_decode::read_u64` meets its contract.
--- Assumes nothing.
 use Rattle.measurement_decode.proofs.Laws.{eight}
 use borrow.Author.Needs.{needs}
 use Rattle.measurement_decode.proofs.read_u64.Statement.{statement}

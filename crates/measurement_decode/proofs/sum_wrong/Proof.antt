@@ -1,5 +1,4 @@
 -- `measurement_decode::sum_wrong` meets its contract.
--- Assumes nothing.
 use borrow.Author.Needs.{needs}
 use Rattle.measurement_decode.proofs.Laws.{sum-tested}
 use Rattle.measurement_decode.proofs.sum_wrong.Statement.{statement}

@@ -1,5 +1,4 @@
 -- `measurement_decode::values` meets its contract.
--- Assumes nothing.
 use native.Mathlib.Omega.{arith}
 use borrow.Author.Needs.{needs}
 use Rattle.measurement.proofs.Rows.{length-right}

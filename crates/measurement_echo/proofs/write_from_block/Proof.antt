@@ -1,5 +1,4 @@
 -- `measurement_echo::write_from_block` meets its contract.
--- Assumes nothing.
 use borrow.Author.Needs.{needs}
 use Rattle.measurement_echo.proofs.write_from_block.Statement.{statement}
 use Rattle.measurement_echo.proofs.write_from_block.Tie as tie

@@ -1,5 +1,4 @@
 -- `measurement_echo::write_ipv4_from_block` meets its contract.
--- Assumes nothing.
 use Rattle.measurement.specs.declared.InnerIpFlow.{InnerIpFlow}
 use Rattle.measurement.specs.declared.IpVersion.the-variants.{V4}
 use borrow.Author.Needs.{needs}

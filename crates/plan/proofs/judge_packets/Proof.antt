@@ -1,5 +1,4 @@
 -- `plan::judge_packets` meets its contract: the closed form of the two causes that stand at each packet.
--- Assumes nothing.
 use native.Mathlib.Omega.{arith}
 use mathlib.Core.Logic.{⊎-elim}
 use Rattle.plan.proofs.Judged.{closed-19, closed-20, closed-accepted}

@@ -1,5 +1,4 @@
 -- `plan::judge_plan` meets its contract.
--- Assumes nothing.
 use native.Mathlib.Omega.{arith}
 use mathlib.Core.Path.{refl, sym, ap, _∙_}
 use Rattle.plan.specs.Plan.{intervalMeans}

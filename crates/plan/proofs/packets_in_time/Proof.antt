@@ -1,5 +1,4 @@
 -- `plan::packets_in_time` meets its contract.
--- Assumes nothing.
 use native.Mathlib.Omega.{arith}
 use Rattle.plan.proofs.Judged.{in-time-some, in-time-all}
 use borrow.Author.Needs.{needs}

@@ -1,4 +1,4 @@
--- `received_tpdus::take_returns` meets its contract. The invariant: the numbers that are written, with what the returns that are left come to,
+-- `received_tpdus::take_returns` meets its contract. The invariant: the numbers that are written, with the outcome of the returns that are left,
 -- are the whole answer; and the observer is well formed.
 use Prim.Native.Nat.{ℕ, _≤_, _<_, _-_}
 use mathlib.Core.Path.{_≡_, refl, sym, ap, _∙_}

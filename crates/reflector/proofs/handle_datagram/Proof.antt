@@ -1,7 +1,6 @@
 -- `reflector::handle_datagram` meets its contract: a walk of its MIR, by hand. `find_session` is handed the table, and then `handle_found` what it found, with the payload and
 -- the output handed on as they are. Of what is passed by value or shared nothing is asked at the exit, so it is let go once it was handed on (`stay-dropped`).
 -- All that the proof knows of the two is that they meet their contracts.
--- Assumes nothing.
 use mathlib.Core.Path.{_≡_, refl, _∙_, ap, subst}
 use Prim.Native.Nat.{ℕ, _<_, _^_, _+_}
 use mathlib.Core.List.{[], _∷_, List}

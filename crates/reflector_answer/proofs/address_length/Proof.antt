@@ -1,5 +1,4 @@
 -- `reflector_answer::address_length` meets its contract.
--- Assumes nothing.
 use Rattle.measurement.specs.Packet.{addressLength}
 use borrow.Author.Needs.{needs}
 use Rattle.reflector_answer.proofs.address_length.Statement.{statement}

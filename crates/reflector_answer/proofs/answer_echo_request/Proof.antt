@@ -1,5 +1,4 @@
 -- `reflector_answer::answer_echo_request` meets its contract.
--- Assumes nothing.
 use native.Mathlib.Omega.{arith}
 use mathlib.Core.Path.{refl, sym, ap, _∙_}
 use Rattle.error.specs.Outcome.{refused}

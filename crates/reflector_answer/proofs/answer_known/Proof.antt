@@ -1,5 +1,4 @@
 -- `reflector_answer::answer_known` meets its contract.
--- Assumes nothing.
 use mathlib.Core.Path.{ap, ap₂, _∙_}
 use Rattle.error.specs.Outcome.{refused}
 use Rattle.reflector_sessions.specs.declared.SocketAddr.{SocketAddr}

@@ -1,5 +1,4 @@
 -- `reflector_answer::answer_message` meets its contract.
--- Assumes nothing.
 use native.Mathlib.Omega.{arith}
 use mathlib.Core.Path.{ap, _∙_}
 use Rattle.reflector_answer.proofs.Answers.{echo-fits, message-known, message-unknown, message-request, message-other, answers, other-leaves}

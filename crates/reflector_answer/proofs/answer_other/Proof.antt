@@ -1,5 +1,4 @@
 -- `reflector_answer::answer_other` meets its contract.
--- Assumes nothing.
 use mathlib.Core.Path.{refl, sym, ap, _∙_}
 use Rattle.error.specs.Outcome.{refused}
 use Rattle.reflector_answer.specs.Handle.{handledOf}

@@ -1,5 +1,4 @@
 -- `reflector_answer::answer_unknown` meets its contract.
--- Assumes nothing.
 use Rattle.reflector_answer.proofs.Answers.{indicated}
 use borrow.Author.Needs.{needs}
 use Rattle.reflector_answer.proofs.answer_unknown.Statement.{statement}

@@ -1,5 +1,4 @@
 -- `reflector_answer::error_indication` meets its contract.
--- Assumes nothing.
 use mathlib.Core.Path.{ap}
 use mathlib.Core.List.{List, _∷_, _++_}
 use lib.ListN.{drop}

@@ -1,5 +1,4 @@
 -- `reflector_answer::forward` meets its contract.
--- Assumes nothing.
 use borrow.Author.Needs.{needs}
 use Rattle.reflector_answer.proofs.forward.Statement.{statement}
 use Rattle.reflector_answer.proofs.forward.Tie as tie

@@ -1,5 +1,4 @@
 -- `reflector_answer::handle_found` meets its contract.
--- Assumes nothing.
 use mathlib.Core.Path.{refl, sym, ap, _∙_}
 use Rattle.reflector_sessions.specs.Judge.{judgedMeans, sessionFound}
 use Rattle.reflector_answer.proofs.Answers.{answers, handling-refused, handling-short, handling-passed}

@@ -1,5 +1,4 @@
 -- `reflector_answer::write_error_indication` meets its contract.
--- Assumes nothing.
 use native.Mathlib.Omega.{arith}
 use Rattle.reflector_answer.proofs.Payload.{size-fits, size-is, block-length, payload-length, copied}
 use borrow.Author.Needs.{needs}

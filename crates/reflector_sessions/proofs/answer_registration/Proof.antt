@@ -1,5 +1,4 @@
 -- `reflector_sessions::answer_registration` meets its contract.
--- Assumes nothing.
 use native.Mathlib.Omega.{arith}
 use mathlib.Core.Path.{sym, ap, _∙_}
 use Rattle.reflector_sessions.specs.Judge.{judgedMeans, sessionFound}

@@ -1,5 +1,4 @@
 -- `reflector_sessions::answer_removal` meets its contract.
--- Assumes nothing.
 use mathlib.Core.Path.{sym, ap, _∙_}
 use Rattle.reflector_sessions.specs.Judge.{judgedMeans, sessionFound}
 use Rattle.reflector_sessions.specs.declared.RemovedSession.{RemovedSession}

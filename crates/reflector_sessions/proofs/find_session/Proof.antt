@@ -1,7 +1,6 @@
 -- `reflector_sessions::find_session` meets its contract: a walk of its MIR, by hand. The slice's length is read, and three calls follow: `searched_count` and `no_session`, by
 -- value, and `first_row`, which is handed the shared slice on. At the exit nothing is asked of what was passed by value or shared (`stay-dropped`).
 -- All that the proof knows of the three is that they meet their contracts.
--- Assumes nothing.
 use mathlib.Core.Path.{_≡_, refl, sym, _∙_, ap, subst}
 use Prim.Native.Nat.{ℕ, _<_, _≤_, _^_}
 use mathlib.Core.List.{[], _∷_, List}
@@ -130,7 +129,7 @@ module _ {M : Type 1} (𝓤 : URA M) (H : Heap 𝓤) (A : Atoms 𝓤) (W : Given
   none-of : (missing : ReflectorSession) → ent 𝓤 (ensured 𝓤 H A none.ended (none.clauses 𝓤 H A at-mem run) tt tt tt missing) (fact 𝓤 (missing ≡ noSession))
   none-of missing = exE 𝓤 _ (λ ws. snd∗ 𝓤 (sem 𝓤 H A (lasts none.ended tt tt ws)) (fact 𝓤 (missing ≡ noSession)))
 
-  -- `first_row`, of so many rows
+  -- `first_row`, of the first rows
   abbrev row-args : ℕ → ReflectorSession → RefT (List ReflectorSession) × (ℕ × (ℕ × (ReflectorSession × Unit {0})))
   row-args rows missing = (x, (rows, (teid, (missing, tt))))
 

@@ -1,6 +1,5 @@
 -- `reflector_sessions::first_row` meets its contract: a walk of its MIR, by hand, with a loop (`loops`) and a branch that returns in it. The shared slice is looked into
 -- once, before the loop, and shut at each `return`; row i is taken out of it where it is read, and put back.
--- Assumes nothing.
 use mathlib.Core.Path.{_≡_, refl, sym, _∙_, ap}
 use mathlib.Core.Bool.{Bool, true, false, not}
 use Prim.Native.Nat.{ℕ, zero, suc, _<_, _≤_, _^_, _+_, _-_}

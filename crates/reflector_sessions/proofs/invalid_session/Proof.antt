@@ -1,5 +1,4 @@
 -- `reflector_sessions::invalid_session` meets its contract.
--- Assumes nothing.
 use borrow.Author.Tests.{eq-eqb, ne-eqb}
 use Rattle.reflector_sessions.specs.Register.{invalidSession}
 use Rattle.reflector_sessions.proofs.invalid_session.Statement.{statement}

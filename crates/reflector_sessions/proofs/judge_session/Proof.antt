@@ -1,5 +1,4 @@
 -- `reflector_sessions::judge_session` meets its contract.
--- Assumes nothing.
 use mathlib.Core.Path.{sym, _∙_}
 use Rattle.reflector_sessions.proofs.Registering.{session-invalid, session-same, session-conflicts, table-full, session-added}
 use borrow.Author.Needs.{needs}

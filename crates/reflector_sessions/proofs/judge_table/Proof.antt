@@ -1,5 +1,4 @@
 -- `reflector_sessions::judge_table` meets its contract: each way out is a law of proofs/Judging.antt.
--- Assumes nothing.
 use native.Mathlib.Omega.{arith}
 use mathlib.Core.Logic.{inl, inr, ⊎-elim}
 use borrow.Author.Tests.{ltb-true, ltb-false}

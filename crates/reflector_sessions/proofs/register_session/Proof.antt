@@ -1,7 +1,6 @@
 -- `register_session` meets its contract: a walk of its MIR, by hand. The slice is relent to `find_session` (`finds`), `answer_registration` answers by value from what was found, and the
 -- slice goes to `append` for good, with the used count of that answer. That the answer and the rows are those of the specs is `registers` of Calls.
 -- All that the proof knows of the three is that they meet their contracts.
--- Assumes nothing.
 use mathlib.Core.Path.{_≡_, refl, sym, ap, subst}
 use Prim.Native.Nat.{ℕ, _<_, _^_}
 use mathlib.Core.List.{[], _∷_, List}

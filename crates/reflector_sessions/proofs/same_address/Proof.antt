@@ -1,5 +1,4 @@
 -- `reflector_sessions::same_address` meets its contract.
--- Assumes nothing.
 use mathlib.Core.Path.{refl, sym, ap, _∙_}
 use borrow.Author.Tests.{not-true, not-false}
 use Rattle.measurement.specs.Packet.{addressLength}

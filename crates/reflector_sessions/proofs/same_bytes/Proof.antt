@@ -1,5 +1,4 @@
 -- `reflector_sessions::same_bytes` meets its contract: the bytes from i on decide.
--- Assumes nothing.
 use Prim.Native.Nat.{_-_, _≤_}
 use mathlib.Core.Path.{_≡_, sym, _∙_}
 use native.Mathlib.Omega.{arith}

@@ -1,5 +1,4 @@
 -- `reflector_sessions::same_session` meets its contract.
--- Assumes nothing.
 use mathlib.Core.Path.{ap₂, _∙_}
 use Rattle.reflector_sessions.specs.Session.{sameAddress}
 use Rattle.reflector_sessions.proofs.Same.{local-differs, peer-differs, address-decides}

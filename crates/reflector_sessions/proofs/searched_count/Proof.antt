@@ -1,5 +1,4 @@
 -- `reflector_sessions::searched_count` meets its contract.
--- Assumes nothing.
 use mathlib.Core.Path.{ap, sym, _∙_}
 use borrow.Author.Needs.{needs}
 use Rattle.reflector_sessions.specs.Judge.{judgedMeans}

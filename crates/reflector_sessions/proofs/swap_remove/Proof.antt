@@ -1,7 +1,6 @@
 -- `swap_remove` meets its contract: a walk of its MIR, by hand. Where the used count is to fall, the borrow is opened, the last used row is taken out, read and put back,
 -- the row of the hole is taken out and stored to, and the borrow is closed at the new rows. Both arms go on to the return (`rest`).
 -- Nothing here reads a row's fields.
--- Assumes nothing.
 use mathlib.Core.Path.{_≡_, refl, sym, ap, subst}
 use Prim.Native.Nat.{ℕ, _<_, _^_}
 use lib.Dec.{ltb, ltb→lt, nltb→le}

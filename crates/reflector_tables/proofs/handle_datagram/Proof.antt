@@ -1,6 +1,5 @@
 -- `handle_datagram` meets its contract: a walk of its MIR, by hand. The rows are copied to a local, which is lent to `testkit_handle_datagram` and had back; the payload and the output
 -- go to it for good. All that the proof knows of it is that it meets its contract.
--- Assumes nothing.
 use mathlib.Core.Path.{_≡_, refl}
 use Prim.Native.Nat.{ℕ, _<_, _^_}
 use mathlib.Core.List.{[], _∷_, List}

@@ -1,6 +1,5 @@
 -- `remove_session` meets its contract: `Changing.antt`'s walk of its MIR. All that the proof knows of `testkit_remove_session`, which is lent the rows, and of `removed_rows`, which
 -- puts its answer and the rows together, is that they meet their contracts.
--- Assumes nothing.
 use mathlib.Core.Path.{_≡_, refl, sym, subst}
 use Prim.Native.Nat.{ℕ, _<_, _^_}
 use mathlib.Core.List.{[], _∷_, List}

@@ -1,5 +1,4 @@
 -- `report::began` meets its contract: each return rewrites with the tests that led there.
--- Assumes nothing.
 use borrow.Author.Tests.{eq-eqb, ne-eqb}
 use Rattle.report.specs.Loops.{sinceOf}
 use Rattle.report.proofs.began.Statement.{statement}

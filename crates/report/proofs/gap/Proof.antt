@@ -1,5 +1,4 @@
 -- `report::gap` meets its contract: each return rewrites with the tests that led there.
--- Assumes nothing.
 use native.Mathlib.Omega.{arith}
 use borrow.Author.Needs.{needs}
 use borrow.Author.Tests.{eq-eqb, ne-eqb}

@@ -1,5 +1,4 @@
 -- `report::gather` meets its contract. The invariant: of the marked latencies, all but those from i on are gathered.
--- Assumes nothing.
 use Prim.Native.Nat.{_≤_, _+_, _-_}
 use mathlib.Core.List.{_∷_}
 use native.Mathlib.Omega.{arith}

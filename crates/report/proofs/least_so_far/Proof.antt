@@ -1,5 +1,4 @@
 -- `report::least_so_far` meets its contract: each return rewrites with the tests that led there.
--- Assumes nothing.
 use native.Mathlib.Omega.{arith}
 use borrow.Author.Tests.{eq-eqb, ne-eqb}
 use Rattle.report.specs.Loops.{leastSoFar}

@@ -1,5 +1,4 @@
 -- `report::longest_runs` meets its contract. The invariant: the longest so far, or the longest of what is left, is the whole answer.
--- Assumes nothing.
 use Prim.Native.Nat.{_≤_, _-_, max}
 use mathlib.Core.Path.{_≡_}
 use native.Mathlib.Omega.{arith}

@@ -1,5 +1,4 @@
 -- `report::mean` meets its contract: proofs/Division.antt.
--- Assumes nothing.
 use native.Mathlib.Omega.{arith}
 use borrow.Author.Needs.{needs}
 use Rattle.report.proofs.Division.{rest-below, front-below, back-below, mean-is}

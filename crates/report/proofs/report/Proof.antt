@@ -1,5 +1,4 @@
 -- `report::report` meets its contract: cause 21, then what the two loops found (proofs/Reporting.antt).
--- Assumes nothing.
 use Prim.Native.Nat.{_≤_}
 use mathlib.Core.Path.{sym, _∙_}
 use native.Mathlib.Omega.{arith}

@@ -1,5 +1,4 @@
 -- `report::summary` meets its contract.
--- Assumes nothing.
 use borrow.Author.Tests.{eq-eqb, ne-eqb}
 use Rattle.report.specs.Loops.{summaryOf}
 use Rattle.report.proofs.Division.{upper-below}

@@ -1,5 +1,4 @@
 -- `report::with_latency` meets its contract.
--- Assumes nothing.
 use borrow.Author.Needs.{needs}
 use Rattle.report.specs.Loops.{wordsOf}
 use Rattle.report.proofs.with_latency.Statement.{statement}

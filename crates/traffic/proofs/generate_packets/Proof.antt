@@ -1,5 +1,4 @@
 -- `traffic::generate_packets` meets its contract.
--- Assumes nothing.
 use native.Mathlib.Omega.{arith}
 use Rattle.traffic.proofs.Answers.{answer-refuses, length-fits, answer-short, answer-fits, answer-written}
 use borrow.Author.Needs.{needs}

@@ -1,5 +1,4 @@
 -- `traffic::packet_length` meets its contract.
--- Assumes nothing.
 use Prim.Native.Nat.{_+_}
 use mathlib.Core.Path.{sym, ap}
 use Rattle.measurement.specs.Packet.{ipHeaderLength}

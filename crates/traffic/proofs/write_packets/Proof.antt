@@ -1,5 +1,4 @@
 -- `traffic::write_packets` meets its contract. The loop's invariant: the packets before packet k stand at the front, and what lies behind them is as it was.
--- Assumes nothing.
 use Prim.Native.Nat.{_+_, _-_, _*_, _≤_}
 use native.Mathlib.Omega.{arith}
 use native.Mathlib.Nat.{suc-mul}

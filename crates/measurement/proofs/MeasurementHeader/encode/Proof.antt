@@ -1,5 +1,4 @@
 -- `measurement::MeasurementHeader::encode` meets its contract.
--- Assumes nothing.
 use Prim.Native.Nat.{ℕ}
 use mathlib.Core.Path.{ap₂}
 use mathlib.Core.List.{List, _++_}

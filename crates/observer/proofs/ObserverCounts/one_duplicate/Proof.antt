@@ -1,5 +1,4 @@
 -- `observer::ObserverCounts::one_duplicate` meets its contract.
--- Assumes nothing.
 use borrow.Author.Needs.{needs}
 use Rattle.observer.proofs.ObserverCounts.one_duplicate.Statement.{statement}
 use Rattle.observer.proofs.ObserverCounts.one_duplicate.Tie as tie

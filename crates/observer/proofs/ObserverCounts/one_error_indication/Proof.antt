@@ -1,5 +1,4 @@
 -- `observer::ObserverCounts::one_error_indication` meets its contract.
--- Assumes nothing.
 use borrow.Author.Needs.{needs}
 use Rattle.observer.proofs.ObserverCounts.one_error_indication.Statement.{statement}
 use Rattle.observer.proofs.ObserverCounts.one_error_indication.Tie as tie

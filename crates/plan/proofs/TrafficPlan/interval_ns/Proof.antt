@@ -1,5 +1,4 @@
 -- `plan::TrafficPlan::interval_ns` meets its contract.
--- Assumes nothing.
 use Rattle.plan.proofs.Judged.{rate-zero, rate-high, rate-good}
 use borrow.Author.Needs.{needs}
 use Rattle.plan.proofs.TrafficPlan.interval_ns.Statement.{statement}

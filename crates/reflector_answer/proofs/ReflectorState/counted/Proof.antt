@@ -1,5 +1,4 @@
 -- `reflector_answer::ReflectorState::counted` meets its contract.
--- Assumes nothing.
 use borrow.Author.Needs.{needs}
 use Rattle.reflector_answer.proofs.ReflectorState.counted.Statement.{statement}
 use Rattle.reflector_answer.proofs.ReflectorState.counted.Tie as tie

@@ -1,5 +1,4 @@
 -- `reflector_answer::ReflectorState::do_nothing` meets its contract.
--- Assumes nothing.
 use borrow.Author.Needs.{needs}
 use Rattle.reflector_answer.proofs.ReflectorState.do_nothing.Statement.{statement}
 use Rattle.reflector_answer.proofs.ReflectorState.do_nothing.Tie as tie

@@ -1,5 +1,4 @@
 -- `reflector_answer::ReflectorState::refuse` meets its contract.
--- Assumes nothing.
 use borrow.Author.Needs.{needs}
 use Rattle.reflector_answer.proofs.ReflectorState.refuse.Statement.{statement}
 use Rattle.reflector_answer.proofs.ReflectorState.refuse.Tie as tie

@@ -1,5 +1,4 @@
 -- `reflector_answer::ReflectorStats::counted` meets its contract.
--- Assumes nothing.
 use borrow.Author.Needs.{needs}
 use Rattle.reflector_answer.proofs.ReflectorStats.counted.Statement.{statement}
 use Rattle.reflector_answer.proofs.ReflectorStats.counted.Tie as tie

@@ -1,5 +1,4 @@
 -- `reflector_sessions::LentSocketAddr::value` meets its contract.
--- Assumes nothing.
 use borrow.Author.Needs.{needs}
 use Rattle.reflector_sessions.proofs.LentSocketAddr.value.Statement.{statement}
 use Rattle.reflector_sessions.proofs.LentSocketAddr.value.Tie as tie
