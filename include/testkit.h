@@ -11,12 +11,15 @@
  * What is proved, what is checked, what is only said. Each call is proved to be what document 01 and the RFCs say; its
  * contract stands beside its code, in crates/testkit_packets, testkit_sheet and testkit_reflector. This header is not
  * proved. firmware/run, which is part of the gate, checks of it
- *   - each declaration, with its types and names in their order, against the proved source;
+ *   - each call and each struct that the archive has, with types and names in their order, against the proved source;
+ *     struct testkit_sheet, struct testkit_table and the calls over them are the header's own, and are tried beside the
+ *     archive's calls (firmware/answers.c);
  *   - each enumerator and the version against a constant of the proved source, and that none is left out;
  *   - each size, alignment and offset: the C compiler asserts those that C's rules give for the proved source. The
  *     archive does not tell how its structs are laid out, so a program calls it with a value of its own in each field
  *     of each struct, and compares every field of every answer (firmware/answers.c);
- *   - each figure of stack, and the sentences on the red zone and on registers, against the archive's machine code;
+ *   - each figure of stack, how far the archive uses the red zone, and that it uses no other registers than are said
+ *     here, against its machine code;
  *   - each text of testkit_number_text against the card (.ci/card does this).
  * Every other sentence of a comment is checked by no machine.
  *
