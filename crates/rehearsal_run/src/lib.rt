@@ -217,7 +217,7 @@ pub fn rehearse(
     if let Written::Refused(number) = generate(s, &mut packets) {
         return refused(number);
     }
-    let entered = observer::batch::record_sent_plan(
+    let entered = sent_plan::record_sent_plan(
         sequences,
         send_timestamps,
         latencies,
