@@ -1,9 +1,5 @@
 // Replays a sample of the Rust's answers, without the Rust: each record of standard input is a call and what the Rust made of it, and the
 // proved call must do the same, in number, values and every byte lent. README.md says how the sample was made and what is in a record.
-mod data;
-mod packets;
-mod sessions;
-mod sheets;
 mod summary;
 
 ghost use mathlib.Core.Path.{_≡_};
@@ -13,19 +9,19 @@ ghost use lib.ListN.{length};
 // Whether the call of this kind agrees with the rest of its record.
 fn agrees(kind: u8, number: u8, s: &[u8]) -> bool {
     match kind {
-        0 => packets::checksum(number, s),
-        1 => packets::build(number, s),
-        2 => packets::decode(number, s),
-        3 => packets::echo(number, s),
-        4 => packets::generate(number, s),
-        5 => packets::elements(number, s),
-        6 => sheets::record_sent(number, s),
-        7 => sheets::record_received_tpdu(number, s),
-        8 => sheets::record_return_gtpu_datagram(number, s),
-        9 => sheets::report(number, s),
-        10 => sessions::register_session(number, s),
-        11 => sessions::remove_session(number, s),
-        12 => sessions::handle_datagram(number, s),
+        0 => replay_packets::checksum(number, s),
+        1 => replay_packets::build(number, s),
+        2 => replay_packets::decode(number, s),
+        3 => replay_packets::echo(number, s),
+        4 => replay_packets::generate(number, s),
+        5 => replay_packets::elements(number, s),
+        6 => replay_sheets::record_sent(number, s),
+        7 => replay_sheets::record_received_tpdu(number, s),
+        8 => replay_sheets::record_return_gtpu_datagram(number, s),
+        9 => replay_sheets::report(number, s),
+        10 => replay_sessions::register_session(number, s),
+        11 => replay_sessions::remove_session(number, s),
+        12 => replay_sessions::handle_datagram(number, s),
         _ => false,
     }
 }
@@ -34,13 +30,13 @@ fn agrees(kind: u8, number: u8, s: &[u8]) -> bool {
 fn record_length(s: &[u8], at: usize) -> usize
     ensures { λ r. ⌜ 4 ≤ r ⌝ }
 {
-    4 + data::word(s, data::after(at, 1)) as usize
+    4 + replay_data::word(s, replay_data::after(at, 1)) as usize
 }
 
 fn replay_record(record: &[u8], at: usize, counts: &mut [u64]) {
-    let kind = data::byte(record, 0);
-    let number = data::byte(record, 3);
-    let agreed = agrees(kind, number, data::rest(record, 4));
+    let kind = replay_data::byte(record, 0);
+    let number = replay_data::byte(record, 3);
+    let agreed = agrees(kind, number, replay_data::rest(record, 4));
     summary::note(counts, kind, number, agreed);
     if !agreed {
         io::write_all(1, b"differs: the record at byte ");
@@ -57,7 +53,7 @@ fn replay(s: &[u8], counts: &mut [u64]) -> usize {
         if s.len() - at < n {
             return at;
         }
-        replay_record(data::first(data::rest(s, at), n), at, counts);
+        replay_record(replay_data::first(replay_data::rest(s, at), n), at, counts);
         at += n;
     }
     at

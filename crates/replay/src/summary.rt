@@ -1,6 +1,5 @@
 // What is counted while the records are replayed: a row of cells for each kind of record, and one for all. Its cells: how many records, how
 // many agree, and for each number how many records are due it.
-use crate::data;
 ghost use mathlib.Core.Path.{_≡_};
 ghost use lib.ListN.{length};
 
@@ -24,7 +23,7 @@ pub fn fresh() -> [u64; 2048]
 }
 
 fn place(kind: u8, cell: usize) -> usize {
-    data::after(kind as usize * 128, cell)
+    replay_data::after(kind as usize * 128, cell)
 }
 
 fn cell(counts: &[u64], at: usize) -> u64 {
@@ -48,7 +47,11 @@ fn one_if(holds: bool) -> u64 {
 fn note_in_row(counts: &mut [u64], row: u8, number: u8, agrees: bool) {
     raise(counts, place(row, RECORDS), 1);
     raise(counts, place(row, AGREED), one_if(agrees));
-    raise(counts, place(row, data::after(NUMBERS, number as usize)), 1);
+    raise(
+        counts,
+        place(row, replay_data::after(NUMBERS, number as usize)),
+        1,
+    );
 }
 
 // Counts a record in the row of its kind and in that of all.
@@ -62,7 +65,7 @@ fn refusals(counts: &[u64], row: u8) -> u64 {
     let mut seen = 0;
     let mut number = 1;
     while number < MOST_NUMBERS {
-        let due = cell(counts, place(row, data::after(NUMBERS, number)));
+        let due = cell(counts, place(row, replay_data::after(NUMBERS, number)));
         seen = std::num::wrapping_add_u64(seen, one_if(due > 0));
         number += 1;
     }

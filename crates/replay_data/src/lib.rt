@@ -11,7 +11,7 @@ pub fn byte(s: &[u8], at: usize) -> u8 {
     0
 }
 
-// The place `n` bytes after another.
+// The place so many bytes after another.
 pub fn after(at: usize, n: usize) -> usize {
     std::num::wrapping_add_usize(at, n)
 }
@@ -73,23 +73,24 @@ pub fn first(s: &[u8], n: usize) -> &[u8] {
 
 // The 16 bytes of an address.
 pub fn address(s: &[u8], at: usize) -> [u8; 16] {
+    let bytes = rest(s, at);
     [
-        byte(s, at),
-        byte(s, after(at, 1)),
-        byte(s, after(at, 2)),
-        byte(s, after(at, 3)),
-        byte(s, after(at, 4)),
-        byte(s, after(at, 5)),
-        byte(s, after(at, 6)),
-        byte(s, after(at, 7)),
-        byte(s, after(at, 8)),
-        byte(s, after(at, 9)),
-        byte(s, after(at, 10)),
-        byte(s, after(at, 11)),
-        byte(s, after(at, 12)),
-        byte(s, after(at, 13)),
-        byte(s, after(at, 14)),
-        byte(s, after(at, 15)),
+        byte(bytes, 0),
+        byte(bytes, 1),
+        byte(bytes, 2),
+        byte(bytes, 3),
+        byte(bytes, 4),
+        byte(bytes, 5),
+        byte(bytes, 6),
+        byte(bytes, 7),
+        byte(bytes, 8),
+        byte(bytes, 9),
+        byte(bytes, 10),
+        byte(bytes, 11),
+        byte(bytes, 12),
+        byte(bytes, 13),
+        byte(bytes, 14),
+        byte(bytes, 15),
     ]
 }
 
@@ -104,4 +105,26 @@ pub fn same_flag(flag: bool, s: &[u8], at: usize) -> bool {
         return byte(s, at) == 1;
     }
     byte(s, at) == 0
+}
+
+// An output as the data has it before each call: longer than any in the data.
+pub fn dirty() -> [u8; 4096]
+    ensures { λ r. ⌜ 4096 ≡ length r ⌝ }
+{
+    [0xa5; 4096]
+}
+
+// Whether a call left an output so: the bytes that it was lent are those of the data.
+pub fn same_output(out: &[u8; 4096], due: &[u8]) -> bool {
+    check::same(first(out, due.len()), due)
+}
+
+// A number, or the limit where that is less.
+pub fn at_most(n: usize, limit: usize) -> usize
+    ensures { λ r. ⌜ r ≤ limit ⌝ }
+{
+    if n < limit {
+        return n;
+    }
+    limit
 }
