@@ -1,124 +1,136 @@
--- `sent_plan::record_sent_plan` meets its contract: 21, then the plan's own causes, then `enter_plan`.
-use native.Mathlib.Omega.{arith}
-use mathlib.Core.Path.{_≡_, sym, ap, _∙_}
-use mathlib.Core.Bool.{true}
-use borrow.Author.Needs.{needs}
-use borrow.Author.Tests.{not-true, not-false}
-use Rattle.plan.specs.Plan.{Judged}
-use Rattle.plan.proofs.Answers.{answer-refused, answer-accepted, answer-planned}
-use Rattle.observer.specs.Observer.{Observer}
-use Rattle.observer.specs.Judge.{wellFormed}
-use Rattle.observer.specs.Answer.{observerOf}
-use Rattle.sent_plan.proofs.SendingPlan.{plan-malformed, plan-judged}
 use Rattle.sent_plan.proofs.record_sent_plan.Statement.{statement}
 use Rattle.sent_plan.proofs.record_sent_plan.Tie as tie
+use Rattle.sent_plan.proofs.record_sent_plan.Reads as reads
+use Rattle.sent_plan.proofs.record_sent_plan.Lts as lts
+use Rattle.observer.proofs.ObserverCounts.entered.Reads as entered-reads
+use Rattle.observer.proofs.well_formed.Reads as well-formed-reads
+use Rattle.plan.proofs.judge_plan.Reads as judge-plan-reads
+use Rattle.rows.proofs.capacity.Reads as capacity-reads
+use Rattle.rows.proofs.enter.Reads as enter-reads
+use Rattle.sent_plan.proofs.rows_needed.Reads as rows-needed-reads
 
--- the observer as it came in
-abbrev start : tie.After-well-formed → tie.Start
-start c = c .before .before .before .before .before .before .before .before .before
+abbrev Inv-loop : tie.InvT-loop
+Inv-loop sequences₀ send-timestamps₀ latencies₀ marks₀ plan next-sequence interval used room so-far₀ k₀ sequences send-timestamps latencies marks so-far k =
+    ?
 
-abbrev observer : tie.Start → Observer
-observer c = observerOf (c .args .sequences .now) (c .args .send-timestamps .now) (c .args .latencies .now) (c .args .marks .now) (c .args .counts)
+abbrev μ-loop : tie.MeasureT-loop
+μ-loop sequences₀ send-timestamps₀ latencies₀ marks₀ plan next-sequence interval used room so-far₀ k₀ sequences send-timestamps latencies marks so-far k =
+    ?
 
--- it was judged
-abbrev judged : tie.After-judge-plan → tie.After-well-formed
-judged c = c .before .before
+well-formed-requires : tie.Need-well-formed-requires Inv-loop μ-loop
+well-formed-requires c κs = ?
 
-well-at : (c : tie.After-judge-plan) → wellFormed (observer (start (judged c))) ≡ true
-well-at c = sym (judged c .well-formed .ensures) ∙ not-false _ (c .before .if1 .left)
+same-length : tie.Need-same-length Inv-loop μ-loop
+same-length c = ?
 
--- the plan was accepted
-abbrev accepted : tie.After-enter-plan-arg4 → tie.After-answer2
-accepted c = c .before .before .before .before .before
+same-length-2 : tie.Need-same-length-2 Inv-loop μ-loop
+same-length-2 c = ?
 
-well-formed-requires : tie.Need-well-formed-requires
-well-formed-requires c κs = search needs
+same-length-3 : tie.Need-same-length-3 Inv-loop μ-loop
+same-length-3 c = ?
 
-same-length : tie.Need-same-length
-same-length c = search needs
+same-length-4 : tie.Need-same-length-4 Inv-loop μ-loop
+same-length-4 c = ?
 
-same-length-2 : tie.Need-same-length-2
-same-length-2 c = search needs
+returns : tie.Need-returns Inv-loop μ-loop
+returns c = ?
 
-same-length-3 : tie.Need-same-length-3
-same-length-3 c = search needs
+judge-plan-requires : tie.Need-judge-plan-requires Inv-loop μ-loop
+judge-plan-requires c κs = ?
 
-same-length-4 : tie.Need-same-length-4
-same-length-4 c = search needs
+enum-known-answer : tie.Need-enum-known-answer Inv-loop μ-loop
+enum-known-answer c = ?
 
-returns : tie.Need-returns
-returns c =
-    let s = start (c .before) in
-    plan-malformed (observer s) (s .args .plan) (s .args .next-sequence) (sym (c .before .well-formed .ensures) ∙ not-true _ (c .if1 .taken))
+enum-known-answer-2 : tie.Need-enum-known-answer-2 Inv-loop μ-loop
+enum-known-answer-2 c = ?
 
-judge-plan-requires : tie.Need-judge-plan-requires
-judge-plan-requires c κs = search needs
+capacity-requires : tie.Need-capacity-requires Inv-loop μ-loop
+capacity-requires c κs = ?
 
-enum-known-answer : tie.Need-enum-known-answer
-enum-known-answer c = search needs
+sub-if2 : tie.Need-sub-if2 Inv-loop μ-loop
+sub-if2 c = ?
 
-enum-known-answer-2 : tie.Need-enum-known-answer-2
-enum-known-answer-2 c = search needs
+rows-needed-requires : tie.Need-rows-needed-requires Inv-loop μ-loop
+rows-needed-requires c κs = ?
 
-enter-plan-requires : tie.Need-enter-plan-requires
-enter-plan-requires c κs =
-    let told = accepted c in
-    let called = told .before .before in
-    let s = start (judged called) in
-    let a = s .args in (
-      well-at called,
-      answer-planned (a .plan) (a .next-sequence) (called .judge-plan .result) (called .judge-plan .ensures) (told .answer2 .given .0 .0) (told .answer2 .given .1) (omega (arith, s .fits .next-sequence .fits)),
-    )
+same-length-5 : tie.Need-same-length-5 Inv-loop μ-loop
+same-length-5 c = ?
 
-same-length-5 : tie.Need-same-length-5
-same-length-5 c = search needs
+same-length-6 : tie.Need-same-length-6 Inv-loop μ-loop
+same-length-6 c = ?
 
-same-length-6 : tie.Need-same-length-6
-same-length-6 c = search needs
+same-length-7 : tie.Need-same-length-7 Inv-loop μ-loop
+same-length-7 c = ?
 
-same-length-7 : tie.Need-same-length-7
-same-length-7 c = search needs
+same-length-8 : tie.Need-same-length-8 Inv-loop μ-loop
+same-length-8 c = ?
 
-same-length-8 : tie.Need-same-length-8
-same-length-8 c = search needs
+returns-2 : tie.Need-returns-2 Inv-loop μ-loop
+returns-2 c = ?
 
-returns-2 : tie.Need-returns-2
-returns-2 c =
-    let told = c .before in
-    let called = told .before .before in
-    let s = start (judged called) in
-    let a = s .args in
-    plan-judged (observer s) (a .plan) (a .next-sequence) (well-at called) _
-    (answer-refused (a .plan) (a .next-sequence) (called .judge-plan .result) (called .judge-plan .ensures) (told .answer .given .0 .0) (told .answer .given .1))
+loop-holds : tie.Need-loop-holds Inv-loop μ-loop
+loop-holds c = ?
 
-same-length-9 : tie.Need-same-length-9
-same-length-9 c = search needs
+add-enter : tie.Need-add-enter Inv-loop μ-loop
+add-enter c = ?
 
-same-length-10 : tie.Need-same-length-10
-same-length-10 c = search needs
+mul-enter : tie.Need-mul-enter Inv-loop μ-loop
+mul-enter c = ?
 
-same-length-11 : tie.Need-same-length-11
-same-length-11 c = search needs
+add-enter-2 : tie.Need-add-enter-2 Inv-loop μ-loop
+add-enter-2 c = ?
 
-same-length-12 : tie.Need-same-length-12
-same-length-12 c = search needs
+enter-requires : tie.Need-enter-requires Inv-loop μ-loop
+enter-requires c κs = ?
 
-returns-3 : tie.Need-returns-3
-returns-3 c =
-    let e = c .before .before .before .before .before .before .before .before in
-    let told = accepted (e .before) in
-    let called = told .before .before in
-    let s = start (judged called) in
-    let a = s .args in
-    e .enter-plan .ensures
-    ∙ plan-judged (observer s) (a .plan) (a .next-sequence) (well-at called) _
-    (ap (λ (j : Judged). j .outcome)
-    (answer-accepted (a .plan) (a .next-sequence) (called .judge-plan .result) (called .judge-plan .ensures) (told .answer2 .given .0 .0) (told .answer2 .given .1) .2))
+entered-requires : tie.Need-entered-requires Inv-loop μ-loop
+entered-requires c κs = ?
+
+add-k : tie.Need-add-k Inv-loop μ-loop
+add-k c = ?
+
+loop-less : tie.Need-loop-less Inv-loop μ-loop
+loop-less c = ?
+
+loop-again : tie.Need-loop-again Inv-loop μ-loop
+loop-again c = ?
+
+same-length-9 : tie.Need-same-length-9 Inv-loop μ-loop
+same-length-9 c = ?
+
+same-length-10 : tie.Need-same-length-10 Inv-loop μ-loop
+same-length-10 c = ?
+
+same-length-11 : tie.Need-same-length-11 Inv-loop μ-loop
+same-length-11 c = ?
+
+same-length-12 : tie.Need-same-length-12 Inv-loop μ-loop
+same-length-12 c = ?
+
+returns-3 : tie.Need-returns-3 Inv-loop μ-loop
+returns-3 c = ?
+
+same-length-13 : tie.Need-same-length-13 Inv-loop μ-loop
+same-length-13 c = ?
+
+same-length-14 : tie.Need-same-length-14 Inv-loop μ-loop
+same-length-14 c = ?
+
+same-length-15 : tie.Need-same-length-15 Inv-loop μ-loop
+same-length-15 c = ?
+
+same-length-16 : tie.Need-same-length-16 Inv-loop μ-loop
+same-length-16 c = ?
+
+returns-4 : tie.Need-returns-4 Inv-loop μ-loop
+returns-4 c = ?
 
 pub record-sent-plan-spec : {M : Type 1} → statement M
 record-sent-plan-spec =
     tie.close
     (tie.spec
+    Inv-loop
+    μ-loop
     well-formed-requires
     same-length
     same-length-2
@@ -128,14 +140,30 @@ record-sent-plan-spec =
     judge-plan-requires
     enum-known-answer
     enum-known-answer-2
-    enter-plan-requires
+    capacity-requires
+    sub-if2
+    rows-needed-requires
     same-length-5
     same-length-6
     same-length-7
     same-length-8
     returns-2
+    loop-holds
+    add-enter
+    mul-enter
+    add-enter-2
+    enter-requires
+    entered-requires
+    add-k
+    loop-less
+    loop-again
     same-length-9
     same-length-10
     same-length-11
     same-length-12
-    returns-3)
+    returns-3
+    same-length-13
+    same-length-14
+    same-length-15
+    same-length-16
+    returns-4)
