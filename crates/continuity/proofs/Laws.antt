@@ -23,7 +23,7 @@ use Rattle.observer.specs.Answer.{observerOf, recordingMeans, recorded}
 use Rattle.observer.specs.declared.Recorded.{Recorded}
 use Rattle.observer.proofs.Calls.{judged-malformed, judged-well, return-malformed, indication-malformed, refusing-malformed, refusing-well}
 use Rattle.continuity.specs.Kinds.{messageTypeOf, kinds, kindAmong, messageKind}
-use Rattle.continuity.specs.Returns.{sequenceRead, recordReceivedTpdu, MessageStep, asMessage, unchanged, recordKind, recordReturnMessage}
+use Rattle.continuity.specs.Returns.{sequenceRead, recordReceivedTpdu, recordElements, MessageStep, asMessage, unchanged, recordKind, recordReturnMessage}
 use Rattle.continuity.specs.Answer.{messageMeans, messageRecorded, sequenceNumbers}
 use Rattle.continuity.specs.Reading.{tpduReturned, elementsReturned, kindReturned, messageReturned, recordReturned, kindIf}
 use Rattle.continuity.specs.declared.GtpuReturnDatagramOutcome.{GtpuReturnDatagramOutcome}
@@ -108,7 +108,7 @@ module _ (o : Observer) (time : ℕ) where
 -- ---- the answers
 
 -- a step, as the answer to a message of this kind
-abbrev withKind : Outcome GtpuReturnDatagramOutcome → Step → MessageStep
+abbrev pub withKind : Outcome GtpuReturnDatagramOutcome → Step → MessageStep
 withKind kind s = record { outcome = kindIf (s .outcome) kind; observer = s .observer }
 
 pub answered : (kind : Outcome GtpuReturnDatagramOutcome) (r : MessageRecorded) (s : Recorded) (c : Columns) {x : Step}
@@ -231,8 +231,12 @@ module _ (t : ℕ) (o : Observer) (time : ℕ) (payload : List ℕ) where
   abbrev returnedAs : Outcome GtpuReturnDatagramOutcome → Returned
   returnedAs x = elim x [ refused n ↦ returned.Refused n | gives kind ↦ kindReturned payload kind ]
 
-  abbrev recordAs : Outcome GtpuReturnDatagramOutcome → MessageStep
+  abbrev pub recordAs : Outcome GtpuReturnDatagramOutcome → MessageStep
   recordAs x = elim x [ refused n ↦ unchanged o (refused n) | gives kind ↦ recordKind o time payload kind ]
+
+  pub message-as : recordReturnMessage o time t payload ≡ recordAs (messageKind t)
+  unfolding recordReturnMessage
+  message-as = refl
 
   pub message-is : withKind (messageKind t) (recordReturned o time (messageReturned t payload)) ≡ recordReturnMessage o time t payload
   unfolding messageReturned recordReturnMessage
@@ -240,7 +244,7 @@ module _ (t : ℕ) (o : Observer) (time : ℕ) (payload : List ℕ) where
     where
       go : (x : Outcome GtpuReturnDatagramOutcome) → withKind x (recordReturned o time (returnedAs x)) ≡ recordAs x
       go (refused n) = not-noticed o n
-      go (gives MeasurementTpdu) = ap (withKind (gives MeasurementTpdu)) (received-is o time payload) ∙ as-message MeasurementTpdu _
-      go (gives ErrorIndication) = ap (withKind (gives ErrorIndication)) (elements-recorded o time (elementsOf payload)) ∙ as-message ErrorIndication _
+      go (gives MeasurementTpdu) = ap (withKind (gives MeasurementTpdu)) (received-is o time payload) ∙ as-message MeasurementTpdu (recordReceivedTpdu o time payload)
+      go (gives ErrorIndication) = ap (withKind (gives ErrorIndication)) (elements-recorded o time (elementsOf payload)) ∙ as-message ErrorIndication (recordElements o payload)
       go (gives EchoResponse) = noticed o EchoResponse
       go (gives (Ignored m)) = noticed o (Ignored m)

@@ -2,6 +2,7 @@
 // What each makes of an observer is defined in specs/Returns.antt, and its contract is that one equation: answer, counts
 // and every column at exit, on refusals too. What came back is read first, by value; then `record` judges 21 and does it.
 use gtpu::ElementsChecked;
+use gtpu::GtpuMessage;
 use observer::ObserverCounts;
 use observer::Recorded;
 use observer::Recording;
@@ -204,8 +205,8 @@ fn message_answer(message_type: u8, recorded: Recorded) -> MessageRecorded
     }
 }
 
-// Records a parsed GTP-U message that came back. Its TEID and sequence are not used and are no parameters. Refuses by 21;
-// 255 then as `record_received_tpdu` does, 26 as the walk over its elements does, and unknown types by 37.
+// Records a parsed GTP-U message that came back. Its TEID and sequence are not used. Refuses by 21; 255 then as
+// `record_received_tpdu` does, 26 as the walk over its elements does, and unknown types by 37.
 pub fn record_return_gtpu_datagram(
     sequences: &[u64],
     send_timestamps: &[u64],
@@ -213,12 +214,13 @@ pub fn record_return_gtpu_datagram(
     marks: &mut [u8],
     counts: ObserverCounts,
     return_timestamp_ns: u64,
-    message_type: u8,
+    message: GtpuMessage,
     payload: &[u8],
 ) -> MessageRecorded
     ensures { λ r. ⌜ recordsMessage (sheet sequences «send_timestamps» latencies marks) counts r
-        (λ o. recordReturnMessage o «return_timestamp_ns» «message_type» (now (payload .entry))) ⌝ }
+        (λ o. recordReturnMessage o «return_timestamp_ns» (message .«message_type») (now (payload .entry))) ⌝ }
 {
+    let message_type = message.message_type;
     let returned = read_message(message_type, payload);
     let recorded = record(
         sequences,
