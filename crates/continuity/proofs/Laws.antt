@@ -226,25 +226,30 @@ module _ (t : ℕ) where
   kind-other a b c d =
       sym (not-2 a b c ∙ other (Ignored 254) from-31 t (λ e. d (inr e)) ∙ other (Ignored 31) [] t (λ e. d (inl e)))
 
--- what was read of a message, recorded and answered, is the call
-module _ (t : ℕ) (o : Observer) (time : ℕ) (payload : List ℕ) where
+-- what is read of a message
+module _ (t : ℕ) (payload : List ℕ) where
   abbrev returnedAs : Outcome GtpuReturnDatagramOutcome → Returned
   returnedAs x = elim x [ refused n ↦ returned.Refused n | gives kind ↦ kindReturned payload kind ]
 
-  abbrev pub recordAs : Outcome GtpuReturnDatagramOutcome → MessageStep
-  recordAs x = elim x [ refused n ↦ unchanged o (refused n) | gives kind ↦ recordKind o time payload kind ]
+  pub returned-as : (x : Outcome GtpuReturnDatagramOutcome) → x ≡ messageKind t → returnedAs x ≡ messageReturned t payload
+  unfolding messageReturned
+  returned-as x e = ap returnedAs e
 
-  pub message-as : recordReturnMessage o time t payload ≡ recordAs (messageKind t)
-  unfolding recordReturnMessage
-  message-as = refl
+  -- recorded and answered it is the call
+  module _ (o : Observer) (time : ℕ) where
+    abbrev pub recordAs : Outcome GtpuReturnDatagramOutcome → MessageStep
+    recordAs x = elim x [ refused n ↦ unchanged o (refused n) | gives kind ↦ recordKind o time payload kind ]
 
-  pub message-is : withKind (messageKind t) (recordReturned o time (messageReturned t payload)) ≡ recordReturnMessage o time t payload
-  unfolding messageReturned recordReturnMessage
-  message-is = go (messageKind t)
-    where
-      go : (x : Outcome GtpuReturnDatagramOutcome) → withKind x (recordReturned o time (returnedAs x)) ≡ recordAs x
-      go (refused n) = not-noticed o n
-      go (gives MeasurementTpdu) = ap (withKind (gives MeasurementTpdu)) (received-is o time payload) ∙ as-message MeasurementTpdu (recordReceivedTpdu o time payload)
-      go (gives ErrorIndication) = ap (withKind (gives ErrorIndication)) (elements-recorded o time (elementsOf payload)) ∙ as-message ErrorIndication (recordElements o payload)
-      go (gives EchoResponse) = noticed o EchoResponse
-      go (gives (Ignored m)) = noticed o (Ignored m)
+    pub message-as : recordReturnMessage o time t payload ≡ recordAs (messageKind t)
+    unfolding recordReturnMessage
+    message-as = refl
+
+    pub message-is : withKind (messageKind t) (recordReturned o time (messageReturned t payload)) ≡ recordReturnMessage o time t payload
+    message-is = ap (λ (x : Returned). withKind (messageKind t) (recordReturned o time x)) (sym (returned-as (messageKind t) refl)) ∙ go (messageKind t) ∙ sym message-as
+      where
+        go : (x : Outcome GtpuReturnDatagramOutcome) → withKind x (recordReturned o time (returnedAs x)) ≡ recordAs x
+        go (refused n) = not-noticed o n
+        go (gives MeasurementTpdu) = ap (withKind (gives MeasurementTpdu)) (received-is o time payload) ∙ as-message MeasurementTpdu (recordReceivedTpdu o time payload)
+        go (gives ErrorIndication) = ap (withKind (gives ErrorIndication)) (elements-recorded o time (elementsOf payload)) ∙ as-message ErrorIndication (recordElements o payload)
+        go (gives EchoResponse) = noticed o EchoResponse
+        go (gives (Ignored m)) = noticed o (Ignored m)

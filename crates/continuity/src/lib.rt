@@ -1,6 +1,6 @@
 // The observer's two return calls (leaf 6; the Rust's traffic.rs): a T-PDU that came back, and a parsed GTP-U message.
 // What each makes of an observer is defined in specs/Returns.antt, and its contract is that one equation: answer, counts
-// and every column at exit, on refusals too. What came back is read first, by value; then `record` judges 21 and does it.
+// and every column at exit, on refusals too. What came back is read first, by value; then `record_returned` judges 21 and records it.
 use gtpu::ElementsChecked;
 use gtpu::GtpuMessage;
 use observer::ObserverCounts;
@@ -120,7 +120,7 @@ fn read_message(message_type: u8, payload: &[u8]) -> Returned
 }
 
 // Records what came back at this time: 21, then what was read.
-fn record(
+fn record_returned(
     sequences: &[u64],
     send_timestamps: &[u64],
     latencies: &mut [u64],
@@ -175,7 +175,7 @@ pub fn record_received_tpdu(
         (λ o. recordReceivedTpdu o «return_timestamp_ns» (now (tpdu .entry))) ⌝ }
 {
     let returned = read_tpdu(tpdu);
-    record(
+    record_returned(
         sequences,
         send_timestamps,
         latencies,
@@ -222,7 +222,7 @@ pub fn record_return_gtpu_datagram(
 {
     let message_type = message.message_type;
     let returned = read_message(message_type, payload);
-    let recorded = record(
+    let recorded = record_returned(
         sequences,
         send_timestamps,
         latencies,

@@ -1,9 +1,12 @@
+-- `continuity::message_answer` meets its contract.
 use borrow.Author.Needs.{needs}
+use mathlib.Core.Path.{refl, sym, ap, _∙_}
+use Rattle.observer.specs.Answer.{recordingMeans}
+use Rattle.observer.specs.declared.Recording.{Recording}
+use Rattle.continuity.specs.Kinds.{messageKind}
+use Rattle.continuity.specs.Reading.{kindIf}
 use Rattle.continuity.proofs.message_answer.Statement.{statement}
 use Rattle.continuity.proofs.message_answer.Tie as tie
-use Rattle.continuity.proofs.message_answer.Reads as reads
-use Rattle.continuity.proofs.message_answer.Lts as lts
-use Rattle.continuity.proofs.message_kind.Reads as message-kind-reads
 
 enum-known-answer : tie.Need-enum-known-answer
 enum-known-answer c = search needs
@@ -15,11 +18,16 @@ message-kind-requires : tie.Need-message-kind-requires
 message-kind-requires c κs = search needs
 
 returns : tie.Need-returns
-returns c = ?
+returns c =
+    let known = c .before in
+    let a = known .before .before .before .args in
+    (ap (λ (x : Recording). kindIf (recordingMeans x) (messageKind (a .message-type))) (sym (known .answer .given .1)), refl)
 
 returns-2 : tie.Need-returns-2
-returns-2 c = ?
+returns-2 c =
+    let told = c .before in
+    let a = told .before .before .before .args in
+    (c .message-kind .ensures ∙ ap (λ (x : Recording). kindIf (recordingMeans x) (messageKind (a .message-type))) (sym (told .enum-told .given .1)), refl)
 
 pub message-answer-spec : {M : Type 1} → statement M
-message-answer-spec =
-    tie.close (tie.spec enum-known-answer enum-told message-kind-requires returns returns-2)
+message-answer-spec = tie.close (tie.spec enum-known-answer enum-told message-kind-requires returns returns-2)
