@@ -1,9 +1,11 @@
-// The report on a run: document 01's leaf 7 (`ContinuityObserver::report` of the Rust's traffic.rs). One pass over the rows gathers the
-// latencies, whose sum takes two words, and one the runs of lost packets. What the report says is defined in specs/Report.antt.
+// The report on a run: document 01's leaf 7 (`ContinuityObserver::report` of the Rust's traffic.rs). One pass over the
+// rows gathers the latencies, whose sum takes two words, and one the runs of lost packets. What the report says is defined
+// in specs/Report.antt.
 ghost use mathlib.Core.Path.{_≡_};
 ghost use Prim.Native.Nat.{_≤_, _<_, _+_, _/_, max};
 ghost use lib.ListN.{length, take};
 ghost use Rattle.evidence.specs.Latency.{latencyMeans};
+ghost use Rattle.rows.specs.Columns.{sheet};
 ghost use Rattle.observer.specs.Answer.{lent};
 ghost use Rattle.report.specs.Report.{withinBudget, reporting};
 ghost use Rattle.report.specs.Answer.{reportedMeans};
@@ -202,7 +204,7 @@ pub fn report(
     budget: PacketContinuityBudget,
 ) -> Reported
     ensures { λ r. ⌜ reportedMeans r
-        ≡ reporting (lent sequences «send_timestamps» latencies marks counts)
+        ≡ reporting (lent (sheet sequences «send_timestamps» latencies marks) counts)
         «window_start_ns» «window_end_ns» budget ⌝ }
 {
     if !observer::well_formed(sequences, send_timestamps, latencies, marks, counts) {
