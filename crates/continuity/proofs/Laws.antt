@@ -253,3 +253,21 @@ module _ (t : ℕ) (payload : List ℕ) where
         go (gives ErrorIndication) = ap (withKind (gives ErrorIndication)) (elements-recorded o time (elementsOf payload)) ∙ as-message ErrorIndication (recordElements o payload)
         go (gives EchoResponse) = noticed o EchoResponse
         go (gives (Ignored m)) = noticed o (Ignored m)
+
+-- a message by its type
+module _ (t : ℕ) (o : Observer) (time : ℕ) (payload : List ℕ) where
+  pub message-255 : t ≡ 255 → asMessage MeasurementTpdu (recordReceivedTpdu o time payload) ≡ recordReturnMessage o time t payload
+  message-255 h = sym (message-as t payload o time ∙ ap (recordAs t payload o time) (sym (kind-255 t h)))
+
+  pub message-26 : t ≡ 26 → asMessage ErrorIndication (recordElements o payload) ≡ recordReturnMessage o time t payload
+  message-26 h = sym (message-as t payload o time ∙ ap (recordAs t payload o time) (sym (kind-26 t h)))
+
+  pub message-other : (t ≡ 255 → ⊥) → (t ≡ 26 → ⊥) → unchanged o (messageKind t) ≡ recordReturnMessage o time t payload
+  message-other h k = go (messageKind t) refl ∙ sym (message-as t payload o time)
+    where
+      go : (x : Outcome GtpuReturnDatagramOutcome) → messageKind t ≡ x → unchanged o x ≡ recordAs t payload o time x
+      go (refused n) e = refl
+      go (gives MeasurementTpdu) e = absurd (h (sym (kind-is t MeasurementTpdu e .0)))
+      go (gives ErrorIndication) e = absurd (k (sym (kind-is t ErrorIndication e .0)))
+      go (gives EchoResponse) e = refl
+      go (gives (Ignored m)) e = refl

@@ -20,6 +20,7 @@ use Rattle.observer.specs.Judge.{wellFormed, judged, afterReading}
 use Rattle.columns.specs.Place.{holds}
 use Rattle.observer.specs.Sending.{entered, sendingCauses, recordSent}
 use Rattle.observer.specs.Returning.{arrivalCauses, arrived, arrival, recordReturn}
+use Rattle.rows.specs.Columns.{columnsOf}
 use Rattle.observer.specs.Answer.{observerOf}
 use Rattle.continuity.specs.Returns.{sequenceRead, recordReceivedTpdu}
 use Rattle.report.specs.Report.{reportOf, reporting}
@@ -43,7 +44,7 @@ range4 q t g h = record {
 -- the observer of five rows, some of them used: sequences, send times, latencies, marks
 abbrev observed : List ℕ → List ℕ → List ℕ → List ℕ → ℕ → Observer
 observed qs ts ls ms used =
-    observerOf qs ts ls ms (record { used = used; «duplicate_packets» = 0; «out_of_order_packets» = 0; «gtpu_error_indications» = 0 })
+    observerOf (columnsOf qs ts ls ms) (record { used = used; «duplicate_packets» = 0; «out_of_order_packets» = 0; «gtpu_error_indications» = 0 })
 
 abbrev one : Observer
 one = observed (1 ∷ 9 ∷ 9 ∷ 9 ∷ 9 ∷ []) (0 ∷ 9 ∷ 9 ∷ 9 ∷ 9 ∷ []) (0 ∷ 9 ∷ 9 ∷ 9 ∷ 9 ∷ []) (0 ∷ 9 ∷ 9 ∷ 9 ∷ 9 ∷ []) 1
