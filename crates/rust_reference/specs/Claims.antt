@@ -10,6 +10,7 @@ use lib.ListN.{length}
 use Rattle.error.specs.Number.{outputTooShort, tooManyPackets, malformedObserver, observerFull, invalidReflectorCapacity, malformedReflectorTable}
 use Rattle.error.specs.Outcome.{Outcome, refused, gives}
 use Rattle.gtpu.specs.Element.{elementsOf}
+use Rattle.gtpu.specs.Message.{gtpuMsgGpdu}
 use Rattle.field.specs.Field.{Bytes}
 use Rattle.checksum.specs.Sum.{checksumOf}
 use Rattle.measurement.specs.Packet.{probe, buildOf}
@@ -36,6 +37,7 @@ use Rattle.reflector_answer.specs.Handle.{placed}
 use Rattle.reflector_answer.specs.declared.GtpuMessage.{GtpuMessage}
 use Rattle.reflector_answer.specs.declared.MultiSessionReflectorConfig.{MultiSessionReflectorConfig}
 use Rattle.reflector_answer.specs.declared.ReflectorPolicy.{ReflectorPolicy}
+use Rattle.reflector_answer.specs.declared.ReflectorPolicy.the-variants.{SinkAndCount}
 use Rattle.reflector_sessions.specs.Register.{registerSession}
 use Rattle.reflector_sessions.specs.Remove.{removeSession}
 use Rattle.reflector_sessions.specs.declared.ReflectorSession.{ReflectorSession}
@@ -68,9 +70,14 @@ NoneAdded o = (n : ℕ) → Added n → o ≡ refused n → ⊥
 
 -- ---- what is compared
 
--- Every T-PDU; and no two of our numbers are compared as one.
+-- Every T-PDU; every message that is no T-PDU, whatever its payload; and no two of our numbers are compared as one.
 pub record WhatIsCompared : Type 0 where
   pub every-tpdu : (tpdu : List ℕ) → Bytes tpdu → Compared tpdu
+  pub every-other-return : (messageType : ℕ) (payload : List ℕ) → (messageType ≡ gtpuMsgGpdu → ⊥)
+      → ComparedReturn messageType payload
+  pub every-other-message : (policy : ReflectorPolicy) (message : GtpuMessage) (payload : List ℕ)
+      → (message .«message_type» ≡ gtpuMsgGpdu → ⊥) → ComparedMessage policy message payload
+  pub every-sunk-message : (message : GtpuMessage) (payload : List ℕ) → ComparedMessage SinkAndCount message payload
   pub every-refusal : (n m : ℕ) → asTheRustTells n ≡ asTheRustTells m → n ≡ m
 
 -- ---- evidence.rs
