@@ -4,3 +4,4 @@ pub mod Demand
 pub mod Cases
 pub mod Attained
 pub mod Batches
+pub mod Malformed
