@@ -1,5 +1,5 @@
-// What is proved of whole runs, on the contracts of functions that do nothing: document 01's tally and the claims are in specs/, the proofs
-// in proofs/.
+// What is proved of whole runs, on the contracts of functions that do nothing: document 01's tally and the claims are
+// in specs/, the proofs in proofs/.
 ghost use Rattle.tally.specs.Demand.{Demand3};
 ghost use Rattle.tally.specs.Attained.{Attained};
 ghost use Rattle.tally.specs.Cases.{EightCases};
