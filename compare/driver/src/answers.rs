@@ -36,8 +36,7 @@ pub fn refusals() -> Part {
         part.case(&[], answer, Some(number));
         seen.insert(number);
     }
-    let numbers = CARD.filter(|number| !NOT_IN_THE_RUST.contains(number));
-    part.case(&[], seen, numbers.collect());
+    part.case(&[], seen, of_the_rust());
     part
 }
 

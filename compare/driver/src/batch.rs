@@ -1,8 +1,7 @@
 //! Our batch calls against single calls in a loop, the Rust's and ours: the packets of a plan, all or
 //! none, and lists of returns. The Rust has no batch calls.
 
-use std::iter;
-
+use crate::compared::{as_the_rust_tells, compared, Answer};
 use crate::numbers::*;
 use crate::observer::{any_call, any_contents, any_rows, malformed_sheet, time_near, Call, Pair};
 use crate::ours_traffic::RunSheet;
@@ -38,13 +37,7 @@ pub fn batches(seed: u64, rounds: u64) -> Part {
         }
         pair.reports(&mut part, &mut random);
     }
-    seen.require(
-        &mut part,
-        iter::once(0)
-            .chain(READING)
-            .chain(TARGET_RATE_IS_ZERO..=SEND_TIMESTAMP_OVERFLOW)
-            .chain(OBSERVER_FULL..=TIMESTAMP_REVERSED),
-    );
+    seen.require(&mut part, answers(&[READING, PLANNING, OBSERVING]));
     part
 }
 
@@ -139,17 +132,17 @@ fn enter(part: &mut Part, seen: &mut Seen, pair: &mut Pair, plan: Plan) -> u8 {
                     sequence: packet.sequence,
                     send_time: packet.send_timestamp_ns,
                 };
-                pair.due_answer(&mut Seen::default(), &call);
+                pair.due_answer(&call);
             }
             0
         }
     };
-    seen.add(number);
     let mut ours = pair.ours.clone();
     let answer = send(&mut ours, plan);
+    seen.add(answer);
     let due = pair.due();
     let differences = (difference(&ours, &due), difference(&ours, &singly));
-    part.case(&[], (answer, differences), (number, (None, None)));
+    part.case(&[], (answer.told(), differences), (number, (None, None)));
     pair.ours = due;
     answer
 }
@@ -237,14 +230,24 @@ impl Due {
         due
     }
 
-    /// Takes the list on our sheet and compares every column.
-    fn compare(&self, part: &mut Part, mut ours: RunSheet, due: &RunSheet, returns: &Returns) {
+    /// Takes the list on our sheet and compares every column. The numbers that ours wrote.
+    fn compare(
+        &self,
+        part: &mut Part,
+        mut ours: RunSheet,
+        due: &RunSheet,
+        returns: &Returns,
+    ) -> Vec<u8> {
         let times: Vec<u64> = returns.iter().map(|(time, _)| *time).collect();
         let lengths: Vec<usize> = returns.iter().map(|(_, tpdu)| tpdu.len()).collect();
         let tpdus: Vec<u8> = returns.iter().flat_map(|(_, tpdu)| tpdu.clone()).collect();
         let (mut returned, mut numbers) = self.before.clone();
         let answer =
             ours.record_received_tpdus(&times, &lengths, &tpdus, &mut returned, &mut numbers);
+        let written = numbers[..self.returns].to_vec();
+        for number in &mut numbers[..self.returns] {
+            *number = as_the_rust_tells(*number);
+        }
         let answer = (answer, returned, numbers, difference(&ours, due));
         let due = (
             (self.returns, self.number),
@@ -253,17 +256,27 @@ impl Due {
             None,
         );
         part.case(&tpdus, answer, due);
+        written
     }
 }
 
 /// Takes a list of returns on both sides.
 fn take(part: &mut Part, seen: &mut Seen, random: &mut Random, pair: &mut Pair, rows: usize) {
-    let returns = any_returns(random, &pair.contents, rows);
+    let mut returns = any_returns(random, &pair.contents, rows);
+    returns.retain(|(_, tpdu)| {
+        let compared = compared(tpdu);
+        if !compared {
+            part.leave_out();
+        }
+        compared
+    });
     let due = Due::of(random, &returns, |k| {
         let (time, tpdu) = returns[k].clone();
-        pair.due_answer(seen, &Call::Tpdu { time, tpdu }).number
+        pair.due_answer(&Call::Tpdu { time, tpdu }).number
     });
     let sheet = pair.due();
-    due.compare(part, pair.ours.clone(), &sheet, &returns);
+    for number in due.compare(part, pair.ours.clone(), &sheet, &returns) {
+        seen.add(number);
+    }
     pair.ours = sheet;
 }

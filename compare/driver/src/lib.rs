@@ -8,6 +8,7 @@ pub mod answers;
 pub mod batch;
 pub mod cases;
 pub mod checksum;
+pub mod compared;
 pub mod damage;
 pub mod gtpu;
 pub mod lists;

@@ -2,11 +2,11 @@
 //! sheets, which the Rust cannot have.
 
 use std::collections::BTreeMap;
-use std::iter;
 
 use testkit_open::evidence::PacketContinuityBudget;
 use testkit_open::traffic::GtpuReturnDatagramOutcome;
 
+use crate::compared::{compared, leave_out, Answer};
 use crate::gtpu::any_elements;
 use crate::numbers::*;
 use crate::ours_traffic::{Noted, Report, RunSheet};
@@ -53,7 +53,7 @@ pub fn runs(seed: u64, rounds: u64) -> Part {
             each_type(&mut part, &mut seen, &mut random, &mut pair);
         }
     }
-    seen.require(&mut part, due());
+    seen.require(&mut part, every_number());
     part
 }
 
@@ -72,7 +72,7 @@ pub fn states(seed: u64, rounds: u64) -> Part {
         pair.reports(&mut part, &mut random);
         run(&mut part, &mut seen, &mut random, &mut pair, 20);
     }
-    seen.require(&mut part, due());
+    seen.require(&mut part, every_number());
     part
 }
 
@@ -84,13 +84,9 @@ pub(crate) fn any_rows(random: &mut Random, round: u64) -> usize {
     }
 }
 
-/// The numbers that the calls of runs on well-formed sheets answer.
-fn due() -> impl Iterator<Item = u8> {
-    iter::once(0)
-        .chain(READING)
-        .chain([OBSERVER_FULL])
-        .chain(SEQUENCE_WAS_NOT_SENT..=MISSING_PEER_ADDRESS)
-        .chain([UNSUPPORTED_MESSAGE_TYPE])
+/// What the calls of runs on well-formed sheets answer.
+fn every_number() -> Vec<u8> {
+    answers(&[READING, OBSERVING, WALKING, &[UNSUPPORTED_MESSAGE_TYPE]])
 }
 
 /// A sheet that was spoiled in one of four ways, and what it held before; every 128th time of each way
@@ -151,6 +147,19 @@ impl Call {
             Call::Sent { .. } => &[],
             Call::Tpdu { tpdu, .. } => tpdu,
             Call::Message { payload, .. } => payload,
+        }
+    }
+
+    /// The T-PDU that it has to read, if it has one.
+    pub(crate) fn tpdu(&self) -> Option<&[u8]> {
+        match self {
+            Call::Tpdu { tpdu, .. } => Some(tpdu),
+            Call::Message {
+                message_type: G_PDU,
+                payload,
+                ..
+            } => Some(payload),
+            _ => None,
         }
     }
 
@@ -272,7 +281,7 @@ impl Pair {
     }
 
     /// Makes a call on the Rust's observer: what ours has to answer.
-    pub(crate) fn due_answer(&mut self, seen: &mut Seen, call: &Call) -> Noted {
+    pub(crate) fn due_answer(&mut self, call: &Call) -> Noted {
         let due_answer = if self.full_for(call) {
             Noted {
                 number: OBSERVER_FULL,
@@ -282,19 +291,36 @@ impl Pair {
             call.on_rust(&mut self.rust)
         };
         self.contents = self.rust.sheet();
-        seen.add(due_answer.number);
         due_answer
     }
 
     /// Makes a call on both: the answers, the counts and every cell must be equal afterwards.
     fn call(&mut self, part: &mut Part, seen: &mut Seen, call: &Call) {
-        let due_answer = self.due_answer(seen, call);
         let mut ours = self.ours.clone();
         let answer = call.on_ours(&mut ours);
+        seen.add(answer.number);
+        if let Some(tpdu) = call.tpdu().filter(|tpdu| !compared(tpdu)) {
+            self.leaves_out(part, tpdu, answer, &ours);
+            return;
+        }
+        let due_answer = self.due_answer(call);
         let due = self.due();
-        let answer = (answer, difference(&ours, &due));
+        let answer = (answer.told(), difference(&ours, &due));
         part.case(call.input(), answer, (due_answer, None));
         self.ours = due;
+    }
+
+    /// A T-PDU that is not compared, which left our sheet like this: the Rust is not given it, and
+    /// both go on from where they were.
+    fn leaves_out(&self, part: &mut Part, tpdu: &[u8], answer: Noted, ours: &RunSheet) {
+        if let Some(number) = leave_out(part, tpdu) {
+            let answer = (answer.told(), difference(ours, &self.ours));
+            let due = Noted {
+                number,
+                ..Noted::default()
+            };
+            part.case(tpdu, answer, (due, None));
+        }
     }
 
     /// Reports, and the verdict on each: judged by the figures of a report that was made for another

@@ -2,12 +2,12 @@
 //! is in them. Nothing here, or in `sample_reflector.rs`, calls our library.
 
 use std::collections::{BTreeMap, BTreeSet};
-use std::iter;
 
 use testkit_open::traffic::TrafficPlan;
 
+use crate::compared::compared;
 use crate::gtpu::any_elements;
-use crate::numbers::{CARD, NOT_IN_THE_RUST};
+use crate::numbers::of_the_rust;
 use crate::observer::{any_call, any_contents, Call};
 use crate::ours::{Values, DIRTY_ADDRESS};
 use crate::ours_traffic::{Counts, Noted, Report, RunSheet};
@@ -77,11 +77,10 @@ pub fn sample(seed: u64, first: u8) -> Sample {
     sample.draw(REMOVE_SESSION, 10, 10, draw_remove);
     sample.draw(HANDLE_DATAGRAM, 4, 6, draw_handle);
     if first == 0 {
-        let due = iter::once(0)
-            .chain(CARD)
-            .filter(|number| !NOT_IN_THE_RUST.contains(number));
+        let mut due = of_the_rust();
+        due.insert(0);
         let numbers: BTreeSet<u8> = sample.seen.keys().map(|&(_, number, _)| number).collect();
-        assert_eq!(numbers, due.collect(), "the numbers of the sample");
+        assert_eq!(numbers, due, "the numbers of the sample");
     }
     sample
 }
@@ -174,13 +173,13 @@ fn draw_build(random: &mut Random) -> Option<Drawn> {
     Some((0, values.version, rest))
 }
 
-/// A short packet, often cut.
+/// A short packet that is compared, often cut.
 fn short_packet(random: &mut Random) -> Option<Vec<u8>> {
     let mut packet = any_packet(random);
     if random.below(4) == 0 {
         packet.truncate(random.below(packet.len() + 1));
     }
-    (packet.len() <= MOST_BYTES).then_some(packet)
+    (packet.len() <= MOST_BYTES && compared(&packet)).then_some(packet)
 }
 
 fn draw_decode(random: &mut Random) -> Option<Drawn> {
@@ -322,6 +321,9 @@ fn draw_call(random: &mut Random, kind: u8) -> Option<Drawn> {
     let call = any_call(random, &contents.rows, base, ROWS);
     let (call_kind, numbers, payload) = call_parts(&call);
     if call_kind != kind || payload.len() > MOST_BYTES {
+        return None;
+    }
+    if call.tpdu().is_some_and(|tpdu| !compared(tpdu)) {
         return None;
     }
     let room = lent.map(usize::from).into_iter().min()?;

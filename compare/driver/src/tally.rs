@@ -6,7 +6,9 @@
 
 use testkit_open::evidence::PacketContinuityBudget;
 
+use crate::compared::due;
 use crate::damage::{excluded, turn, window_starts};
+use crate::numbers::TIMESTAMP_REVERSED;
 use crate::ours::{self, Values};
 use crate::ours_traffic::{self, Report, RunSheet};
 use crate::packet::{part_at, word};
@@ -37,12 +39,12 @@ impl Tally {
         })
     }
 
-    /// Takes a return: its packet, by place in the plan, its time and the bytes that arrived. Of
-    /// the reader, only whether it refuses is asked.
-    fn take(&mut self, packet: usize, time: u64, arrived: &[u8]) {
+    /// Takes a return: its packet, by place in the plan, its time, and whether a reader refuses the
+    /// bytes that arrived.
+    fn take(&mut self, packet: usize, time: u64, is_refused: bool) {
         let sheet = &mut self.0;
         let row = sheet.rows[packet];
-        if decode(arrived).is_err() || time < row.send_time {
+        if is_refused || time < row.send_time {
             return;
         }
         if row.returned {
@@ -239,12 +241,12 @@ fn list(part: &mut Part, random: &mut Random, met: &mut Met, packets: &[(u64, u6
     for each in &returns {
         let before = sheet.clone();
         let number = each.on(&mut sheet);
-        tally.take(each.packet, each.time, &each.arrived);
+        tally.take(each.packet, each.time, is_refused(part, &each.arrived));
         let due = holding(&before, &tally.0);
         part.case(&each.arrived, difference(&sheet, &due), None);
 
         met.returns += 1;
-        met.too_early += u64::from(number == 24);
+        met.too_early += u64::from(number == TIMESTAMP_REVERSED);
         met.damaged_refused += u64::from(each.damaged && number != 0);
         met.damaged_taken += u64::from(each.damaged && number == 0);
         if number == 0 || !each.damaged {
@@ -266,6 +268,14 @@ fn list(part: &mut Part, random: &mut Random, met: &mut Met, packets: &[(u64, u6
         let due = tally.report(question);
         part.case(&[], sheet.report(start, end, budget), due);
         part.case(&[], second.report(start, end, budget), due);
+    }
+}
+
+/// Whether the Rust's reader refuses these bytes; ours, where they are not compared.
+fn is_refused(part: &mut Part, arrived: &[u8]) -> bool {
+    match due(part, arrived, decode) {
+        Some(due) => due.is_err(),
+        None => ours::decode(arrived).0 != 0,
     }
 }
 

@@ -3,6 +3,7 @@
 
 use testkit_open::traffic::{GeneratedPacket, TrafficPlan};
 
+use crate::compared::Answer;
 use crate::numbers::*;
 use crate::ours::{Values, Written};
 use crate::ours_traffic;
@@ -20,17 +21,6 @@ pub const MOST_PACKETS: u64 = 2_048;
 /// What an output has in it before a call, and how much of it lies past what is lent.
 const DIRT: u8 = 0xa5;
 const BEYOND: usize = 8;
-
-/// The generator's numbers.
-const EVERY_NUMBER: [u8; 7] = [
-    0,
-    OUTPUT_TOO_SHORT,
-    TARGET_RATE_IS_ZERO,
-    TARGET_RATE_EXCEEDS_RESOLUTION,
-    TOO_MANY_PACKETS,
-    SEQUENCE_OVERFLOW,
-    SEND_TIMESTAMP_OVERFLOW,
-];
 
 /// How many plans follow each other on one engine.
 const PLANS_OF_A_RUN: u64 = 12;
@@ -67,7 +57,7 @@ pub fn generating(seed: u64, rounds: u64) -> Part {
         }
         generates(&mut part, &mut seen, &mut random, first, count, rate);
     }
-    seen.require(&mut part, EVERY_NUMBER);
+    seen.require(&mut part, every_number());
     part
 }
 
@@ -79,8 +69,13 @@ pub fn runs(seed: u64, rounds: u64) -> Part {
     for _ in 0..rounds / (4 * PLANS_OF_A_RUN) {
         run(&mut part, &mut seen, &mut random);
     }
-    seen.require(&mut part, EVERY_NUMBER);
+    seen.require(&mut part, every_number());
     part
+}
+
+/// What the generator answers.
+fn every_number() -> Vec<u8> {
+    [&[0, OUTPUT_TOO_SHORT], PLANNING].concat()
 }
 
 /// What the first packet of a plan says, the plan's count and its rate. Often the sequence or the
@@ -228,14 +223,14 @@ fn generates_on(
             (0, bytes.len(), due.next_sequence)
         }
     };
-    seen.add(number);
+    seen.add(written.number);
     let size = if first.version == 4 { 52 } else { 72 };
     let both = out.chunks(size).zip(expected.chunks(size));
     let wrong_packet = both.into_iter().position(|(ours, due)| ours != due);
     let plan = [before, count, rate, first.send_time].map(u64::to_be_bytes);
     part.case(
         plan.as_flattened(),
-        (written, ours.next_sequence, wrong_packet),
+        (written.told(), ours.next_sequence, wrong_packet),
         (Written { number, bytes }, next_sequence, None),
     );
 }
