@@ -66,7 +66,7 @@ pub fn malformed_batches(seed: u64, rounds: u64) -> Part {
 }
 
 fn send(sheet: &mut RunSheet, (first, count, rate): Plan) -> u8 {
-    sheet.record_sent_plan(count, rate, first.send_time, first.sequence)
+    sheet.record_sent_plan(count, rate, first.send_timestamp_ns, first.sequence)
 }
 
 /// A plan near the rows of a sheet, near the tops, or anywhere; now and then with a count or a rate
@@ -98,7 +98,7 @@ fn any_plan(random: &mut Random, contents: &Sheet, rows: usize) -> Plan {
             row.sequence.saturating_sub(before).saturating_add(after)
         }
     };
-    first.send_time = match random.below(8) {
+    first.send_timestamp_ns = match random.below(8) {
         0 => near_top(random, 1_000_000_000 / rate.max(1)),
         1 => random.number(),
         _ => random.length(1 << 20) as u64,
@@ -130,7 +130,7 @@ fn enter(part: &mut Part, seen: &mut Seen, pair: &mut Pair, plan: Plan) -> u8 {
             for packet in packets {
                 let call = Call::Sent {
                     sequence: packet.sequence,
-                    send_time: packet.send_timestamp_ns,
+                    send_timestamp_ns: packet.send_timestamp_ns,
                 };
                 pair.due_answer(&call);
             }
@@ -147,9 +147,9 @@ fn enter(part: &mut Part, seen: &mut Seen, pair: &mut Pair, plan: Plan) -> u8 {
     answer
 }
 
-/// Plans that just fit and that do not, on a fresh sheet of so many rows: half of it, then all of it,
-/// of which half is there; one sequence further, for which no row is free; all of it once more, which
-/// needs no row; and counts that no plan may have.
+/// Plans that just fit and that do not, on a fresh sheet of `rows` rows: one for half of them; one for
+/// all, of which half are entered; one that goes a sequence further, for which no row is free; the
+/// second again, which needs no row; and counts that no plan may have.
 fn fit(part: &mut Part, seen: &mut Seen, random: &mut Random, rows: usize) {
     let mut pair = Pair::new(fresh(random, rows), Sheet::default());
     let all = rows as u64;
@@ -164,7 +164,7 @@ fn fit(part: &mut Part, seen: &mut Seen, random: &mut Random, rows: usize) {
     for (sequence, count, number) in plans {
         let mut first = any_probe(random);
         first.sequence = sequence;
-        first.send_time = random.length(1 << 20) as u64;
+        first.send_timestamp_ns = random.length(1 << 20) as u64;
         let answer = enter(part, seen, &mut pair, (first, count, 1_000));
         part.case(&[], answer, number);
     }
@@ -180,7 +180,9 @@ fn any_returns(random: &mut Random, contents: &Sheet, rows: usize) -> Returns {
         match any_call(random, &contents.rows, 0, rows) {
             Call::Tpdu { time, tpdu } => returns.push((time, tpdu)),
             Call::Message { time, payload, .. } => returns.push((time, payload)),
-            Call::Sent { send_time, .. } => returns.push((time_near(random, send_time), vec![])),
+            Call::Sent {
+                send_timestamp_ns, ..
+            } => returns.push((time_near(random, send_timestamp_ns), vec![])),
         }
     }
     returns

@@ -1,6 +1,6 @@
 //! The comparison of our library with the original Rust, one idea to a module. The binary
 //! `compare` (main.rs) runs its parts; `speed` (speed.rs) measures; `sample` (write_sample.rs)
-//! writes answers of the Rust's for `crates/replay`.
+//! writes the Rust's answers for `crates/replay`.
 
 #![deny(unsafe_code)]
 

@@ -19,7 +19,7 @@ use crate::wild::{any_probe, each_wild};
 /// What an output has in it before a call.
 const DIRT: u8 = 0xa5;
 
-/// One damaged packet in so many is echoed, if both sides refuse to read it.
+/// Of the damaged packets that both sides refuse to read, one in this many is echoed.
 const ECHO_SAMPLE: u64 = 64;
 
 /// Random and extreme probes into buffers of every kind. Ours is lent junk behind each IPv4
@@ -147,7 +147,7 @@ impl From<Probe> for Values {
             src_port: source.port(),
             dst_port: destination.port(),
             sequence: probe.sequence,
-            send_time: probe.send_time,
+            send_timestamp_ns: probe.send_timestamp_ns,
         }
     }
 }
@@ -161,7 +161,7 @@ fn as_ours(outcome: Outcome<Probe>) -> (u8, Values) {
         src_port: 0,
         dst_port: 0,
         sequence: 0,
-        send_time: 0,
+        send_timestamp_ns: 0,
     };
     match outcome {
         Ok(probe) => (0, probe.into()),
@@ -242,7 +242,7 @@ fn some_probes(version: u8) -> [Probe; 5] {
             ),
         },
         sequence: 0x0123_4567_89ab_cdef,
-        send_time: 1_700_000_000_123_456_789,
+        send_timestamp_ns: 1_700_000_000_123_456_789,
     };
     let all = |byte| {
         let port = u16::from_be_bytes([byte; 2]);
@@ -253,7 +253,7 @@ fn some_probes(version: u8) -> [Probe; 5] {
                 _ => Flow::new(([byte; 16], port), ([byte; 16], port)),
             },
             sequence: number,
-            send_time: number,
+            send_timestamp_ns: number,
         }
     };
     [ordinary, steered(ordinary), all(0x00), all(0xff), case]
@@ -269,9 +269,9 @@ fn steered(mut probe: Probe) -> Probe {
         let checksum = word(&build(probe), IPV4_HEADER_CHECKSUM_AT);
         probe.flow.destination = ending(checksum.to_be_bytes());
     }
-    probe.send_time &= !0xffff;
+    probe.send_timestamp_ns &= !0xffff;
     let (_, Word(checksum)) = checksums(&build(probe));
-    probe.send_time |= u64::from(checksum);
+    probe.send_timestamp_ns |= u64::from(checksum);
     probe
 }
 

@@ -26,7 +26,7 @@ const G_PDU: u8 = 255;
 pub(crate) enum Call {
     Sent {
         sequence: u64,
-        send_time: u64,
+        send_timestamp_ns: u64,
     },
     Tpdu {
         time: u64,
@@ -141,7 +141,7 @@ pub fn malformed(seed: u64, rounds: u64) -> Part {
 }
 
 impl Call {
-    /// What is printed of it.
+    /// What is printed of it where the two sides differ.
     fn input(&self) -> &[u8] {
         match self {
             Call::Sent { .. } => &[],
@@ -167,8 +167,8 @@ impl Call {
         match self {
             Call::Sent {
                 sequence,
-                send_time,
-            } => sheet.record_sent(*sequence, *send_time),
+                send_timestamp_ns,
+            } => sheet.record_sent(*sequence, *send_timestamp_ns),
             Call::Tpdu { time, tpdu } => sheet.record_received_tpdu(*time, tpdu),
             Call::Message {
                 time,
@@ -183,9 +183,9 @@ impl Call {
         let outcome = match self {
             Call::Sent {
                 sequence,
-                send_time,
+                send_timestamp_ns,
             } => {
-                observer.record_sent(*sequence, *send_time);
+                observer.record_sent(*sequence, *send_timestamp_ns);
                 return Noted::default();
             }
             Call::Tpdu { time, tpdu } => {
@@ -342,7 +342,7 @@ impl Pair {
     }
 }
 
-/// As many random calls, with reports now and then.
+/// This many random calls, with reports now and then.
 fn run(part: &mut Part, seen: &mut Seen, random: &mut Random, pair: &mut Pair, calls: usize) {
     let rows = capacity(&pair.ours);
     let base = match random.below(4) {
@@ -367,10 +367,10 @@ fn fill(part: &mut Part, seen: &mut Seen, random: &mut Random, pair: &mut Pair) 
         .collect();
     sequences.extend(pair.contents.rows.last().map(|row| row.sequence));
     for sequence in sequences {
-        let send_time = random.number();
+        let send_timestamp_ns = random.number();
         let call = Call::Sent {
             sequence,
-            send_time,
+            send_timestamp_ns,
         };
         pair.call(part, seen, &call);
     }
@@ -416,12 +416,12 @@ pub(crate) fn any_call(random: &mut Random, rows: &[Row], base: u64, capacity: u
                     1..4 => any_sequence,
                     _ => next,
                 },
-                send_time: time_near(random, last.map_or(0, |row| row.send_time)),
+                send_timestamp_ns: time_near(random, last.map_or(0, |row| row.send_timestamp_ns)),
             }
         }
         6 => Call::Sent {
             sequence: row.map_or(any_sequence, |row| row.sequence),
-            send_time: time_near(random, row.map_or(0, |row| row.send_time)),
+            send_timestamp_ns: time_near(random, row.map_or(0, |row| row.send_timestamp_ns)),
         },
         7..13 => {
             let mut probe = any_probe(random);
@@ -438,7 +438,7 @@ pub(crate) fn any_call(random: &mut Random, rows: &[Row], base: u64, capacity: u
             if random.below(4) == 0 {
                 spoil_tpdu(random, &mut tpdu);
             }
-            let time = time_near(random, row.map_or(0, |row| row.send_time));
+            let time = time_near(random, row.map_or(0, |row| row.send_timestamp_ns));
             if random.below(2) == 0 {
                 Call::Tpdu { time, tpdu }
             } else {
@@ -519,7 +519,7 @@ pub(crate) fn any_contents(random: &mut Random, rows: usize) -> Sheet {
         let returned = random.below(4) < returning;
         Row {
             sequence,
-            send_time: number(random),
+            send_timestamp_ns: number(random),
             latency: if returned { number(random) } else { 0 },
             returned,
         }
@@ -540,7 +540,7 @@ fn spoil(random: &mut Random, sheet: &mut RunSheet, way: u64) {
         0 if used == MOST_ROWS => {
             // A row more than there may be, all in order.
             sheet.sequences = (0..=used as u64).collect();
-            sheet.send_times.resize(used + 1, 0);
+            sheet.send_timestamps.resize(used + 1, 0);
             sheet.latencies.resize(used + 1, 0);
             sheet.marks = vec![0; used + 1];
             sheet.counts.used = used + 1;

@@ -1,5 +1,6 @@
 //! Our reflector against the Rust's: whole runs of registering, removal and messages on both
-//! sides, the table and the state compared after each call; and the refusals that the Rust has not.
+//! sides, the table and the state compared after each call; and the refusals that the Rust does not
+//! have.
 
 use testkit_open::reflector::{OpenReflector, ReflectorPolicy};
 
@@ -298,7 +299,8 @@ fn any_refused(random: &mut Random, round: u64) -> (Reflector, u8) {
 }
 
 impl Pair {
-    /// Fresh sides of so many sessions. Our table has rows to spare, all dirty.
+    /// Both sides, fresh, with room for `max_sessions`. Our table has up to two rows more, and anything
+    /// in all of them.
     fn new(random: &mut Random, max_sessions: usize, policy: u8) -> Self {
         let config = any_config(random, max_sessions, policy);
         let rust = rust_reflector(&config).expect("a maximum of 1 to 4,096");
@@ -324,8 +326,8 @@ impl Pair {
         &self.ours.sessions[..self.ours.used]
     }
 
-    /// Where our state or our used rows are not the Rust's, or some row, used or not, is not the one
-    /// of these.
+    /// Where our state or our used rows are not the Rust's, or some row, used or not, is not that of
+    /// `rows`.
     fn difference(&self, rows: &[Session]) -> Option<String> {
         let due = self.rust.state();
         let (ours, state) = (&self.ours, our_state(&due));

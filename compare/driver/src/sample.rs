@@ -134,7 +134,7 @@ fn flow_bytes(values: &Values) -> Vec<u8> {
 fn probe_bytes(values: &Values) -> Vec<u8> {
     let mut bytes = flow_bytes(values);
     bytes.extend(values.sequence.to_be_bytes());
-    bytes.extend(values.send_time.to_be_bytes());
+    bytes.extend(values.send_timestamp_ns.to_be_bytes());
     bytes
 }
 
@@ -202,7 +202,7 @@ fn no_values() -> Values {
         src_port: 0,
         dst_port: 0,
         sequence: 0,
-        send_time: 0,
+        send_timestamp_ns: 0,
     }
 }
 
@@ -231,7 +231,7 @@ fn draw_generate(random: &mut Random) -> Option<Drawn> {
         },
         first_send_timestamp_ns: match random.below(3) {
             0 => u64::MAX - random.length(1 << 32) as u64,
-            _ => probe.send_time,
+            _ => probe.send_timestamp_ns,
         },
     };
     if random.below(3) == 0 {
@@ -265,7 +265,7 @@ fn any_sheet(random: &mut Random, contents: &Sheet) -> (RunSheet, [u8; 4]) {
     let mut column = || -> Vec<u64> { (0..ROWS).map(|_| random.number()).collect() };
     let dirty = RunSheet {
         sequences: column(),
-        send_times: column(),
+        send_timestamps: column(),
         latencies: column(),
         marks: column().into_iter().map(|cell| cell as u8).collect(),
         counts: Counts::default(),
@@ -286,7 +286,7 @@ fn counts_bytes(counts: &Counts) -> Vec<u8> {
 /// Counts and columns: 175 bytes.
 fn sheet_bytes(sheet: &RunSheet) -> Vec<u8> {
     let mut bytes = counts_bytes(&sheet.counts);
-    for column in [&sheet.sequences, &sheet.send_times, &sheet.latencies] {
+    for column in [&sheet.sequences, &sheet.send_timestamps, &sheet.latencies] {
         bytes.extend(column.iter().flat_map(|cell| cell.to_be_bytes()));
     }
     bytes.extend(&sheet.marks);
@@ -298,8 +298,8 @@ fn call_parts(call: &Call) -> (u8, [u64; 2], &[u8]) {
     match call {
         Call::Sent {
             sequence,
-            send_time,
-        } => (RECORD_SENT, [*sequence, *send_time], &[]),
+            send_timestamp_ns,
+        } => (RECORD_SENT, [*sequence, *send_timestamp_ns], &[]),
         Call::Tpdu { time, tpdu } => (RECORD_RECEIVED_TPDU, [*time, 0], tpdu),
         Call::Message {
             time,

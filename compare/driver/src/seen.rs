@@ -12,7 +12,7 @@ impl Seen {
         *self.0.entry(number).or_insert(0) += 1;
     }
 
-    /// Prints the counts below the part, which fails if these are not the numbers that it met.
+    /// Prints the counts below the part, which fails if the numbers met are not these.
     pub fn require(&self, part: &mut Part, due: impl IntoIterator<Item = u8>) {
         let numbers: BTreeSet<u8> = self.0.keys().copied().collect();
         part.case(&[], numbers, due.into_iter().collect());

@@ -27,9 +27,9 @@ struct Tally(Sheet);
 impl Tally {
     /// Takes the packets, each with its sequence and send time.
     fn new(packets: impl Iterator<Item = (u64, u64)>) -> Self {
-        let row = |(sequence, send_time)| Row {
+        let row = |(sequence, send_timestamp_ns)| Row {
             sequence,
-            send_time,
+            send_timestamp_ns,
             latency: 0,
             returned: false,
         };
@@ -44,7 +44,7 @@ impl Tally {
     fn take(&mut self, packet: usize, time: u64, is_refused: bool) {
         let sheet = &mut self.0;
         let row = sheet.rows[packet];
-        if is_refused || time < row.send_time {
+        if is_refused || time < row.send_timestamp_ns {
             return;
         }
         if row.returned {
@@ -56,7 +56,7 @@ impl Tally {
             sheet.out_of_order = sheet.out_of_order.saturating_add(1);
         }
         sheet.rows[packet].returned = true;
-        sheet.rows[packet].latency = time - row.send_time;
+        sheet.rows[packet].latency = time - row.send_timestamp_ns;
     }
 
     /// Leaf 7 on the tally.
@@ -121,9 +121,9 @@ fn longest(rows: &[Row], window_end: u64) -> (u64, u64) {
         let run = rows[first..].iter().take_while(|row| !row.returned).count();
         let end = rows
             .get(first + run)
-            .map_or(window_end, |row| row.send_time);
+            .map_or(window_end, |row| row.send_timestamp_ns);
         count = count.max(run as u64);
-        duration = duration.max(end.saturating_sub(rows[first].send_time));
+        duration = duration.max(end.saturating_sub(rows[first].send_timestamp_ns));
     }
     (count, duration)
 }
@@ -220,8 +220,8 @@ fn any_packets(random: &mut Random, most: usize) -> Option<Vec<(u64, u64, Vec<u8
             .map(|index| {
                 let at = index as usize * size;
                 let tpdu = out[at..at + size].to_vec();
-                let send_time = first.send_time + index * interval;
-                (first.sequence + index, send_time, tpdu)
+                let send_timestamp_ns = first.send_timestamp_ns + index * interval;
+                (first.sequence + index, send_timestamp_ns, tpdu)
             })
             .collect()
     })
@@ -283,8 +283,8 @@ fn is_refused(part: &mut Part, arrived: &[u8]) -> bool {
 fn entered(part: &mut Part, random: &mut Random, packets: &[(u64, u64, Vec<u8>)]) -> RunSheet {
     let room = (packets.len() + random.length(8)).min(MOST_ROWS);
     let mut sheet = fresh(random, room);
-    for (sequence, send_time, tpdu) in packets {
-        let noted = sheet.record_sent(*sequence, *send_time);
+    for (sequence, send_timestamp_ns, tpdu) in packets {
+        let noted = sheet.record_sent(*sequence, *send_timestamp_ns);
         part.case(tpdu, noted.number, 0);
     }
     sheet
@@ -301,7 +301,7 @@ fn any_return(
         0 => random.below(packets.len()),
         _ => step % packets.len(),
     };
-    let (_, send_time, tpdu) = &packets[packet];
+    let (_, send_timestamp_ns, tpdu) = &packets[packet];
     let (mut arrived, mut whole) = (tpdu.clone(), tpdu.clone());
     let mut damaged = false;
     for leg in 0..=random.below(4) {
@@ -319,9 +319,9 @@ fn any_return(
     }
     let time = match random.below(8) {
         0 => random.number(),
-        1 => send_time.saturating_sub(1),
+        1 => send_timestamp_ns.saturating_sub(1),
         2 => [0, u64::MAX][random.below(2)],
-        _ => send_time.saturating_add(random.length(1 << 20) as u64),
+        _ => send_timestamp_ns.saturating_add(random.length(1 << 20) as u64),
     };
     Some(Return {
         packet,

@@ -36,10 +36,12 @@ pub fn generating(seed: u64, rounds: u64) -> Part {
             for rate in [0, 1, 3, 1_000_000_000, 1_000_000_001, u64::MAX] {
                 let first = any_probe_of(&mut random, version);
                 for sequence in near_top(&mut random, count, 1) {
-                    for send_time in near_top(&mut random, count, interval(rate).unwrap_or(1)) {
+                    for send_timestamp_ns in
+                        near_top(&mut random, count, interval(rate).unwrap_or(1))
+                    {
                         let first = Probe {
                             sequence,
-                            send_time,
+                            send_timestamp_ns,
                             ..first
                         };
                         generates(&mut part, &mut seen, &mut random, first, count, rate);
@@ -92,7 +94,7 @@ pub fn any_plan(random: &mut Random) -> (Probe, u64, u64) {
         first.sequence = below_top(random, 1);
     }
     if random.below(4) == 0 {
-        first.send_time = below_top(random, 1_000_000_000 / rate);
+        first.send_timestamp_ns = below_top(random, 1_000_000_000 / rate);
     }
     (first, count, rate)
 }
@@ -227,7 +229,7 @@ fn generates_on(
     let size = if first.version == 4 { 52 } else { 72 };
     let both = out.chunks(size).zip(expected.chunks(size));
     let wrong_packet = both.into_iter().position(|(ours, due)| ours != due);
-    let plan = [before, count, rate, first.send_time].map(u64::to_be_bytes);
+    let plan = [before, count, rate, first.send_timestamp_ns].map(u64::to_be_bytes);
     part.case(
         plan.as_flattened(),
         (written.told(), ours.next_sequence, wrong_packet),
@@ -256,7 +258,7 @@ pub fn due_packets(
         // A rate is judged before a count, which the Rust does not limit.
         packet_count: count.min(MOST_PACKETS),
         target_rate_pps: rate,
-        first_send_timestamp_ns: first.send_time,
+        first_send_timestamp_ns: first.send_timestamp_ns,
     };
     engine.generate(first.flow, plan)
 }
