@@ -195,7 +195,7 @@ static void packets(uint8_t version)
     compare_testkit_written("echo", testkit_echo(copy(packet, length), length, out, PACKET), written_as(0, length));
     due.src_port = 2002;
     due.dst_port = 1001;
-    compare_testkit_tpdu("the echo", testkit_decode(out, length, read_src, read_dst), due);
+    compare_testkit_tpdu("the echo", testkit_decode(copy(out, length), length, read_src, read_dst), due);
     expect_bytes("the echo's source", read_src, dst, counted);
     compare_testkit_written(
         "echo, short", testkit_echo(copy(packet, length), length, out, length - 1),
@@ -239,7 +239,8 @@ static void generator(void)
     for (uint64_t k = 0; k < 3; k++) {
         due.sequence = 70 + k;
         due.send_timestamp_ns = 17 + k * 4000000;
-        compare_testkit_tpdu("a generated packet", testkit_decode(bytes + 52 * k, 52, read_src, read_dst), due);
+        compare_testkit_tpdu(
+            "a generated packet", testkit_decode(copy(bytes + 52 * k, 52), 52, read_src, read_dst), due);
     }
     compare_testkit_written(
         "generate, short", testkit_generate(4, src, dst, 1, 2, plan_of(3, 250, 17), next_sequence, bytes, 3 * 52 - 1),
@@ -658,7 +659,7 @@ static void no_columns(void)
         "no columns, no list", testkit_sheet_record_received_tpdus(&none, NULL, 0, NULL, 0, NULL, 0, NULL, 0, NULL, 0),
         list_due);
     expect(
-        "no columns", testkit_sheet_record_return_gtpu_datagram(&none, 1, 26, elements, 12).outcome,
+        "no columns", testkit_sheet_record_return_gtpu_datagram(&none, 1, 26, copy(elements, 12), 12).outcome,
         TESTKIT_OUTCOME_ERROR_INDICATION);
     none.counts = counts_of(0, 0, 0, 0);
     memset(&due, 0, sizeof due);
@@ -870,7 +871,7 @@ static void handling(void)
     handle(
         "echo", message_of(255, 0x11, 9, 77), packet, length,
         sends(TESTKIT_SEND_REFLECTED_GPDU, 52, address_of(4, 20, 2020), message_of(255, 0x12, 0, 0)), s);
-    expect("the echo's number", testkit_decode(out, 52, read_src, read_dst).number, TESTKIT_ACCEPTED);
+    expect("the echo's number", testkit_decode(copy(out, 52), 52, read_src, read_dst).number, TESTKIT_ACCEPTED);
     expect_bytes("the echo's source", read_src, dst, 4);
     s.gpdu_received++;
     handle(
@@ -886,7 +887,7 @@ static void handling(void)
     handle(
         "unknown", message_of(255, 0x01020304, 0, 0), packet, length,
         sends(TESTKIT_SEND_ERROR_INDICATION, 24, source, message_of(26, 0, 1, 65535)), s);
-    expect("its elements", testkit_validate_elements(out, 24), TESTKIT_ACCEPTED);
+    expect("its elements", testkit_validate_elements(copy(out, 24), 24), TESTKIT_ACCEPTED);
     expect_bytes("its TEID", out + 1, "\1\2\3\4", 4);
     expect_bytes("its address", out + 8, source.address, 16);
     s.error_indications_sent++;

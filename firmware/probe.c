@@ -15,7 +15,8 @@ enum { ROWS = 256, WAIT_NS = 5000000 };
 /* Once, at start: the memory, and the first sequence. */
 void probe_open(struct probe *probe, struct testkit_socket_addr self, struct testkit_socket_addr peer, uint32_t teid)
 {
-    static const uint8_t near_end[TESTKIT_ADDRESS_BYTES] = {10, 0, 0, 1}, far_end[TESTKIT_ADDRESS_BYTES] = {10, 0, 0, 2};
+    static const uint8_t near_end[TESTKIT_ADDRESS_BYTES] = {10, 0, 0, 1};
+    static const uint8_t far_end[TESTKIT_ADDRESS_BYTES] = {10, 0, 0, 2};
     memset(probe, 0, sizeof *probe);
     expect("the archive's version", testkit_version(), TESTKIT_VERSION);
     probe->sheet.sequences = (uint64_t *)lend(ROWS * sizeof *probe->sheet.sequences);
