@@ -7,28 +7,28 @@
  *     cc -std=c99 program.c $(pkg-config --cflags --libs testkit) -o program
  *
  * Nothing else is linked: of the C library the archive asks for memory functions (memcpy, memmove, memset, memcmp) and
- * no more. It allocates nothing, calls no operating system, and has no variable of its own. Paths in this file are
- * those of the repository.
+ * no more. It allocates nothing, makes no system call, and has no variable of its own. Paths in this file are those of
+ * the repository.
  *
  * What is proved, what is checked, what is only said. Each call is proved to meet its contract, which stands beside its
  * code in crates/testkit_packets, testkit_sheet and testkit_reflector. The contract is what document 01 (docs/SCOPE.md)
  * and the RFCs say; testkit_version, testkit_record_sent_plan, testkit_record_received_tpdus and testkit_judge_report
  * are not in document 01, and have contracts of our own. This header is not proved. firmware/run, which is part of the
- * gate, checks of it
+ * gate, checks the following:
  *   - each call and each struct that the archive has, with types and names in their order, against the proved source.
  *     struct testkit_sheet, struct testkit_table and the calls over them are the header's own: each of those calls is
  *     declared as it is defined, and is tried beside the archive's call (firmware/answers.c);
  *   - each enumerator and the version against a constant of the proved source, and that none is left out.
  *     TESTKIT_ACCEPTED has no constant there, and must be 0;
- *   - each number in brackets behind a name, and that no name means two things;
+ *   - that a number in brackets behind a name is that name's, and that no name means two things;
  *   - each size, alignment and offset: the C compiler asserts those that C's rules give for the proved source. The
  *     archive does not tell how its structs are laid out, so a program calls it with a value of its own in each field
  *     of each struct, and compares every field of every answer (firmware/answers.c);
- *   - each call's list of refusals: inputs are found for every number that the list has, and no input of those tried
- *     gets another (firmware/stack.c). The order of a list is not checked;
- *   - that a buffer of length 0 may be null, as the archive is built today (firmware/answers.c);
- *   - each figure of stack, how deep the walk over elements goes, how far the archive uses the red zone, and that it
- *     has no other symbols, variables, registers and instructions than this header says, against its machine code;
+ *   - each call's list of refusals: every number of the list is met, and no other is, on the inputs of a program that
+ *     is there to meet them (firmware/stack.c). The order of a list is not checked;
+ *   - that each call takes null for a buffer of length 0, as the archive is built today (firmware/answers.c);
+ *   - against the archive's machine code, each figure of stack, how deep the walk over elements goes, how far the red
+ *     zone is used, and that there are no other symbols, variables, registers and instructions than this header says;
  *   - each text of testkit_number_text against the card (.ci/card does this).
  * Every other sentence of a comment is checked by no machine.
  *
@@ -42,13 +42,12 @@
  *   - until the call returns, nobody else writes a lent buffer, or reads one that the call may write.
  * A number that is lent by pointer, as testkit_generate is lent its next sequence, is a buffer of one element.
  * Everything else is the call's to judge: no value, length or content is forbidden, but for a bool, which is 0 or 1
- * (testkit_judge_report is handed some). A call reads and writes only what it is lent; const buffers it does not write.
+ * (testkit_judge_report is handed some). A call reads and writes only what it is lent, and writes no const buffer.
  *
  * What no call can detect. A null or wild pointer, or a length past the end of a buffer, is a wrong memory access: the
  * program stops, or other memory is read or changed. Where a buffer that is written overlaps another one, answer and
- * bytes are those of no contract: what is read may be what was just written. Null with length 0 is promised at no
- * call, though it is answered as it must be today. Addresses and the next sequence have no length: null is never right
- * for them.
+ * bytes are those of no contract: what is read may be what was just written. No call promises to take null with length
+ * 0, though today each does. Addresses and the next sequence have no length: null is never right for them.
  *
  * Byte order. Ports, TEIDs, sequences, times and lengths are numbers of the machine, in host order; addresses and
  * packets are bytes in the order that they have on the wire. So, of a struct sockaddr_in `in` and a GTP-U header:
@@ -59,8 +58,8 @@
  *     message.teid = ntohl(teid_of_the_header);
  *
  * and back with htons and htonl. Of an IPv4 address the first 4 bytes count and the other 12 do not. testkit_decode,
- * which makes addresses, leaves those 12 at 0; an address that the caller lends (a session's, a route target's, a
- * source) comes back with all 16 bytes as they were lent.
+ * which makes addresses, leaves those 12 at 0; an address that the caller hands in (a session's, a route target's, a
+ * source) comes back with all 16 bytes as they were.
  *
  * State. A call has no state of its own: what it is to remember stands in the caller's buffers, and in records that go
  * in by value and come back changed. The calls over struct testkit_sheet and struct testkit_table store those records
@@ -77,10 +76,10 @@
  *   - checksums, reading, echo and the walk over elements: the bytes that they are lent, or fewer;
  *   - testkit_generate: the bytes that it writes;
  *   - each call on a run sheet scans all used rows for TESTKIT_MALFORMED_OBSERVER (21) once, up to 2,048. Then a row is
- *     found by halving. A new sequence moves every row above it by one: nothing where sequences rise, all rows where
- *     they fall. A first return looks through the marks above its row. So a plan or a list takes one scan, and each of
- *     its packets the rest; single calls take a scan each. A return, single or in a list, also takes the bytes of its
- *     T-PDU or elements;
+ *     found by binary search. A new sequence moves every row above it by one: none where sequences rise, all where they
+ *     fall. A first return looks through the marks above its row. So a plan or a list takes one scan in all, and the
+ *     rest for each of its packets; single calls take a scan each. A return, single or in a list, also takes the bytes
+ *     of its T-PDU or elements;
  *   - each call on a session table searches the used rows one after the other, up to 4,096, whatever the message is. A
  *     G-PDU that is echoed also takes its payload's bytes;
  *   - the report: the used rows;
@@ -91,10 +90,11 @@
  * The archive is ordinary x86-64 user code. It uses the general registers, the flags and %xmm0 to %xmm15, no other
  * vector, mask, MMX, x87 or segment register, and no instruction beyond SSE2, which every x86-64 processor has. It uses
  * the red zone, the 128 bytes below the stack pointer (the figures of stack count them). A Unix signal handler needs no
- * care: the kernel keeps both. An interrupt that is taken on the interrupted stack destroys the red zone, since the
- * processor itself pushes there: where calls run with such interrupts open, as in a kernel or on bare metal, give the
- * interrupts a stack of their own. A handler that makes calls itself saves the %xmm registers first and restores them
- * afterwards; and where the program is built without them (-mno-sse), SSE must be enabled before a call.
+ * care: the kernel saves the registers and keeps off the red zone. An interrupt that is taken on the interrupted stack
+ * destroys the red zone, since the processor itself pushes there: where calls run with such interrupts open, as in a
+ * kernel or on bare metal, give the interrupts a stack of their own. A handler that makes calls itself saves the %xmm
+ * registers first and restores them afterwards; and where the program is built without them (-mno-sse), SSE must be
+ * enabled before a call.
  */
 #ifndef TESTKIT_H
 #define TESTKIT_H
@@ -104,10 +104,9 @@
 #include <stdint.h>
 
 /*
- * The version of this header; testkit_version gives that of the archive. The two belong together: a header is used with
- * the archive of the same version, whichever part differs. From one version to the next, MAJOR rises where a program
- * may have to change; else MINOR where something was added (a call, a number, a field), for which a program is only
- * compiled again; else PATCH.
+ * The version of this header; testkit_version gives that of the archive. Header and archive must be of one version, all
+ * three parts alike. From one version to the next, MAJOR rises where a program may have to be changed; otherwise MINOR,
+ * where something was added (a call, a number, a field) and a program need only be compiled again; otherwise PATCH.
  */
 #define TESTKIT_VERSION_MAJOR 1
 #define TESTKIT_VERSION_MINOR 0
@@ -129,7 +128,7 @@ enum {
     TESTKIT_REFLECTOR_BYTES = 72     /* the least `out` of testkit_handle_datagram */
 };
 
-/* The GTP-U messages that some call knows. */
+/* The types of GTP-U messages that the calls know. */
 enum testkit_message_type {
     TESTKIT_GTPU_MSG_ECHO_REQUEST = 1,
     TESTKIT_GTPU_MSG_ECHO_RESPONSE = 2,
@@ -261,15 +260,15 @@ enum testkit_stack {
     TESTKIT_STACK_HANDLE_DATAGRAM = 760
 };
 
-/* The version of the archive: TESTKIT_VERSION where header and archive belong together. Compare the two at start. */
+/* The version of the archive. A program compares it with TESTKIT_VERSION when it starts. */
 uint32_t testkit_version(void);
 
 /* ---- Checksum (RFC 1071) ---- */
 
 /*
  * The ones' complement sum of `start` and the big-endian 16-bit words of the bytes, an odd last byte being the high
- * half of a word. Of any length. A sum may be taken in parts: the sum of one part is the start of the next, where each
- * part but the last has an even length.
+ * half of a word. Any length will do. A sum may be taken in parts: the sum of one part is the start of the next, where
+ * each part but the last has an even length.
  */
 uint16_t testkit_sum(uint16_t start, const uint8_t *bytes, size_t bytes_length);
 
@@ -341,7 +340,8 @@ struct testkit_tpdu testkit_decode(const uint8_t *tpdu, size_t tpdu_length, uint
 
 /* ---- Generator ---- */
 
-/* A plan of packets. Packet k, from 0, is sent at first_send_timestamp_ns + k * (1000000000 / target_rate_pps). */
+/* A plan of packets. Packet k, from 0, is sent at first_send_timestamp_ns + k * (1000000000 / target_rate_pps), where
+ * the division rounds down. */
 struct testkit_plan {
     uint64_t packet_count;    /* at most TESTKIT_MAXIMUM_PACKETS; 0 asks for none */
     uint64_t target_rate_pps; /* packets per second, 1 to 1000000000 */
@@ -385,11 +385,11 @@ uint8_t testkit_validate_elements(const uint8_t *payload, size_t payload_length)
 
 /* ---- Run sheet ---- */
 
-/* Beside the columns of a run sheet. Fresh: all 0. */
+/* Beside the columns of a run sheet. Fresh: all 0. A counter that has reached UINT64_MAX stays there. */
 struct testkit_counts {
-    size_t used;                     /* rows in use, from the front */
-    uint64_t duplicate_packets;      /* returns of a row that had returned; these three stay at their top once there */
-    uint64_t out_of_order_packets;   /* first returns below a sequence that had returned */
+    size_t used;                   /* rows in use, from the front */
+    uint64_t duplicate_packets;    /* returns after the first of a sequence */
+    uint64_t out_of_order_packets; /* first returns below a sequence that had returned */
     uint64_t gtpu_error_indications;
 };
 
@@ -454,8 +454,8 @@ struct testkit_continuity_report {
     uint64_t window_start_ns; /* as handed in */
     uint64_t window_end_ns;
     uint64_t sent_packets;
-    uint64_t received_packets;
-    uint64_t lost_packets; /* sent less received */
+    uint64_t received_packets; /* sent packets that returned, each once */
+    uint64_t lost_packets;     /* sent less received */
     uint64_t duplicate_packets;
     uint64_t out_of_order_packets;
     uint64_t gtpu_error_indications;
@@ -467,7 +467,8 @@ struct testkit_continuity_report {
     uint64_t avg_ns;               /* rounded down */
     struct testkit_budget budget;  /* as handed in */
     bool forwarding_proven;        /* something returned */
-    bool packet_continuity_proven; /* lost, longest run and longest outage within budget, and no Error Indication */
+    bool packet_continuity_proven; /* losses, longest run of losses and longest outage within budget, and no Error
+                                      Indication */
 };
 
 /* The verdict on a report: pass, or the first reason against it. */
@@ -475,7 +476,7 @@ enum testkit_verdict_reason {
     TESTKIT_VERDICT_PASS = 0,
     TESTKIT_VERDICT_NOTHING_RETURNED = 1,
     TESTKIT_VERDICT_TOO_MANY_LOST = 2,
-    TESTKIT_VERDICT_TOO_MANY_IN_A_ROW = 3,
+    TESTKIT_VERDICT_TOO_MANY_IN_A_ROW = 3, /* a run of losses */
     TESTKIT_VERDICT_OUTAGE_TOO_LONG = 4,
     TESTKIT_VERDICT_ERROR_INDICATED = 5,
     TESTKIT_VERDICT_NO_REPORT = 6 /* the report's number is not 0 */
@@ -490,7 +491,7 @@ struct testkit_verdict {
 
 /*
  * The calls over a sheet. Each is the call of the same name below, without `sheet_`, on the sheet's columns and counts:
- * it answers and refuses as that one does. Those that are lent the sheet to write store the answer's counts in it.
+ * it answers and refuses as that one does. All but testkit_sheet_report store the answer's counts in the sheet.
  */
 static inline struct testkit_recorded testkit_sheet_record_sent(
     struct testkit_sheet *sheet, uint64_t sequence, uint64_t send_timestamp_ns);
@@ -519,14 +520,14 @@ static inline struct testkit_continuity_report testkit_sheet_report(
  * that holds of its figures, or TESTKIT_VERDICT_PASS. The report's own budget, forwarding_proven and
  * packet_continuity_proven are not looked at. Beside TOO_MANY_LOST, TOO_MANY_IN_A_ROW and OUTAGE_TOO_LONG stand the
  * report's number and the budget's, beside ERROR_INDICATED the number of Error Indications and 0. The report's bools
- * must be 0 or 1, as a bool of C is: of a report from another machine or from storage, see to it.
+ * must be 0 or 1, as a bool of C is: see to it where a report comes from storage or from another machine.
  */
 struct testkit_verdict testkit_judge_report(struct testkit_continuity_report report, struct testkit_budget budget);
 
 /*
- * The calls with single arguments: the four columns, each with its length, and the counts, which go in by value.
- * The caller stores the answer's counts, on refusals too. The columns may differ in length: the shortest decides how
- * many rows there are, and at most TESTKIT_MAXIMUM_ROWS.
+ * The calls with single arguments: the four columns, each with its length, and the counts, which go in by value. The
+ * caller stores the answer's counts, on refusals too. The columns may differ in length: there are as many rows as the
+ * shortest has elements, and at most TESTKIT_MAXIMUM_ROWS.
  *
  * Every call refuses first by TESTKIT_MALFORMED_OBSERVER (21): the used count is above the number of rows, the
  * sequences of the used rows do not rise, or one of their marks is not 0 or 1. No call leaves a sheet in that state.
@@ -565,7 +566,7 @@ struct testkit_recorded testkit_record_sent_plan(
     uint64_t next_sequence);
 
 /*
- * Enters a packet that came back as a T-PDU, at a time. A second return of a sequence is taken, and only counted.
+ * Enters a packet that came back as a T-PDU at `return_timestamp_ns`. A second return of a sequence is only counted.
  * Refuses by TESTKIT_MALFORMED_OBSERVER (21); then as testkit_decode; then by TESTKIT_SEQUENCE_WAS_NOT_SENT (23),
  * TESTKIT_TIMESTAMP_REVERSED (24).
  */
@@ -606,10 +607,10 @@ struct testkit_returns_recorded testkit_record_received_tpdus(
     uint8_t *numbers, size_t numbers_length);
 
 /*
- * Enters a GTP-U message that came back, at a time: its type, and its payload after the GTP-U header, which the caller
- * has parsed. A G-PDU carries a T-PDU; an Error Indication is counted if its elements are right; an Echo Response is
- * noticed; an End Marker and a Supported Extension Headers Notification are ignored. TEID and source are not looked at:
- * whether a message belongs to this run is the caller's to know.
+ * Enters a GTP-U message that came back at `return_timestamp_ns`: its type, and its payload after the GTP-U header,
+ * which the caller has parsed. A G-PDU carries a T-PDU; an Error Indication is counted if its elements are right; an
+ * Echo Response, an End Marker and a Supported Extension Headers Notification change nothing. TEID and source are not
+ * looked at: whether a message belongs to this run is the caller's to know.
  * Refuses by TESTKIT_MALFORMED_OBSERVER (21); then a G-PDU as testkit_record_received_tpdu, an Error Indication as
  * testkit_validate_elements, other types, an Echo Request among them, by TESTKIT_UNSUPPORTED_MESSAGE_TYPE (37).
  */
@@ -671,9 +672,10 @@ struct testkit_reflector_config {
     uint32_t target_teid;              /* neither is judged: a port or TEID of 0 is handed on */
 };
 
-/* What changes from message to message. Fresh: all counts 0, next_error_sequence 1. */
+/* What changes from message to message. Fresh: all counts 0, next_error_sequence 1. A count that has reached UINT64_MAX
+ * stays there. */
 struct testkit_reflector_state {
-    uint64_t gpdu_received; /* G-PDUs of known TEIDs; the six counts stay at their top once there */
+    uint64_t gpdu_received; /* of known TEIDs */
     uint64_t gpdu_forwarded;
     uint64_t gpdu_sunk;
     uint64_t echo_requests_answered;
@@ -694,16 +696,16 @@ struct testkit_table {
     struct testkit_reflector_state state;
 };
 
-/* 0 and whether the session was added, which it is not where the same record is there; or a refusal's number. Both with
- * the used count. */
+/* 0 and whether the session was added, or else the same record was there; or a refusal's number and false. In both
+ * cases the used count. */
 struct testkit_registered {
     uint8_t number;
     bool added;
     size_t used;
 };
 
-/* 0, whether a session was removed, and that session or zeros; or a refusal's number and zeros. Both with the used
- * count. */
+/* 0, whether a session was removed, and that session or zeros; or a refusal's number, false and zeros. In both cases
+ * the used count. */
 struct testkit_removed {
     uint8_t number;
     bool removed;
@@ -715,8 +717,8 @@ struct testkit_removed {
 struct testkit_gtpu_message {
     uint8_t message_type; /* enum testkit_message_type, or another */
     uint32_t teid;
-    uint8_t has_sequence; /* 0: none; every other number: `sequence`. In an answer 0 or 1. No bool, since the caller
-                             hands it in, and a bool may hold nothing but 0 and 1 */
+    uint8_t has_sequence; /* 0: none; every other number: `sequence`. In an answer 0 or 1. It is no bool, since the
+                             caller hands it in and no number is forbidden */
     uint16_t sequence;
 };
 
@@ -769,8 +771,8 @@ static inline struct testkit_handled testkit_table_handle_datagram(
     uint8_t *out, size_t out_length);
 
 /*
- * The calls with single arguments: the rows with their length, the used count and the maximum, and the state,
- * which goes in by value. The caller stores the answer's used count or state, on refusals too.
+ * The calls with single arguments: the rows with their length, the used count and the maximum, and the state, which
+ * goes in by value. The caller stores the answer's used count or state, on refusals too.
  *
  * Every call refuses first by TESTKIT_INVALID_REFLECTOR_CAPACITY (30), where the maximum is 0 or above
  * TESTKIT_MAXIMUM_SESSIONS; then by TESTKIT_MALFORMED_REFLECTOR_TABLE (31), where the used count is above the maximum
@@ -803,13 +805,13 @@ struct testkit_removed testkit_remove_session(
  * Handles a GTP-U message from `source`, with its payload after the header. A G-PDU of a known TEID is echoed, sunk or
  * routed, of an unknown one answered by an Error Indication; an Echo Request is answered by an Echo Response; nothing
  * is sent for Echo Responses, Error Indications, End Markers and Supported Extension Headers Notifications. `out` gets
- * the payload to send; it must have TESTKIT_REFLECTOR_BYTES. On a refusal, and where nothing is sent or a G-PDU is
- * routed, it stays as it was.
+ * the payload to send; it must have at least TESTKIT_REFLECTOR_BYTES, whatever the message is. On a refusal, and where
+ * nothing is sent or a G-PDU is routed, it stays as it was.
  * Refuses by TESTKIT_INVALID_REFLECTOR_CAPACITY (30), TESTKIT_MALFORMED_REFLECTOR_TABLE (31), TESTKIT_OUTPUT_TOO_SHORT
  * (15); these leave the state as it was. Then, under TESTKIT_POLICY_ECHO, a G-PDU of a known TEID is refused as
- * testkit_decode, and gpdu_received has risen; an Echo Request by TESTKIT_ECHO_REQUEST_TEID_NOT_ZERO (35),
- * TESTKIT_ECHO_REQUEST_MISSING_SEQUENCE (36), and other types by TESTKIT_UNSUPPORTED_MESSAGE_TYPE (37), and
- * malformed_rejected has risen.
+ * testkit_decode refuses its payload, and gpdu_received has risen. An Echo Request is refused by
+ * TESTKIT_ECHO_REQUEST_TEID_NOT_ZERO (35), TESTKIT_ECHO_REQUEST_MISSING_SEQUENCE (36), and a message of another type by
+ * TESTKIT_UNSUPPORTED_MESSAGE_TYPE (37); there malformed_rejected has risen.
  */
 struct testkit_handled testkit_handle_datagram(
     const struct testkit_reflector_session *sessions, size_t sessions_length,
