@@ -185,9 +185,14 @@ fn message_bytes(message: &Header) -> Vec<u8> {
     bytes
 }
 
+/// The reason of what is done: the other one is 0.
+fn reason(handled: &Handled) -> u8 {
+    handled.noop_reason.max(handled.send_reason)
+}
+
 /// What is answered (31 bytes), and the state afterwards (50).
 fn handled_bytes(handled: &Handled) -> Vec<u8> {
-    let mut bytes = vec![handled.action, handled.reason];
+    let mut bytes = vec![handled.action, reason(handled)];
     bytes.extend(word(handled.bytes));
     bytes.extend(address_bytes(&handled.destination));
     bytes.extend(message_bytes(&handled.message));
@@ -224,7 +229,7 @@ pub fn draw_handle(random: &mut Random) -> Option<Drawn> {
     rest.extend(word(out.len()));
     rest.extend(out);
     rest.extend(message.payload);
-    let done = due.action * 8 + due.reason;
+    let done = due.action * 8 + reason(&due);
     let variety = match due.number {
         ECHO_REQUEST_TEID_NOT_ZERO => lone_byte(message.teid),
         _ => done * 6 + table.config.policy.min(2) * 2 + u8::from(due.destination.version == 4),
