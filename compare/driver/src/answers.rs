@@ -24,7 +24,7 @@ type Refusal = (Option<u8>, u8);
 
 /// Each number that the Rust has, at least once, and none of those that it has not.
 pub fn refusals() -> Part {
-    let mut part = Part::new("refusals of the Rust", "refusals");
+    let mut part = Part::new("refusals");
     let mut seen = BTreeSet::new();
     let rows = [
         reading_refuses(),
@@ -161,7 +161,7 @@ fn reflector_refuses() -> Vec<Refusal> {
 
 /// Each thing that the Rust does when it does not refuse, once, and the state that it leaves.
 pub fn actions() -> Part {
-    let mut part = Part::new("actions of the Rust", "actions");
+    let mut part = Part::new("actions");
     generator_acts(&mut part);
     observer_acts(&mut part);
     table_changes(&mut part);

@@ -20,7 +20,7 @@ type Plan = (Probe, u64, u64);
 
 /// Plans entered and lists of returns taken, on sheets in any state.
 pub fn batches(seed: u64, rounds: u64) -> Part {
-    let mut part = Part::new("run sheet, batches", "batch calls and reports");
+    let mut part = Part::new("batch calls and reports");
     let mut seen = Seen::default();
     let mut random = Random::new(seed);
     for rows in [2, 48, MOST_ROWS] {
@@ -52,7 +52,7 @@ pub fn batches(seed: u64, rounds: u64) -> Part {
 /// list of returns, an empty one too, is refused by 21. The sheet is left, and so are the two columns
 /// that are lent for the list.
 pub fn malformed_batches(seed: u64, rounds: u64) -> Part {
-    let mut part = Part::new("run sheet, malformed, batches", "batch calls");
+    let mut part = Part::new("batch calls");
     let mut random = Random::new(seed);
     for round in 0..rounds / 10 {
         let (contents, sheet) = malformed_sheet(&mut random, round);

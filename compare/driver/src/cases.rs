@@ -17,7 +17,7 @@ use crate::rust_side::traffic::{generate, interval, Observer};
 const WINDOW_ENDS: [u64; 7] = [0, 10, 15, 40, 41, 100, u64::MAX];
 
 pub fn worked_cases() -> Part {
-    let mut part = Part::new("worked cases on the Rust", "cases");
+    let mut part = Part::new("cases");
 
     // 1. Header and UDP checksum.
     let tpdu = build(ipv4_probe(0));

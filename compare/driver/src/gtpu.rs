@@ -13,7 +13,7 @@ const DECIDING: [u8; 11] = [0, 1, 4, 5, 15, 16, 17, 127, 128, 133, 255];
 /// Every list of up to 3 bytes; every list of 4 to 6 bytes that decide; random lists of elements,
 /// most of them short. Each number of the walk must have been due.
 pub fn elements(seed: u64, rounds: u64) -> Part {
-    let mut part = Part::new("element walk", "lists");
+    let mut part = Part::new("lists");
     let mut seen = Seen::default();
     let mut walk = |list: &[u8]| {
         let due = validate_error_indication_ies(list).err().unwrap_or(0);
@@ -48,7 +48,7 @@ const STACK: usize = 256 << 10;
 
 /// The most elements that 65,535 bytes and 64 MiB can hold, walked on a stack of 256 KiB.
 pub fn deep_lists() -> Part {
-    let mut part = Part::new("element walk, 256 KiB of stack", "lists");
+    let mut part = Part::new("lists");
     for length in [65_535, 64 << 20] {
         let list: Vec<u8> = [128, 0, 0].into_iter().cycle().take(length).collect();
         let due = validate_error_indication_ies(&list).err().unwrap_or(0);

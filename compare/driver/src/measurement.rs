@@ -28,7 +28,7 @@ const ECHO_SAMPLE: u64 = 64;
 /// Random and extreme probes into buffers of every kind. Ours is lent junk behind each IPv4
 /// address, and for IPv6 any version but 4.
 pub fn building(seed: u64, rounds: u64) -> Part {
-    let mut part = Part::new("building", "calls");
+    let mut part = Part::new("calls");
     let mut random = Random::new(seed);
     for round in 0..rounds {
         let mut probe = any_probe(&mut random);
@@ -56,7 +56,7 @@ pub fn building(seed: u64, rounds: u64) -> Part {
 
 /// Wild packets, read by both. Each cause of a refusal must have been met, in both versions.
 pub fn reading(seed: u64, rounds: u64) -> Part {
-    let mut part = Part::new("reading, wild packets", "packets");
+    let mut part = Part::new("packets");
     let mut seen = BTreeMap::new();
     each_wild(seed, rounds, |tpdu| {
         let expected = as_ours(decode(tpdu));
@@ -78,14 +78,14 @@ pub fn reading(seed: u64, rounds: u64) -> Part {
 
 /// Wild packets, echoed by both.
 pub fn echoing(seed: u64, rounds: u64) -> Part {
-    let mut part = Part::new("echo, wild packets", "calls");
+    let mut part = Part::new("calls");
     each_wild(seed, rounds, |tpdu| echoes(&mut part, tpdu));
     part
 }
 
 /// The echo of the echo of a built packet is the packet.
 pub fn echoing_twice(seed: u64, rounds: u64) -> Part {
-    let mut part = Part::new("echo of echo", "packets");
+    let mut part = Part::new("packets");
     let mut random = Random::new(seed);
     for _ in 0..rounds {
         let tpdu = build(any_probe(&mut random));
@@ -97,10 +97,11 @@ pub fn echoing_twice(seed: u64, rounds: u64) -> Part {
     part
 }
 
-/// Every damage, within 16 neighbouring bits, of the first few of `some_probes` in both
-/// versions: refused, or read as what was sent.
-pub fn damaged_packets(count: usize) -> Part {
-    let mut part = Part::new("damage, every one of some packets", "readings and echoes");
+/// Every damage, within 16 neighbouring bits, of the first two of `some_probes` in both versions,
+/// or of all five: refused, or read as what was sent.
+pub fn damaged_packets(long: bool) -> Part {
+    let count = if long { 5 } else { 2 };
+    let mut part = Part::new("readings and echoes");
     for version in [4, 6] {
         for probe in some_probes(version).into_iter().take(count) {
             each_damage(&build(probe), |damaged| {
@@ -113,7 +114,7 @@ pub fn damaged_packets(count: usize) -> Part {
 
 /// Random damage, within 16 neighbouring bits, of random built packets.
 pub fn damaged_random_packets(seed: u64, rounds: u64) -> Part {
-    let mut part = Part::new("damage, random packets", "readings and echoes");
+    let mut part = Part::new("readings and echoes");
     let mut random = Random::new(seed);
     for _ in 0..rounds {
         let probe = any_probe(&mut random);

@@ -41,7 +41,7 @@ pub(crate) enum Call {
 
 /// Runs on fresh sheets, of few rows and of 2,048. Each number of a run must have been due.
 pub fn runs(seed: u64, rounds: u64) -> Part {
-    let mut part = Part::new("run sheet, runs", "calls and reports");
+    let mut part = Part::new("calls and reports");
     let mut seen = Seen::default();
     let mut random = Random::new(seed);
     for round in 0..rounds / 8 {
@@ -60,7 +60,7 @@ pub fn runs(seed: u64, rounds: u64) -> Part {
 /// Runs from any state: counters at or near their top, latencies of any size, and on rows that
 /// have not returned a latency that nobody may look at.
 pub fn states(seed: u64, rounds: u64) -> Part {
-    let mut part = Part::new("run sheet, any state", "calls and reports");
+    let mut part = Part::new("calls and reports");
     let mut seen = Seen::default();
     let mut random = Random::new(seed);
     for round in 0..rounds / 10 {
@@ -108,7 +108,7 @@ pub(crate) fn malformed_sheet(random: &mut Random, round: u64) -> (Sheet, RunShe
 
 /// Malformed sheets: every call refuses by 21 and leaves all, before it looks at anything else.
 pub fn malformed(seed: u64, rounds: u64) -> Part {
-    let mut part = Part::new("run sheet, malformed", "calls and reports");
+    let mut part = Part::new("calls and reports");
     let mut random = Random::new(seed);
     for round in 0..rounds / 10 {
         let (contents, sheet) = malformed_sheet(&mut random, round);

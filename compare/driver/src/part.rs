@@ -6,7 +6,6 @@ use std::fmt;
 const SHOWN: usize = 96;
 
 pub struct Part {
-    name: &'static str,
     /// What a case is called, in the plural.
     unit: &'static str,
     cases: u64,
@@ -19,9 +18,8 @@ pub struct Part {
 }
 
 impl Part {
-    pub fn new(name: &'static str, unit: &'static str) -> Self {
+    pub fn new(unit: &'static str) -> Self {
         Self {
-            name,
             unit,
             cases: 0,
             differences: 0,
@@ -69,11 +67,7 @@ impl Part {
 impl fmt::Display for Part {
     fn fmt(&self, f: &mut fmt::Formatter<'_>) -> fmt::Result {
         let (cases, differences) = (grouped(self.cases), grouped(self.differences));
-        write!(
-            f,
-            "{}: {cases} {}, {differences} differences",
-            self.name, self.unit
-        )?;
+        write!(f, "{cases} {}, {differences} differences", self.unit)?;
         if !self.note.is_empty() {
             write!(f, "\n  {}", self.note)?;
         }

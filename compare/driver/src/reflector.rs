@@ -46,9 +46,9 @@ struct Comparison {
 }
 
 impl Comparison {
-    fn new(name: &'static str, unit: &'static str, seed: u64) -> Self {
+    fn new(unit: &'static str, seed: u64) -> Self {
         Self {
-            part: Part::new(name, unit),
+            part: Part::new(unit),
             seen: Seen::default(),
             random: Random::new(seed),
         }
@@ -70,7 +70,7 @@ struct Pair {
 /// Runs from fresh tables and from any state, under each policy. Each number of a run must have
 /// been due.
 pub fn runs(seed: u64, rounds: u64) -> Part {
-    let mut run = Comparison::new("reflector, runs", "calls", seed);
+    let mut run = Comparison::new("calls", seed);
     each_damage(&mut run);
     for round in 0..rounds / 8 {
         let most = match round % 256 {
@@ -100,7 +100,7 @@ pub fn runs(seed: u64, rounds: u64) -> Part {
 /// Sessions, addresses and TEIDs that differ from a registered one in one place, each place in turn:
 /// registered, removed, and as what a message has and comes from.
 pub fn near_copies(seed: u64, rounds: u64) -> Part {
-    let mut run = Comparison::new("reflector, near copies", "calls", seed);
+    let mut run = Comparison::new("calls", seed);
     for round in 0..3.max(rounds / 64) {
         for version in [4, 6] {
             let mut pair = Pair::new(&mut run.random, 2, POLICIES[round as usize % 3]);
@@ -174,7 +174,7 @@ fn each_zero(run: &mut Comparison, pair: &mut Pair, known: Session) {
 /// Tables of 4,096 sessions, under each policy: filled, asked for when they are full, a row removed
 /// and registered again at the first, a middle and the last place.
 pub fn full_tables(seed: u64) -> Part {
-    let mut run = Comparison::new("reflector, full tables", "calls", seed);
+    let mut run = Comparison::new("calls", seed);
     for policy in POLICIES {
         let mut pair = Pair::new(&mut run.random, MOST_SESSIONS, policy);
         while pair.ours.used < MOST_SESSIONS {
@@ -192,7 +192,7 @@ pub fn full_tables(seed: u64) -> Part {
 
 /// Every error sequence from fresh, by messages of an unknown TEID, until after 65,535 comes 1.
 pub fn error_sequences(seed: u64) -> Part {
-    let mut run = Comparison::new("reflector, error sequence", "messages", seed);
+    let mut run = Comparison::new("messages", seed);
     let policy = any_policy(&mut run.random);
     let mut pair = Pair::new(&mut run.random, 1, policy);
     for _ in 0..=u16::MAX {
@@ -213,7 +213,7 @@ pub fn error_sequences(seed: u64) -> Part {
 /// The refusals by 30, 31 and 15, which change nothing. The Rust refuses by 30 too, when a
 /// reflector is made.
 pub fn refused(seed: u64, rounds: u64) -> Part {
-    let mut run = Comparison::new("reflector, refused tables and outputs", "calls", seed);
+    let mut run = Comparison::new("calls", seed);
     for round in 0..rounds / 16 {
         let (mut ours, number) = any_refused(&mut run.random, round);
         let random = &mut run.random;

@@ -166,7 +166,7 @@ struct Met {
 /// Lists of returns on random accepted plans: after each return our sheet must be the tally's, and
 /// in the end the reports, and a second sheet, from which damage is kept away.
 pub fn tallies(seed: u64, rounds: u64) -> Part {
-    let mut part = Part::new("tally", "returns, sheets and reports");
+    let mut part = Part::new("returns, sheets and reports");
     let mut random = Random::new(seed);
     let mut met = Met::default();
     for round in 0..rounds {

@@ -38,7 +38,7 @@ const PLANS_OF_A_RUN: u64 = 12;
 /// Plans at the boundaries of count, rate, sequence and time, and random plans. Every number of
 /// the generator must have been due.
 pub fn generating(seed: u64, rounds: u64) -> Part {
-    let mut part = Part::new("generator", "calls");
+    let mut part = Part::new("calls");
     let mut seen = Seen::default();
     let mut random = Random::new(seed);
     for version in [4, 6] {
@@ -73,7 +73,7 @@ pub fn generating(seed: u64, rounds: u64) -> Part {
 
 /// Runs of plans, each run on one engine. Every number of the generator must have been due.
 pub fn runs(seed: u64, rounds: u64) -> Part {
-    let mut part = Part::new("runs of plans on one engine", "calls");
+    let mut part = Part::new("calls");
     let mut seen = Seen::default();
     let mut random = Random::new(seed);
     for _ in 0..rounds / (4 * PLANS_OF_A_RUN) {

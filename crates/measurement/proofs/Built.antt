@@ -10,8 +10,8 @@ use borrow.Author.Tests.{eqb-true, eqb-false, eq-eqb}
 use Rattle.error.specs.Outcome.{Outcome, refused, gives}
 use Rattle.error.proofs.Causes.{none, past, passes}
 use Rattle.error.proofs.Tests.{equals}
-use Rattle.field.specs.Field.{Bytes, bigEndian, number, bytesAt, field}
-use Rattle.field.proofs.Fields.{number-big-endian, length-bytesAt, bytes-at, bytes-append}
+use Rattle.field.specs.Field.{Bytes, bigEndian, valueOf, bytesAt, field}
+use Rattle.field.proofs.Fields.{value-big-endian, length-bytesAt, bytes-at, bytes-append}
 use Rattle.checksum.specs.Sum.{sumOf, foldOf, checksumOf}
 use Rattle.checksum.proofs.Carries.{fold-low, fold-ones, fold-whole}
 use Rattle.checksum.proofs.Sums.{sum-append}
@@ -84,7 +84,7 @@ module _ (ph : List ℕ) (even : length ph % 2 ≡ 0) (sport dport s t : ℕ) wh
 
   pub segment-checksum : field 2 6 segment ≡ nonzero (checksumOf (ph ++ blank))
   unfolding udp udpSegment checksumOf
-  segment-checksum = number-big-endian 2 (nonzero (65535 - foldOf (sumOf (ph ++ blank)))) (nonzero-low (65535 - foldOf (sumOf (ph ++ blank))) (omega arith) .1)
+  segment-checksum = value-big-endian 2 (nonzero (65535 - foldOf (sumOf (ph ++ blank)))) (nonzero-low (65535 - foldOf (sumOf (ph ++ blank))) (omega arith) .1)
 
   pub segment-checksum-not-0 : field 2 6 segment ≡ 0 → ⊥
   unfolding checksumOf
@@ -189,9 +189,9 @@ module _ (v : IpVersion) (S D : List ℕ) (sport dport s t : ℕ) where
   pub tpdu-is : sport < 65536 → dport < 65536 → s < 2 ^ 64 → t < 2 ^ 64 → tpduOf v source destination (udp pseudo sport dport s t) ≡ tpdu
   unfolding udp udpSegment probe measurementMagic payload
   tpdu-is hs hd ss st =
-      ap₂ (λ (a b : ℕ). tpduWith v source destination a b (number (bigEndian 8 s)) (number (bigEndian 8 t)))
-      (number-big-endian 2 sport hs) (number-big-endian 2 dport hd)
-      ∙ ap₂ (λ (a b : ℕ). tpduWith v source destination sport dport a b) (number-big-endian 8 s ss) (number-big-endian 8 t st)
+      ap₂ (λ (a b : ℕ). tpduWith v source destination a b (valueOf (bigEndian 8 s)) (valueOf (bigEndian 8 t)))
+      (value-big-endian 2 sport hs) (value-big-endian 2 dport hd)
+      ∙ ap₂ (λ (a b : ℕ). tpduWith v source destination sport dport a b) (value-big-endian 8 s ss) (value-big-endian 8 t st)
 
   part-of-packet : sport < 65536 → dport < 65536 → s < 2 ^ 64 → t < 2 ^ 64 → gives tpdu ≡ readUdp v source destination (udp pseudo sport dport s t)
   part-of-packet hs hd ss st =

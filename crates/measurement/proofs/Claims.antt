@@ -8,8 +8,8 @@ use lib.ListN.{length, take, drop, getD, replicate, length-append, length-replic
 use lib.Seq.{take-at, drop-at}
 use Rattle.error.specs.Outcome.{Outcome, refused, gives}
 use Rattle.error.proofs.Causes.{refused-gives}
-use Rattle.field.specs.Field.{Bytes, number, bytesAt, field}
-use Rattle.field.proofs.Fields.{number-below, bytes-at, bytes-take, bytes-drop, bytes-append, length-bytesAt}
+use Rattle.field.specs.Field.{Bytes, valueOf, bytesAt, field}
+use Rattle.field.proofs.Fields.{value-below, bytes-at, bytes-take, bytes-drop, bytes-append, length-bytesAt}
 use Rattle.checksum.specs.Sum.{sumOf, foldOf}
 use Rattle.checksum.specs.Damage.{Turned}
 use Rattle.checksum.specs.Claims.{Verifies}
@@ -113,10 +113,10 @@ checksums-verify f s t g = checksums f s t
 
 -- what is read is in range, so every T-PDU that was sent was built
 field-16 : (at : ℕ) (u : List ℕ) → Bytes u → field 2 at u < 2 ^ 16
-field-16 at u b = number-below (bytesAt 2 at u) (bytes-at 2 at u b)
+field-16 at u b = value-below (bytesAt 2 at u) (bytes-at 2 at u b)
 
 field-64 : (at : ℕ) (u : List ℕ) → Bytes u → field 8 at u < 2 ^ 64
-field-64 at u b = number-below (bytesAt 8 at u) (bytes-at 8 at u b)
+field-64 at u b = value-below (bytesAt 8 at u) (bytes-at 8 at u b)
 
 pub zeros-are-bytes : (n : ℕ) → Bytes (replicate n 0)
 zeros-are-bytes zero = tt

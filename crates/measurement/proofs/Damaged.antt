@@ -9,7 +9,7 @@ use mathlib.Core.Logic.{_⊎_, inl, inr}
 use lib.Dec.{eqb}
 use lib.ListN.{length, take, drop, getD, length-take, length-drop}
 use borrow.Author.Tests.{eqb-true, not-false}
-use Rattle.field.specs.Field.{Bytes, number, bytesAt, field}
+use Rattle.field.specs.Field.{Bytes, valueOf, bytesAt, field}
 use Rattle.field.proofs.Fields.{length-bytesAt, bytesAt-drop, bytesAt-take, bytesAt-same, split-off}
 use Rattle.checksum.specs.Sum.{sumOf, foldOf, checksumOf}
 use Rattle.checksum.specs.Damage.{Turned}
@@ -113,7 +113,7 @@ whole-length u h r k =
     omega (arith, length-take (field 2 4 u - 8) (drop 8 u), min-le-left (field 2 4 u - 8) (length (drop 8 u)))
 
 abbrev made : List ℕ → List ℕ → List ℕ → List ℕ → List ℕ → List ℕ → DecodedTpdu
-made src dst sp dp s t = tpduWith V4 src dst (number sp) (number dp) (number s) (number t)
+made src dst sp dp s t = tpduWith V4 src dst (valueOf sp) (valueOf dp) (valueOf s) (valueOf t)
 
 zero-field : (l l' : List ℕ) → Bytes l → Turned l l' → length (drop 8 l') ≡ 32 → (field 2 6 (drop 8 l) ≡ 0 → ⊥) → field 2 6 (drop 8 l') ≡ 0
     → field 2 4 (drop 8 l) ≡ 32 → lengthWrong (drop 8 l') ≡ false → 24 ≤ length (payload (drop 8 l'))
@@ -121,7 +121,7 @@ zero-field : (l l' : List ℕ) → Bytes l → Turned l l' → length (drop 8 l'
 zero-field l l' b t n nz z len right long =
     let u = drop 8 l in
     let u' = drop 8 l' in
-    let far = out-of-reach l l' b t (λ e. nz (ap number (sym (bytesAt-drop 2 8 6 l)) ∙ e)) (ap number (bytesAt-drop 2 8 6 l') ∙ z) in
+    let far = out-of-reach l l' b t (λ e. nz (ap valueOf (sym (bytesAt-drop 2 8 6 l)) ∙ e)) (ap valueOf (bytesAt-drop 2 8 6 l') ∙ z) in
     let len' = whole-length u' n right long in
     let src = bytesAt-same 4 0 l' l (λ i x y. far i (inl (omega arith))) in
     let dst = bytesAt-same 4 4 l' l (λ i x y. far i (inl (omega arith))) in

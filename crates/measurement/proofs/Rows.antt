@@ -10,7 +10,7 @@ use borrow.Author.Tests.{lt-ltb, le-ltb, ltb-false, eq-eqb, ne-eqb}
 use Rattle.error.specs.Outcome.{Outcome, refused, gives, firstCause}
 use Rattle.error.proofs.Causes.{here, later, none, past, refuses, passes}
 use Rattle.error.proofs.Tests.{or-left, or-right, or-none, or-neither, and-left, and-right, and-both, differs, equals}
-use Rattle.field.specs.Field.{number, bytesAt, field}
+use Rattle.field.specs.Field.{valueOf, bytesAt, field}
 use Rattle.checksum.specs.Sum.{checksumOf}
 use Rattle.measurement.specs.Packet.{measurementMagic}
 use Rattle.measurement.specs.Read.{payload, lengthWrong, sumWrong, probeCauses, udpCauses, tpduOf, readProbe, readUdp, ihl, ipv4Causes, readIpv4, ipv6Causes, readIpv6, tpduCauses, readOf}

@@ -7,7 +7,7 @@ use lib.Dec.{eqb, ltb}
 use lib.ListN.{length, take, drop, getD}
 use Rattle.error.specs.Number.{truncatedIpHeader, unsupportedIpVersion, truncatedIpv4Header, invalidIpv4Ihl, invalidIpv4TotalLength, payloadIsNotUdp, invalidIpv4HeaderChecksum, truncatedIpv6UdpPacket, invalidIpv6PayloadLength, invalidUdpLength, ipv6UdpChecksumIsZero, invalidUdpChecksum, truncatedMeasurementHeader, measurementMagicMismatch}
 use Rattle.error.specs.Outcome.{Outcome, refused, gives, Cause, _⇒_, firstCause}
-use Rattle.field.specs.Field.{number, bytesAt, field}
+use Rattle.field.specs.Field.{valueOf, bytesAt, field}
 use Rattle.checksum.specs.Sum.{checksumOf}
 use Rattle.measurement.specs.Layout.{ipVersion, ipv4Ihl, ipv4TotalLength, ipv4Protocol, ipv4SourceAddress, ipv4DestinationAddress, ipv6PayloadLength, ipv6NextHeader, ipv6SourceAddress, ipv6DestinationAddress, ipv6HeaderBytes, udpSourcePort, udpDestinationPort, udpLength, udpChecksum, udpHeaderBytes, probeTag, probeSequence, probeSendTime}
 use Rattle.measurement.specs.Packet.{pseudoHeader, measurementMagic, padded, udpProtocol}
@@ -37,7 +37,7 @@ sumWrong v source destination part = not (eqb (checksumOf (pseudoHeader v source
 unfoldable pub probeCauses : List ℕ → List Cause
 probeCauses probe =
     (ltb (length probe) 24 ⇒ truncatedMeasurementHeader)
-    ∷ (not (eqb (field 8 probeTag probe) (number measurementMagic)) ⇒ measurementMagicMismatch)
+    ∷ (not (eqb (field 8 probeTag probe) (valueOf measurementMagic)) ⇒ measurementMagicMismatch)
     ∷ []
 
 -- "An IPv4 UDP checksum field of 0 is not verified; in IPv6 it is refused."

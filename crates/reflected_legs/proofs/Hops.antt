@@ -24,7 +24,7 @@ use Rattle.reflector_answer.specs.declared.ReflectorPolicy.{ReflectorPolicy}
 use Rattle.reflector_answer.specs.declared.ReflectorPolicy.the-variants.{Echo, SinkAndCount, Route}
 use Rattle.reflector_answer.specs.declared.ReflectorNoopReason.{ReflectorNoopReason}
 use Rattle.reflector_answer.specs.declared.ReflectorSendReason.the-variants.{ReflectedGpdu, EchoResponse, ErrorIndication}
-use Rattle.reflector_answer.specs.declared.SequenceNumber.the-variants.{Absent}
+use Rattle.gtpu.specs.declared.SequenceNumber.the-variants.{Absent}
 use Rattle.reflector_answer.proofs.Answers.{handling-passed}
 use Rattle.reflector.specs.Handle.{handleDatagram}
 use Rattle.reflected_legs.specs.Hop.{Reflector, answerTo, gpduSent, sentOn, Forwards}

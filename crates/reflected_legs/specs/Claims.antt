@@ -14,7 +14,7 @@ use Rattle.reflector_sessions.specs.Judge.{tableOutcome}
 use Rattle.reflector_sessions.specs.Table.{tableOf, usedRows, find}
 use Rattle.reflector_sessions.specs.declared.ReflectorSession.{ReflectorSession}
 use Rattle.reflector_answer.specs.Answer.{payloadBytes, Outbound, send}
-use Rattle.reflector_answer.specs.Handle.{actionMeans}
+use Rattle.reflector_answer.specs.Handle.{actionMeans, reflectorBytes}
 use Rattle.reflector_answer.specs.declared.ReflectorAction.the-variants.{Send}
 use Rattle.reflector_answer.specs.declared.ReflectorPolicy.{ReflectorPolicy}
 use Rattle.reflector_answer.specs.declared.ReflectorPolicy.the-variants.{Echo, SinkAndCount, Route}
@@ -38,7 +38,7 @@ PayloadTold = (r : Reflector) (payload : List ℕ) (message : Outbound)
 -- A G-PDU of a known session, not refused by 30, 31 or 15.
 pub record Known (r : Reflector) (session : ReflectorSession) : Type 0 where
   pub sound : tableOutcome (length (r .sessions)) (r .used) (r .config .«max_sessions») ≡ gives (r .used)
-  pub room : 72 ≤ length (r .output)
+  pub room : reflectorBytes ≤ length (r .output)
   pub is-gpdu : r .message .«message_type» ≡ gtpuMsgGpdu
   pub found : find (r .message .teid) (usedRows (tableOf (r .sessions) (r .used) (r .config .«max_sessions»)))
       ≡ some session

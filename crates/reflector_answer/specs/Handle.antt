@@ -18,7 +18,7 @@ use Rattle.reflector_answer.specs.declared.ReflectorSendReason.{Reflecto
 use Rattle.reflector_answer.specs.declared.ReflectorSendReason.the-variants.{ReflectedGpdu, RoutedGpdu, EchoResponse, ErrorIndication}
 use Rattle.reflector_sessions.specs.Judge.{tableCauses}
 use Rattle.reflector_answer.specs.Answer.{Payload, written, handedOn, Outbound, Action, noop, send, Answer, answer}
-use Rattle.reflector_answer.specs.declared.GtpuMessage.{GtpuMessage}
+use Rattle.gtpu.specs.declared.GtpuMessage.{GtpuMessage}
 use Rattle.reflector_answer.specs.declared.Handled.{Handled}
 use Rattle.reflector_answer.specs.declared.MultiSessionReflectorConfig.{MultiSessionReflectorConfig}
 use Rattle.reflector_answer.specs.declared.OutboundMessage.{OutboundMessage}
@@ -26,7 +26,7 @@ use Rattle.reflector_answer.specs.declared.ReflectorAction.{ReflectorAct
 use Rattle.reflector_answer.specs.declared.ReflectorAction.the-variants.{Refused, Noop, Send}
 use Rattle.reflector_sessions.specs.declared.ReflectorSession.{ReflectorSession}
 use Rattle.reflector_answer.specs.declared.ReflectorState.{ReflectorState}
-use Rattle.reflector_answer.specs.declared.SequenceNumber.the-variants.{Absent}
+use Rattle.gtpu.specs.declared.SequenceNumber.the-variants.{Absent}
 use Rattle.reflector_sessions.specs.declared.SocketAddr.{SocketAddr}
 
 abbrev pub noAddress : SocketAddr

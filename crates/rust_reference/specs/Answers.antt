@@ -15,6 +15,7 @@ use Rattle.evidence.specs.declared.Latency.{Latency}
 use Rattle.evidence.specs.declared.Latency.the-variants.{Absent, Summary}
 use Rattle.evidence.specs.declared.LatencySummary.{LatencySummary}
 use Rattle.evidence.specs.declared.PacketContinuityReport.{PacketContinuityReport}
+use Rattle.rust_reference.specs.Compared.{told}
 use Rattle.rust_reference.specs.Error.{Result, Ok, Err}
 use Rattle.rust_reference.specs.Number.{errorNumber}
 use Rattle.rust_reference.specs.Evidence as evidence
@@ -58,7 +59,11 @@ abbrev pub packetsInBuffer : Result (List GeneratedPacket) → ℕ → List ℕ 
 packetsInBuffer (Ok packets) next buffer = record { outcome = gives (length (vecs packets)); next = next; buffer = vecs packets ++ drop (length (vecs packets)) buffer }
 packetsInBuffer (Err error) next buffer = record { outcome = refused (errorNumber error); next = next; buffer = buffer }
 
--- The Rust's report as the port's: `Option` is an enum there ("`Option` becomes an enum").
+-- What our generator leaves, in the numbers that are compared.
+abbrev pub toldGenerating : Generating → Generating
+toldGenerating g = record { outcome = told (g .outcome); next = g .next; buffer = g .buffer }
+
+-- The Rust's report as ours ("`Option` becomes an enum").
 abbrev pub latencyOf : Option LatencySummary → Latency
 latencyOf None = Absent
 latencyOf (Some summary) = Summary summary

@@ -10,7 +10,7 @@ use Rattle.report.specs.Report.{reporting}
 use Rattle.continuity.specs.Returns.{recordReceivedTpdu, recordReturnMessage}
 use Rattle.continuity.specs.declared.GtpuReturnDatagramOutcome.{GtpuReturnDatagramOutcome}
 use Rattle.rust_reference.specs.Number.{outcomeOf}
-use Rattle.rust_reference.specs.Compared.{Compared, told}
+use Rattle.rust_reference.specs.Compared.{Compared, ComparedReturn}
 use Rattle.rust_reference.specs.Values.{«u64_max»}
 use Rattle.rust_reference.specs.Answers.{reportOf}
 use Rattle.rust_reference.specs.Traffic as traffic
@@ -26,7 +26,7 @@ pub data Call : Type 0 where
 abbrev pub Typed : Call → Type 0
 Typed (sending sequence time) = Unit {0}
 Typed (receiving time tpdu) = (time ≤ «u64_max») × Compared tpdu
-Typed (returning time messageType payload) = (time ≤ «u64_max») × Compared payload
+Typed (returning time messageType payload) = (time ≤ «u64_max») × ComparedReturn messageType payload
 Typed (reporting-on windowStart windowEnd budget) = Unit {0}
 
 -- What a call gives, where it gives something.
@@ -42,8 +42,8 @@ answering answer (gives x) = gives (answer x)
 -- By document 01's definitions.
 abbrev pub answerTo : Observer → Call → Outcome Answer
 answerTo o (sending sequence time) = answering (λ u. done) (recordSent o sequence time .outcome)
-answerTo o (receiving time tpdu) = answering (λ u. done) (told (recordReceivedTpdu o time tpdu .outcome))
-answerTo o (returning time messageType payload) = answering message (told (recordReturnMessage o time messageType payload .outcome))
+answerTo o (receiving time tpdu) = answering (λ u. done) (recordReceivedTpdu o time tpdu .outcome)
+answerTo o (returning time messageType payload) = answering message (recordReturnMessage o time messageType payload .outcome)
 answerTo o (reporting-on windowStart windowEnd budget) = answering reported (reporting o windowStart windowEnd budget)
 
 abbrev pub afterCall : Observer → Call → Observer

@@ -1,5 +1,5 @@
 -- The port's reflector, and the Rust's that holds the same: the `Vec` of sessions is the used rows of the lent slice.
-use Prim.Native.Nat.{ℕ, _<_, _≤_}
+use Prim.Native.Nat.{ℕ, _<_}
 use mathlib.Core.Path.{_≡_}
 use mathlib.Core.List.{List, map, _++_}
 use mathlib.Core.Option.{Option, some, none}
@@ -15,7 +15,7 @@ use Rattle.reflector_sessions.specs.declared.ReflectorSession.{ReflectorSession
 use Rattle.reflector_sessions.specs.declared.SocketAddr.{SocketAddr}
 use Rattle.reflector_answer.specs.Answer.{payloadBytes, Action, noop, send, Answer}
 use Rattle.reflector_answer.specs.State.{fresh}
-use Rattle.reflector_answer.specs.declared.GtpuMessage.{GtpuMessage}
+use Rattle.gtpu.specs.declared.GtpuMessage.{GtpuMessage}
 use Rattle.reflector_answer.specs.declared.MultiSessionReflectorConfig.{MultiSessionReflectorConfig}
 use Rattle.reflector_answer.specs.declared.ReflectorNoopReason.{ReflectorNoopReason}
 use Rattle.reflector_answer.specs.declared.ReflectorNoopReason.the-variants.{GpduSunk, EchoResponseObserved, ErrorIndicationObserved, EndMarkerIgnored, SupportedExtensionHeadersNotificationIgnored}
@@ -24,10 +24,9 @@ use Rattle.reflector_answer.specs.declared.ReflectorPolicy.the-variants.{Echo, 
 use Rattle.reflector_answer.specs.declared.ReflectorSendReason.the-variants.{ReflectedGpdu, RoutedGpdu, EchoResponse, ErrorIndication}
 use Rattle.reflector_answer.specs.declared.ReflectorState.{ReflectorState}
 use Rattle.reflector_answer.specs.declared.RouteTarget.{RouteTarget}
-use Rattle.reflector_answer.specs.declared.SequenceNumber.{SequenceNumber}
-use Rattle.reflector_answer.specs.declared.SequenceNumber.the-variants.{Present, Absent}
+use Rattle.gtpu.specs.declared.SequenceNumber.{SequenceNumber}
+use Rattle.gtpu.specs.declared.SequenceNumber.the-variants.{Present, Absent}
 use Rattle.rust_reference.specs.Error.{Result, Ok, Err}
-use Rattle.rust_reference.specs.Compared.{Compared}
 use Rattle.rust_reference.specs.Gtpu as gtpu
 use Rattle.rust_reference.specs.Map as map
 use Rattle.rust_reference.specs.Reflector as rust
@@ -149,11 +148,6 @@ inOutput (Ok (rust.Send destination packet ErrorIndication)) buffer = packet .pa
 -- There is such a reflector in the Rust: `new_multi` makes one of this configuration.
 abbrev pub IsMade : Reflector → Type 0
 IsMade r = (made : rust.GtpuReflector) × (rust.«new_multi» (rustConfig (r .config)) ≡ Ok made)
-
--- A payload that is compared. The stand-in for the codec carries "a payload of at most 65,535 bytes": of what is received, only a route sends
--- the payload on as it came.
-abbrev pub PayloadFits : ReflectorPolicy → List ℕ → Type 0
-PayloadFits policy payload = Compared payload × (policy ≡ Route → length payload ≤ 65535)
 
 -- The error sequence is a u16.
 abbrev pub SequenceFits : Reflector → Type 0
