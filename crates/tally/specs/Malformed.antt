@@ -18,17 +18,15 @@ use Rattle.report.specs.Report.{reporting}
 
 -- Each call refuses by 21, whatever else it is handed, and leaves the sheet and its own columns as they were.
 pub record Refuses21 (o : Observer) : Type 0 where
-  pub sending : (sequence time : ℕ) → recordSent o sequence time ≡ record { outcome = refused malformedObserver; observer = o }
+  pub sending : (sequence time : ℕ)
+      → recordSent o sequence time ≡ record { outcome = refused malformedObserver; observer = o }
   pub sending-a-plan : (plan : TrafficPlan) (next : ℕ)
       → recordSentPlan o plan next ≡ record { outcome = refused malformedObserver; observer = o }
   pub receiving : (time : ℕ) (tpdu : List ℕ)
       → recordReceivedTpdu o time tpdu ≡ record { outcome = refused malformedObserver; observer = o }
   pub receiving-a-list : (times lengths bytes returned numbers : List ℕ)
       → recordReceivedTpdus o times lengths bytes returned numbers
-      ≡ record {
-        returned = returned;
-        arrived = record { outcome = refused malformedObserver; numbers = numbers; observer = o };
-      }
+      ≡ record { outcome = refused malformedObserver; returned = returned; numbers = numbers; observer = o }
   pub returning : (time messageType : ℕ) (payload : List ℕ)
       → recordReturnMessage o time messageType payload ≡ record { outcome = refused malformedObserver; observer = o }
   pub report : (windowStart windowEnd : ℕ) (budget : PacketContinuityBudget)
