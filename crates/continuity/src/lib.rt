@@ -1,6 +1,7 @@
 // The observer's two return calls (leaf 6; the Rust's traffic.rs): a T-PDU that came back, and a parsed GTP-U message.
-// What each makes of an observer is defined in specs/Returns.antt, and its contract is that one equation: answer, counts
-// and every column at exit, on refusals too. What came back is read first, by value; then `record_returned` judges 21 and records it.
+// What each makes of an observer is defined in specs/Returns.antt, and its contract is that one equation: answer,
+// counts and every column at exit, on refusals too. What came back is read first, by value; then `record_returned`
+// judges 21 and records it.
 use gtpu::ElementsChecked;
 use gtpu::GtpuMessage;
 use observer::ObserverCounts;
@@ -188,7 +189,8 @@ pub fn record_received_tpdu(
 
 // The answer to a message of this type, by what it was recorded as.
 fn message_answer(message_type: u8, recorded: Recorded) -> MessageRecorded
-    ensures { λ r. ⌜ (messageMeans (r .answer) ≡ kindIf (recordingMeans (recorded .answer)) (messageKind «message_type»))
+    ensures { λ r. ⌜ (messageMeans (r .answer)
+        ≡ kindIf (recordingMeans (recorded .answer)) (messageKind «message_type»))
         × (r .counts ≡ recorded .counts) ⌝ }
 {
     let answer = recorded.answer;

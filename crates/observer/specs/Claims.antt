@@ -39,8 +39,8 @@ recordCall o indicating = recordErrorIndication o
 abbrev pub afterCalls : Observer → List Call → Observer
 afterCalls o calls = inTurn recordCall o calls .observer
 
--- Every call, accepted or refused, leaves a well-formed observer well formed. So 21 is never due on one that is fresh and
--- that only these calls have written since.
+-- Every call, accepted or refused, leaves a well-formed observer well formed. So 21 is never due on one that is fresh
+-- and that only these calls have written since.
 abbrev pub CallsKeepWell : Type 0
 CallsKeepWell = (o : Observer) (calls : List Call) → wellFormed o ≡ true → wellFormed (afterCalls o calls) ≡ true
 

@@ -1,6 +1,6 @@
--- The observer: document 01's run sheet (leaf 6; the Rust's `ContinuityObserver`, whose maps are sorted columns here). The
--- columns are lent and make rows. Every call is defined on the used rows, as a list; `withRows` puts a list of rows back
--- into the columns.
+-- The observer: document 01's run sheet (leaf 6; the Rust's `ContinuityObserver`, whose maps are sorted columns here).
+-- The columns are lent and make rows. Every call is defined on the used rows, as a list; `withRows` puts a list of
+-- rows back into the columns.
 use Prim.Native.Nat.{ℕ}
 use mathlib.Core.List.{List, [], _∷_, _++_, map}
 use lib.ListN.{length, take, drop, getD}

@@ -1,8 +1,8 @@
 // The observer: document 01's run sheet (leaf 6; `ContinuityObserver` of the Rust's traffic.rs). The Rust's maps are
-// columns here, lent by the caller and sorted by sequence; the used count and the counters go in by value and come back
-// beside the answer. Each call judges the columns first (21); what it then does to a row is the crate `rows`. What a call
-// makes of an observer is defined in specs/, and its contract is that one equation (`records`): answer, counts and every
-// column at exit, on refusals too. The crates above have the calls for returns and for whole plans.
+// columns here, lent by the caller and sorted by sequence; the used count and the counters go in by value and come
+// back beside the answer. Each call judges the columns first (21); what it then does to a row is the crate `rows`.
+// What a call makes of an observer is defined in specs/, and its contract is that one equation (`records`): answer,
+// counts and every column at exit, on refusals too. The crates above have the calls for returns and for whole plans.
 ghost use mathlib.Core.Path.{_≡_};
 ghost use Rattle.error.specs.Outcome.{outcomeNumber};
 ghost use Rattle.rows.specs.Columns.{sheet};

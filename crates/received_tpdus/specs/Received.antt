@@ -41,8 +41,8 @@ abbrev pub returnsIn : List ℕ → List ℕ → List ℕ → List ℕ → ℕ
 returnsIn times lengths returned numbers =
     min (length times) (min (length lengths) (min (length returned) (length numbers)))
 
--- What a list of returns gives: how many there were, or a refusal of the whole list; and the two columns that are lent for
--- it, and the observer, as the call leaves them.
+-- What a list of returns gives: how many there were, or a refusal of the whole list; and the two columns that are lent
+-- for it, and the observer, as the call leaves them.
 pub record ReturnsTaken : Type 0 where
   pub outcome : Outcome ℕ
   pub returned : List ℕ
@@ -53,8 +53,8 @@ pub record ReturnsTaken : Type 0 where
 abbrev pub atFront : List ℕ → List ℕ → List ℕ
 atFront front column = front ++ drop (length front) column
 
--- The T-PDUs return one after the other. The sequence that each reads as, 0 beside a refusal of the reader, and the number
--- of each return are written to their columns.
+-- The T-PDUs return one after the other. The sequence that each reads as, 0 beside a refusal of the reader, and the
+-- number of each return are written to their columns.
 abbrev pub takeReturns : Observer → List ℕ → List (List ℕ) → List ℕ → List ℕ → ReturnsTaken
 takeReturns o times tpdus returned numbers =
     let s : Steps = inTurn recordReceived o (receivedOf times tpdus) in

@@ -1,6 +1,6 @@
-// A list of T-PDUs that came back, taken in one call: 21 is judged, and then each is read and recorded. The Rust has no
-// such call: after 21 it is the single calls in turn (specs/Received.antt). Each number that decides about a return is the
-// reader's; no caller can pass one in.
+// A list of T-PDUs that came back, taken in one call: 21 is judged, and then each is read and recorded. The Rust has
+// no such call: after 21 it is the single calls in turn (specs/Received.antt). Each number that decides about a return
+// is the reader's; no caller can pass one in.
 use observer::ObserverCounts;
 ghost use mathlib.Core.Path.{_≡_};
 ghost use Prim.Native.Nat.{_+_, _≤_, min};

@@ -58,9 +58,10 @@ abbrev pub runEnd : ℕ → List Row → ℕ
 runEnd windowEnd [] = windowEnd
 runEnd windowEnd (r ∷ rs) = elim (eqb (r .mark) 1) [ true ↦ r .«send_timestamp_ns» | false ↦ runEnd windowEnd rs ]
 
--- The runs. `within` says whether the row just before is unmarked: a run begins at each unmarked row that does not follow
--- another. "A run of unmarked rows lasts from its first send time to the send time of the marked row after it, or to window
--- end if none, never below 0." Only rows count, and no sequence numbers between them; send times may fall from row to row.
+-- The runs. `within` says whether the row just before is unmarked: a run begins at each unmarked row that does not
+-- follow another. "A run of unmarked rows lasts from its first send time to the send time of the marked row after it,
+-- or to window end if none, never below 0." Only rows count, and no sequence numbers between them; send times may fall
+-- from row to row.
 abbrev pub runsIn : ℕ → Bool → List Row → List Run
 runsIn windowEnd within [] = []
 runsIn windowEnd within (r ∷ rs) =
@@ -87,8 +88,8 @@ withinBudget budget lost run outage indications =
     && (leb run (budget .«max_consecutive_lost_packets»)
     && (leb outage (budget .«outage_budget_ns») && eqb indications 0))
 
--- The report on these rows and counts, for a window and a budget. "Lost is sent less returned." "Longest count and longest
--- duration may be different runs." "Forwarding: returned above 0."
+-- The report on these rows and counts, for a window and a budget. "Lost is sent less returned." "Longest count and
+-- longest duration may be different runs." "Forwarding: returned above 0."
 unfoldable pub reportOf : List Row → ObserverCounts → ℕ → ℕ → PacketContinuityBudget → PacketContinuityReport
 reportOf rs counts windowStart windowEnd budget =
     let sent : ℕ = length rs in

@@ -1,4 +1,5 @@
--- The columns of a run sheet, and how many rows they hold. A call is lent them one by one; all below speaks of one record.
+-- The columns of a run sheet, and how many rows they hold. A call is lent them one by one; all below speaks of one
+-- record.
 use Prim.Native.Nat.{ℕ, _≤_, min}
 use mathlib.Core.Path.{_≡_}
 use mathlib.Core.List.{List, [], _∷_}

@@ -1,6 +1,6 @@
-// The packets of a plan recorded as sent, in one call. 21 is judged once, for all of them. The Rust has no such call: a
-// plan is entered whole or not at all, and if it is entered, the result is that of the single calls of leaf 6, one after
-// the other (specs/SendingPlan.antt).
+// The packets of a plan recorded as sent, in one call. 21 is judged once, for all of them. The Rust has no such call:
+// a plan is entered whole or not at all, and if it is entered, the result is that of the single calls of leaf 6, one
+// after the other (specs/SendingPlan.antt).
 use observer::ObserverCounts;
 use observer::Recorded;
 use observer::Recording;
