@@ -118,7 +118,7 @@ returns-taken o times lengths bytes returned numbers = go (wellFormed o) refl
     given = gives (takeReturns o times (take (returnsIn times lengths returned numbers) (tpdusOf lengths bytes)) returned numbers)
 
     leftBy : Outcome received.ReturnsTaken → Observer
-    leftBy x = elim x [ refused n ↦ record { outcome = refused n; returned = returned; numbers = numbers; observer = o } | gives taken ↦ taken ] .observer
+    leftBy x = elim x as (λ (y : Outcome received.ReturnsTaken). received.ReturnsTaken) [ refused n ↦ record { outcome = refused n; returned = returned; numbers = numbers; observer = o } | gives taken ↦ taken ] .observer
 
     go : (b : Bool) → wellFormed o ≡ b → leftBy (judged o given) ≡ receiveAll o (map handedTpdu rs)
     go true w = ap leftBy (sym (judged-well o given w)) ∙ takes o rs
