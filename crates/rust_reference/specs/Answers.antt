@@ -34,8 +34,20 @@ rustFlow flow = rustFlowOf (flow .version) (flow .src) (flow .dst) (flow .«src_
 
 -- A flow that the Rust answers: "what makes one leaves the rest 0".
 abbrev pub flowOf : rust.InnerIpFlow → InnerIpFlow
-flowOf (rust.Ipv4 src dst src-port dst-port) = record { version = V4; src = padded src; dst = padded dst; «src_port» = src-port; «dst_port» = dst-port }
-flowOf (rust.Ipv6 src dst src-port dst-port) = record { version = V6; src = padded src; dst = padded dst; «src_port» = src-port; «dst_port» = dst-port }
+flowOf (rust.Ipv4 src dst src-port dst-port) = record {
+  version = V4;
+  src = padded src;
+  dst = padded dst;
+  «src_port» = src-port;
+  «dst_port» = dst-port;
+}
+flowOf (rust.Ipv6 src dst src-port dst-port) = record {
+  version = V6;
+  src = padded src;
+  dst = padded dst;
+  «src_port» = src-port;
+  «dst_port» = dst-port;
+}
 
 abbrev pub tpduOf : rust.DecodedTpdu → DecodedTpdu
 tpduOf decoded = record { flow = flowOf (decoded .flow); measurement = decoded .measurement }
@@ -57,7 +69,11 @@ headersOf packets = map (λ p. record { sequence = p .sequence; «send_timestamp
 -- Likewise of the Rust's packets: end to end at the front of the lent buffer. The engine's next sequence is the Rust's,
 -- after an error too.
 abbrev pub packetsInBuffer : Result (List GeneratedPacket) → ℕ → List ℕ → Generating
-packetsInBuffer (Ok packets) next buffer = record { outcome = gives (length (vecs packets)); next = next; buffer = vecs packets ++ drop (length (vecs packets)) buffer }
+packetsInBuffer (Ok packets) next buffer = record {
+  outcome = gives (length (vecs packets));
+  next = next;
+  buffer = vecs packets ++ drop (length (vecs packets)) buffer;
+}
 packetsInBuffer (Err error) next buffer = record { outcome = refused (errorNumber error); next = next; buffer = buffer }
 
 -- What our generator leaves, in the numbers that are compared.

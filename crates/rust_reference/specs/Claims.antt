@@ -186,7 +186,8 @@ RecordReturnGtpuDatagram = (rust : traffic.ContinuityObserver) (o : Observer) �
 abbrev pub Report : Type 0
 Report = (rust : traffic.ContinuityObserver) (o : Observer) → Same rust o
     → (windowStart windowEnd : ℕ) (budget : PacketContinuityBudget)
-    → gives (reportOf (traffic.report rust windowStart windowEnd budget)) ≡ told (reporting o windowStart windowEnd budget)
+    → gives (reportOf (traffic.report rust windowStart windowEnd budget))
+    ≡ told (reporting o windowStart windowEnd budget)
 
 -- ---- whole runs
 
@@ -203,7 +204,8 @@ NoneAddedIn o (call ∷ calls) = NoneAdded (answerTo o call) × NoneAddedIn (aft
 -- same.
 abbrev pub SameRun : Observer → List Call → Type 0
 SameRun o calls =
-    (rustAnswersTo traffic.new calls ≡ map told (answersTo o calls)) × Same (rustAfter traffic.new calls) (after o calls)
+    (rustAnswersTo traffic.new calls ≡ map told (answersTo o calls))
+    × Same (rustAfter traffic.new calls) (after o calls)
 
 -- Every list of calls on a fresh sheet of any columns.
 abbrev pub Runs : Type 0
@@ -244,7 +246,8 @@ pub record NewMulti : Type 0 where
 abbrev pub RegisterSession : Type 0
 RegisterSession = (r : Reflector) → IsMade r → (session : ReflectorSession)
     → NoneAdded (registerSession (tableIn r) session .outcome)
-    → let after : reflector.Called (Result Bool) = reflector.«register_session» (rustReflector r) (rustSession session) in
+    → let after : reflector.Called (Result Bool) =
+    reflector.«register_session» (rustReflector r) (rustSession session) in
     (outcomeOf (after .result) ≡ told (registerSession (tableIn r) session .outcome))
     × (after .reflector ≡ rustReflector (withTable (registerSession (tableIn r) session .table) r))
 
@@ -260,11 +263,12 @@ RemoveSession = (r : Reflector) → IsMade r → (teid : ℕ) → NoneAdded (rem
 -- Rust's reflector, with its counts and its error sequence.
 abbrev pub HandleDatagram : Type 0
 HandleDatagram = (r : Reflector) → IsMade r → SequenceFits r
-    → (source : SocketAddr) (message : GtpuMessage) (payload : List ℕ) → ComparedMessage (r .config .policy) message payload
-    → (buffer : List ℕ) → NoneAdded (handling r source message payload buffer .outcome)
+    → (source : SocketAddr) (message : GtpuMessage) (payload : List ℕ)
+    → ComparedMessage (r .config .policy) message payload → (buffer : List ℕ) → NoneAdded (handling r source message payload buffer .outcome)
     → let after : reflector.Called (Result reflector.ReflectorAction) =
     reflector.«handle_datagram» (rustReflector r) (rustAddress source) (rustMessage message payload) in
-    (outcomeOf (after .result) ≡ outcomeTo (rustAction payload) (told (handling r source message payload buffer .outcome)))
+    (outcomeOf (after .result)
+    ≡ outcomeTo (rustAction payload) (told (handling r source message payload buffer .outcome)))
     × (inOutput (after .result) buffer ≡ placed (handling r source message payload buffer .outcome) buffer)
     × (after .reflector ≡ rustReflector (withState (handling r source message payload buffer .state) r))
 
@@ -285,7 +289,8 @@ SameReflectorRun made r calls =
 
 -- Every list of calls on what `new_multi` made, and on a fresh reflector with any slice.
 abbrev pub ReflectorRuns : Type 0
-ReflectorRuns = (sessions : List ReflectorSession) (config : MultiSessionReflectorConfig) (made : reflector.GtpuReflector)
+ReflectorRuns =
+    (sessions : List ReflectorSession) (config : MultiSessionReflectorConfig) (made : reflector.GtpuReflector)
     → reflector.«new_multi» (rustConfig config) ≡ Ok made → (calls : List reflecting.Call)
     → AllCallsTyped (config .policy) calls → NoneAddedInCalls (freshReflector sessions config) calls
     → SameReflectorRun made (freshReflector sessions config) calls

@@ -49,11 +49,13 @@ abbrev pub «encode_gpdu» : ℕ → List ℕ → Result GtpuMessage
 
 -- lines 80 to 92
 abbrev pub «encode_echo_response» : ℕ → ℕ → Result GtpuMessage
-«encode_echo_response» sequence-number recovery-counter = «encode_message» «GTPU_MSG_ECHO_RESPONSE» 0 (Some sequence-number) (14 ∷ recovery-counter ∷ [])
+«encode_echo_response» sequence-number recovery-counter =
+    «encode_message» «GTPU_MSG_ECHO_RESPONSE» 0 (Some sequence-number) (14 ∷ recovery-counter ∷ [])
 
 -- lines 94 to 106
 abbrev pub «encode_error_indication» : ℕ → List ℕ → Result GtpuMessage
-«encode_error_indication» sequence-number payload = «encode_message» «GTPU_MSG_ERROR_INDICATION» 0 (Some sequence-number) payload
+«encode_error_indication» sequence-number payload =
+    «encode_message» «GTPU_MSG_ERROR_INDICATION» 0 (Some sequence-number) payload
 
 -- lines 178 to 188: behind the loop
 unfoldable pub «required_ies» : Bool → Bool → Result (Unit {0})
@@ -82,7 +84,8 @@ unfoldable pub «while_ies» : ℕ → List ℕ → ℕ → Bool → Bool → Re
                     let len-end : ℕ = offset + 1 + 2
                     returnIf (ltb (length payload) len-end) (Truncated GTP-U-Peer-Address-IE)
                     let len : ℕ = «u16_at» payload (offset + 1)
-                    returnIf (not (eqb len 4) && not (eqb len 16)) (InvalidPacket GTP-U-Peer-Address-IE-length-must-be-IPv4-or-IPv6)
+                    returnIf (not (eqb len 4) && not (eqb len 16))
+                        (InvalidPacket GTP-U-Peer-Address-IE-length-must-be-IPv4-or-IPv6)
                     let value-end : ℕ = len-end + len
                     returnIf (ltb (length payload) value-end) (Truncated GTP-U-Peer-Address-IE)
                     «while_ies» turns payload value-end has-teid-data true

@@ -48,8 +48,14 @@ pub record Answer : Type 0 where
 
 -- By document 01's definitions.
 abbrev pub answerTo : Reflector → Call → Answer
-answerTo r (register session) = record { outcome = outcomeTo registered (registerSession (tableIn r) session .outcome); output = [] }
-answerTo r (remove teid) = record { outcome = outcomeTo removed (outcomeTo rustRemoved (removeSession (tableIn r) teid .outcome)); output = [] }
+answerTo r (register session) = record {
+  outcome = outcomeTo registered (registerSession (tableIn r) session .outcome);
+  output = [];
+}
+answerTo r (remove teid) = record {
+  outcome = outcomeTo removed (outcomeTo rustRemoved (removeSession (tableIn r) teid .outcome));
+  output = [];
+}
 answerTo r (handle source message payload buffer) = record {
   outcome = outcomeTo acted (outcomeTo (rustAction payload) (handling r source message payload buffer .outcome));
   output = placed (handling r source message payload buffer .outcome) buffer;
@@ -74,17 +80,22 @@ after r (call ∷ calls) = after (afterCall r call) calls
 
 -- By the Rust's.
 abbrev pub rustAnswerTo : rust.GtpuReflector → Call → Answer
-rustAnswerTo r (register session) = record { outcome = outcomeTo registered (outcomeOf (rust.«register_session» r (rustSession session) .result)); output = [] }
+rustAnswerTo r (register session) = record {
+  outcome = outcomeTo registered (outcomeOf (rust.«register_session» r (rustSession session) .result));
+  output = [];
+}
 rustAnswerTo r (remove teid) = record { outcome = gives (removed (rust.«remove_session» r teid .result)); output = [] }
 rustAnswerTo r (handle source message payload buffer) = record {
-  outcome = outcomeTo acted (outcomeOf (rust.«handle_datagram» r (rustAddress source) (rustMessage message payload) .result));
+  outcome = outcomeTo acted
+      (outcomeOf (rust.«handle_datagram» r (rustAddress source) (rustMessage message payload) .result));
   output = inOutput (rust.«handle_datagram» r (rustAddress source) (rustMessage message payload) .result) buffer;
 }
 
 abbrev pub rustAfterCall : rust.GtpuReflector → Call → rust.GtpuReflector
 rustAfterCall r (register session) = rust.«register_session» r (rustSession session) .reflector
 rustAfterCall r (remove teid) = rust.«remove_session» r teid .reflector
-rustAfterCall r (handle source message payload buffer) = rust.«handle_datagram» r (rustAddress source) (rustMessage message payload) .reflector
+rustAfterCall r (handle source message payload buffer) =
+    rust.«handle_datagram» r (rustAddress source) (rustMessage message payload) .reflector
 
 abbrev pub rustAnswersTo : rust.GtpuReflector → List Call → List Answer
 rustAnswersTo r [] = []

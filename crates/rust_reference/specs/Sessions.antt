@@ -51,7 +51,8 @@ withState state r = record { sessions = r .sessions; used = r .used; config = r 
 
 -- The answer to a message there.
 abbrev pub handling : Reflector → SocketAddr → GtpuMessage → List ℕ → List ℕ → Answer
-handling r source message payload buffer = handleDatagram (r .sessions) (r .used) (r .config) (r .state) source message payload buffer
+handling r source message payload buffer =
+    handleDatagram (r .sessions) (r .used) (r .config) (r .state) source message payload buffer
 
 -- "Fresh: no used row, all counts 0, error sequence 1."
 abbrev pub freshReflector : List ReflectorSession → MultiSessionReflectorConfig → Reflector
@@ -68,7 +69,11 @@ abbrev pub rustAddress : SocketAddr → rust.SocketAddr
 rustAddress a = record { ip = rustIp (a .version) (a .address); port = a .port }
 
 abbrev pub rustSession : ReflectorSession → rust.ReflectorSession
-rustSession s = record { «local_teid» = s .«local_teid»; «peer_teid» = s .«peer_teid»; «peer_addr» = rustAddress (valueOf (s .«peer_addr»)) }
+rustSession s = record {
+  «local_teid» = s .«local_teid»;
+  «peer_teid» = s .«peer_teid»;
+  «peer_addr» = rustAddress (valueOf (s .«peer_addr»));
+}
 
 abbrev pub rustPolicy : ReflectorPolicy → RouteTarget → rust.ReflectorPolicy
 rustPolicy Echo target = rust.Echo
@@ -141,9 +146,12 @@ abbrev pub inOutput : Result rust.ReflectorAction → List ℕ → List ℕ
 inOutput (Err error) buffer = buffer
 inOutput (Ok (rust.Noop reason)) buffer = buffer
 inOutput (Ok (rust.Send destination packet RoutedGpdu)) buffer = buffer
-inOutput (Ok (rust.Send destination packet ReflectedGpdu)) buffer = packet .payload ++ drop (length (packet .payload)) buffer
-inOutput (Ok (rust.Send destination packet EchoResponse)) buffer = packet .payload ++ drop (length (packet .payload)) buffer
-inOutput (Ok (rust.Send destination packet ErrorIndication)) buffer = packet .payload ++ drop (length (packet .payload)) buffer
+inOutput (Ok (rust.Send destination packet ReflectedGpdu)) buffer =
+    packet .payload ++ drop (length (packet .payload)) buffer
+inOutput (Ok (rust.Send destination packet EchoResponse)) buffer =
+    packet .payload ++ drop (length (packet .payload)) buffer
+inOutput (Ok (rust.Send destination packet ErrorIndication)) buffer =
+    packet .payload ++ drop (length (packet .payload)) buffer
 
 -- ---- what the Rust's types, its codec and `new_multi` see to
 

@@ -19,7 +19,11 @@ sentOf (r ∷ rs) = record { key = r .sequence; value = r .sent } ∷ sentOf rs
 -- The map of what was received: an entry for each marked row, its latency.
 abbrev pub receivedOf : List Row → List Entry
 receivedOf [] = []
-receivedOf (r ∷ rs) = elim (eqb (r .mark) 1) [ true ↦ record { key = r .sequence; value = r .latency } ∷ receivedOf rs | false ↦ receivedOf rs ]
+receivedOf (r ∷ rs) =
+    elim (eqb (r .mark) 1) [
+      | true ↦ record { key = r .sequence; value = r .latency } ∷ receivedOf rs
+      | false ↦ receivedOf rs
+    ]
 
 -- The highest key of a map.
 abbrev pub highestKey : List Entry → Option ℕ

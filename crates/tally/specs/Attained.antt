@@ -22,12 +22,16 @@ use Rattle.tally.specs.Demand.{Accepted, packet, sendAll, Takes, Call, t
 
 -- A plan that breaks no rule of leaf 5 is accepted, for every flow.
 abbrev pub PlansAccepted : Type 0
-PlansAccepted = (flow : InnerIpFlow) (plan : TrafficPlan) (next : ℕ) → InRange flow next (plan .«first_send_timestamp_ns») → Acceptable plan next
+PlansAccepted =
+    (flow : InnerIpFlow) (plan : TrafficPlan) (next : ℕ)
+    → InRange flow next (plan .«first_send_timestamp_ns») → Acceptable plan next
     → Accepted flow plan next
 
 -- What is sent is what the generator wrote: packet k at its place in the buffer, "packets lie end to end".
 abbrev pub PacketsGenerated : Type 0
-PacketsGenerated = (flow : InnerIpFlow) (plan : TrafficPlan) (next : ℕ) (accepted : Accepted flow plan next) (k : ℕ) → k < plan .«packet_count»
+PacketsGenerated =
+    (flow : InnerIpFlow) (plan : TrafficPlan) (next : ℕ) (accepted : Accepted flow plan next)
+    → (k : ℕ) → k < plan .«packet_count»
     → (let size : ℕ = ipHeaderLength (flow .version) + 32 in
     take size (drop (k * size) (generateOf flow plan next (accepted .buffer) .buffer)) ≡ packet flow plan next k)
 
@@ -54,7 +58,9 @@ pub record Undamaged (flow : InnerIpFlow) (plan : TrafficPlan) (next k n time : 
   pub not-at-the-end : damagedAtTheEnd return ≡ false
 
 abbrev pub UndamagedComes : Type 0
-UndamagedComes = (flow : InnerIpFlow) (plan : TrafficPlan) (next : ℕ) → Accepted flow plan next → (k n time : ℕ) → k < plan .«packet_count» → (call : Call)
+UndamagedComes =
+    (flow : InnerIpFlow) (plan : TrafficPlan) (next : ℕ) → Accepted flow plan next
+    → (k n time : ℕ) → k < plan .«packet_count» → (call : Call)
     → Undamaged flow plan next k n time call
 
 -- ---- examples: a plan of one packet, that of document 01's case 1 or 3 by its flow

@@ -16,9 +16,10 @@ use Rattle.traffic.specs.Generate.{generateOf}
 use Rattle.plan.specs.declared.TrafficPlan.{TrafficPlan}
 use Rattle.gtpu.specs.Message.{gtpuMsgGpdu}
 use Rattle.observer.specs.Counts.{fresh}
+use Rattle.observer.specs.Judge.{Step}
 use Rattle.observer.specs.Observer.{Observer, rows}
 use Rattle.observer.specs.Sending.{recordSent}
-use Rattle.continuity.specs.Returns.{recordReceivedTpdu, recordReturnMessage}
+use Rattle.continuity.specs.Returns.{recordReceivedTpdu, MessageStep, recordReturnMessage}
 use Rattle.report.specs.Report.{reporting}
 use Rattle.tally.specs.Tally.{Tally, tallyOf, Fed, isRefused, tallyReturns, countsOf, tallyReport}
 
@@ -73,9 +74,10 @@ pub record Taken : Type 0 where
 
 abbrev pub takenBy : Call → Observer → ℕ → List ℕ → Taken
 takenBy tpduCall o time tpdu =
-    record { refuses = isRefused (recordReceivedTpdu o time tpdu .outcome); observer = recordReceivedTpdu o time tpdu .observer }
+    let s : Step = recordReceivedTpdu o time tpdu in record { refuses = isRefused (s .outcome); observer = s .observer }
 takenBy messageCall o time tpdu =
-    record { refuses = isRefused (recordReturnMessage o time gtpuMsgGpdu tpdu .outcome); observer = recordReturnMessage o time gtpuMsgGpdu tpdu .observer }
+    let s : MessageStep = recordReturnMessage o time gtpuMsgGpdu tpdu in
+    record { refuses = isRefused (s .outcome); observer = s .observer }
 
 abbrev pub receive : Observer → Handed → Taken
 receive o h = takenBy (h .call) o (h .time) (h .tpdu)
@@ -100,7 +102,8 @@ pub record Return (flow : InnerIpFlow) (plan : TrafficPlan) (next : ℕ) : Type 
 -- some bit was turned on some leg
 abbrev pub someLegTurned : {sent arrived : List ℕ} {n : ℕ} → Travelled sent n arrived → Bool
 someLegTurned (arrives {sent = sent} {arrived = arrived} turned) = not (sameBytes arrived sent)
-someLegTurned (echoes {sent = sent} {at-echo = at-echo} turned echoed onward) = not (sameBytes at-echo sent) || someLegTurned onward
+someLegTurned (echoes {sent =
+    sent} {at-echo = at-echo} turned echoed onward) = not (sameBytes at-echo sent) || someLegTurned onward
 
 -- the bytes of an echo that is not refused
 abbrev pub bytesGiven : Outcome (List ℕ) → List ℕ
@@ -151,7 +154,8 @@ module _ {flow : InnerIpFlow} {plan : TrafficPlan} {next : ℕ} where
   -- left out if refused, else made whole"
   abbrev pub secondRun : (Return flow plan next → Bool) → Observer → Observer → List (Return flow plan next) → Observer
   secondRun damaged first second returns =
-      receiveAll (sendAll second (packetsOf plan next)) (secondList damaged (sendAll first (packetsOf plan next)) returns)
+      receiveAll (sendAll second (packetsOf plan next))
+      (secondList damaged (sendAll first (packetsOf plan next)) returns)
 
   -- the tally, fed the packets and then the returns
   abbrev pub tallyRun : List (Return flow plan next) → Tally
@@ -178,5 +182,6 @@ pub record Demand3 : Type 0 where
   pub one-leg : DamageFound
   -- the second and the third: "for every accepted plan, all entered on a fresh sheet, and every list of returns after
   -- that"
-  pub all-returns : (flow : InnerIpFlow) (plan : TrafficPlan) (next : ℕ) → Accepted flow plan next → (first second : Observer)
-      → Takes plan next first → Takes plan next second → (returns : List (Return flow plan next)) → Run first second returns
+  pub all-returns : (flow : InnerIpFlow) (plan : TrafficPlan) (next : ℕ) → Accepted flow plan next
+      → (first second : Observer) → Takes plan next first → Takes plan next second
+      → (returns : List (Return flow plan next)) → Run first second returns
