@@ -264,7 +264,8 @@ RemoveSession = (r : Reflector) → IsMade r → (teid : ℕ) → NoneAdded (rem
 abbrev pub HandleDatagram : Type 0
 HandleDatagram = (r : Reflector) → IsMade r → SequenceFits r
     → (source : SocketAddr) (message : GtpuMessage) (payload : List ℕ)
-    → ComparedMessage (r .config .policy) message payload → (buffer : List ℕ) → NoneAdded (handling r source message payload buffer .outcome)
+    → ComparedMessage (r .config .policy) message payload
+    → (buffer : List ℕ) → NoneAdded (handling r source message payload buffer .outcome)
     → let after : reflector.Called (Result reflector.ReflectorAction) =
     reflector.«handle_datagram» (rustReflector r) (rustAddress source) (rustMessage message payload) in
     (outcomeOf (after .result)

@@ -163,7 +163,8 @@ unfoldable pub «first_return» : ContinuityObserver → ℕ → ℕ → Continu
 unfoldable pub «record_received_tpdu» : ContinuityObserver → ℕ → List ℕ → Recorded (Unit {0})
 «record_received_tpdu» o return-timestamp-ns tpdu =
     tried («decode_measurement_tpdu» tpdu) o λ decoded.
-    tried («ok_or» (get (decoded .measurement .sequence) (o .sent)) (InvalidPacket error.received-sequence-was-not-sent))
+    tried
+    («ok_or» (get (decoded .measurement .sequence) (o .sent)) (InvalidPacket error.received-sequence-was-not-sent))
     o λ send-timestamp-ns.
     tried («ok_or» («checked_sub» return-timestamp-ns send-timestamp-ns) TimestampReversed) o λ latency-ns.
     elim («contains_key» (decoded .measurement .sequence) (o .received)) [
@@ -196,10 +197,11 @@ unfoldable pub «record_return_gtpu_datagram» : ContinuityObserver → ℕ → 
             record { result = Ok ErrorIndication; observer = «error_indication» o }
         | false ↦ elim (eqb message-type «GTPU_MSG_ECHO_RESPONSE») [
           | true ↦ record { result = Ok EchoResponse; observer = o }
-          | false ↦ elim (eqb message-type «GTPU_MSG_END_MARKER» || eqb message-type «GTPU_MSG_SUPPORTED_EXTENSION_HEADERS_NOTIFICATION») [
-            | true ↦ record { result = Ok (Ignored message-type); observer = o }
-            | false ↦ record { result = Err (InvalidPacket error.unsupported-GTP-U-return-message-type); observer = o }
-          ]
+          | false ↦ elim (eqb message-type «GTPU_MSG_END_MARKER»
+              || eqb message-type «GTPU_MSG_SUPPORTED_EXTENSION_HEADERS_NOTIFICATION») [
+                | true ↦ record { result = Ok (Ignored message-type); observer = o }
+                | false ↦ record { result = Err (InvalidPacket error.unsupported-GTP-U-return-message-type); observer = o }
+              ]
         ]
       ]
     ]

@@ -129,7 +129,8 @@ table windowStart windowEnd =
     }
     ∷ record {
       case = 5;
-      computed = figures longest (reporting (returns (returns sentFive 2 10 50) 5 40 60) windowStart windowEnd zeroLoss);
+      computed = figures longest
+          (reporting (returns (returns sentFive 2 10 50) 5 40 60) windowStart windowEnd zeroLoss);
       expected = gives (number 2 ∷ number 20 ∷ []);
     }
     ∷ record {

@@ -18,7 +18,8 @@ use Rattle.traffic.specs.Generate.{generateOf}
 abbrev pub PacketsReadBack : Type 0
 PacketsReadBack =
     (flow : InnerIpFlow) (plan : TrafficPlan) (next : ℕ) (buffer : List ℕ)
-    → InRange flow next (plan .«first_send_timestamp_ns») → (n : ℕ) → generateOf flow plan next buffer .outcome ≡ gives n
+    → InRange flow next (plan .«first_send_timestamp_ns»)
+    → (n : ℕ) → generateOf flow plan next buffer .outcome ≡ gives n
     → (k : ℕ) → k < plan .«packet_count»
     → readOf (drop (k * (ipHeaderLength (flow .version) + 32)) (generateOf flow plan next buffer .buffer))
     ≡ gives (tpduBuilt flow (next + k) (timeAt plan k))
