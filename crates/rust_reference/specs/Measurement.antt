@@ -40,8 +40,8 @@ abbrev pub reversed : InnerIpFlow → InnerIpFlow
 reversed (Ipv4 src dst src-port dst-port) = Ipv4 dst src dst-port src-port
 reversed (Ipv6 src dst src-port dst-port) = Ipv6 dst src dst-port src-port
 
--- lines 104 to 109, `MeasurementHeader`: the port's struct has the same two fields. Lines 114 to 120: the array of
--- zeros, written in three places.
+-- lines 104 to 109, `MeasurementHeader`: our struct has the same two fields. Lines 114 to 120: the array of zeros,
+-- written in three places.
 unfoldable pub encode : MeasurementHeader → List ℕ
 encode header =
     let out : List ℕ = replicate «MEASUREMENT_HEADER_LEN» 0 in

@@ -29,7 +29,7 @@ Typed policy (register session) = Unit {0}
 Typed policy (remove teid) = Unit {0}
 Typed policy (handle source message payload buffer) = ComparedMessage policy message payload
 
--- Its output, where it is lent one, has the 72 bytes that document 01 asks for: 15 is not due.
+-- The output that it is lent, if any, has the 72 bytes that document 01 asks for: 15 is not due.
 abbrev pub OutputFits : Call → Type 0
 OutputFits (register session) = Unit {0}
 OutputFits (remove teid) = Unit {0}
@@ -41,7 +41,7 @@ pub data Given : Type 0 where
   removed : Option rust.ReflectorSession → Given
   acted : rust.ReflectorAction → Given
 
--- A call's outcome, and the output as it leaves it, where one was lent.
+-- A call's outcome, and the output, if it was lent one, as it leaves it.
 pub record Answer : Type 0 where
   pub outcome : Outcome Given
   pub output : List ℕ
@@ -70,7 +70,7 @@ abbrev pub answersTo : Reflector → List Call → List Answer
 answersTo r [] = []
 answersTo r (call ∷ calls) = answerTo r call ∷ answersTo (afterCall r call) calls
 
--- An answer of ours, in the numbers that are compared.
+-- Our answer, in the numbers that are compared.
 abbrev pub toldAnswer : Answer → Answer
 toldAnswer answer = record { outcome = told (answer .outcome); output = answer .output }
 

@@ -54,8 +54,8 @@ pub record MultiSessionReflectorConfig : Type 0 where
   pub «recovery_counter» : ℕ
   pub policy : ReflectorPolicy
 
--- Lines 85 to 98, `ReflectorStats`, and lines 102 to 111, `ReflectorSendReason`: the port's have the same fields and
--- cases. Lines 115 to 130; a text is a constructor, with hyphens for its spaces.
+-- Lines 85 to 98, `ReflectorStats`, and lines 102 to 111, `ReflectorSendReason`: ours have the same fields and cases.
+-- Lines 115 to 130; a text is a constructor, with hyphens for its spaces.
 pub data NoopReason : Type 0 where
   echo-response-observed error-indication-observed end-marker-ignored : NoopReason
   supported-extension-headers-notification-ignored G-PDU-sunk : NoopReason
@@ -114,13 +114,12 @@ position local-teid (session ∷ sessions) =
       | false ↦ elim (position local-teid sessions) [ None ↦ None | Some index ↦ Some (suc index) ]
     ]
 
--- What a `Vec` has at an index. The Rust panics past the end; here each index is that of a `position`, or of the last
--- element.
+-- What a `Vec` has at an index. The Rust panics past the end; each index here is a `position`, or the last one.
 abbrev pub at : List ReflectorSession → ℕ → ReflectorSession
 at sessions index =
     getD sessions index (record { «local_teid» = 0; «peer_teid» = 0; «peer_addr» = record { ip = V4 []; port = 0 } })
 
--- `Vec::swap_remove`, what it leaves: the last element stands in the hole, and the `Vec` is one shorter.
+-- What `Vec::swap_remove` leaves: the last element stands in the hole, and the `Vec` is one shorter.
 abbrev pub «swap_remove» : List ReflectorSession → ℕ → List ReflectorSession
 «swap_remove» sessions index = take (length sessions - 1) (set sessions index (at sessions (length sessions - 1)))
 

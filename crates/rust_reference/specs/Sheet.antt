@@ -1,5 +1,5 @@
--- The Rust's maps and the port's run sheet: what it is for an observer of the one and one of the other to hold the same
--- ("`BTreeMap` becomes sorted columns", document 01).
+-- The Rust's maps and our run sheet: when two observers hold the same ("`BTreeMap` becomes sorted columns", document
+-- 01).
 use Prim.Native.Nat.{ℕ, _≤_, max}
 use mathlib.Core.Path.{_≡_}
 use mathlib.Core.List.{List, [], _∷_}

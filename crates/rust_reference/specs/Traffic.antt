@@ -20,7 +20,7 @@ use Rattle.rust_reference.specs.Gtpu.{«GTPU_MSG_ECHO_RESPONSE», «GTPU
 
 -- ---- the generator
 
--- lines 18 to 25, `TrafficPlan`: the port's struct has the same three fields. Lines 29 to 42:
+-- lines 18 to 25, `TrafficPlan`: our struct has the same three fields. Lines 29 to 42:
 unfoldable pub «interval_ns» : TrafficPlan → Result ℕ
 «interval_ns» plan = do
   returnIf (eqb (plan .«target_rate_pps») 0) (InvalidPacket error.target-rate-must-be-non-zero)
@@ -75,8 +75,8 @@ unfoldable pub «for_offset» : ℕ → ℕ → InnerIpFlow → TrafficPlan → 
     «for_offset» turns (suc offset) flow plan interval-ns next-sequence
     (packets ++ record { sequence = sequence; «send_timestamp_ns» = send-timestamp-ns; tpdu = tpdu } ∷ [])
 
--- lines 78 to 114. `usize::try_from(plan.packet_count)` does not fail where a `usize` has 64 bits, and only reserves
--- room.
+-- lines 78 to 114. `usize::try_from(plan.packet_count)` only reserves room, and does not fail where a `usize` has 64
+-- bits.
 unfoldable pub generate : ℕ → InnerIpFlow → TrafficPlan → Generated
 generate next-sequence flow plan =
     attempted («interval_ns» plan) next-sequence λ interval-ns.

@@ -83,8 +83,8 @@ pub record Fate : Type 0 where
   pub at-the-end : Bool
   pub refused : Bool
 
--- The packet comes back by this call, with these numbers in a field of it at the end of each leg: there is one echo
--- less than there are numbers.
+-- The packet comes back by this call. At the end of each leg a field of it has these numbers: one for each leg, and so
+-- one more than there are echoes.
 pub record Comes (flow : InnerIpFlow) (call : Call) (part : List ℕ → ℕ) (found : List ℕ) (fate : Fate) : Type 0 where
   pub accepted : Accepted flow examplePlan 1
   pub takes : Takes examplePlan 1 exampleObserver
@@ -110,13 +110,13 @@ pub record Attained : Type 0 where
   pub packets-generated : PacketsGenerated
   pub room-takes : RoomTakes
   pub undamaged-comes : UndamagedComes
-  -- A bit of the send time turned is found.
+  -- A turned bit of the send time is found.
   pub damage-refused : Comes ipv6Flow tpduCall sendTime (1 ∷ [])
       (record { on-a-leg = true; at-the-end = true; refused = true })
-  -- The hop limit, sent as 64, is under no checksum: a bit of it turned is not found.
+  -- The hop limit, sent as 64, is under no checksum: a turned bit of it is not found.
   pub damage-accepted : Comes ipv6Flow tpduCall hopLimit (65 ∷ [])
       (record { on-a-leg = true; at-the-end = true; refused = false })
-  -- Turned before an echo it is mended there: the two readings of "damaged" differ.
+  -- Turned before an echo, it is mended there: the two readings of "damaged" differ.
   pub damage-mended : Comes ipv6Flow tpduCall hopLimit (65 ∷ 64 ∷ [])
       (record { on-a-leg = true; at-the-end = false; refused = false })
   -- "An IPv4 UDP checksum field of 0 is not verified": case 1's 0xB1D8, whose 16 bits are not all equal, turned to 0.

@@ -132,8 +132,7 @@ module _ {flow : InnerIpFlow} {plan : TrafficPlan} {next : ℕ} where
   damagedAtTheEnd r = not (sameBytes (r .arrived) (wholeBytes r))
 
   -- The second list: "the same returns at the same times, each damaged one left out if refused, else made whole".
-  -- Whether a return is refused is what the call answers at that point of the first run, whose observer is carried
-  -- along.
+  -- Whether a return is refused is asked of the call at that point of the first run, whose observer is carried along.
   abbrev pub secondList : (Return flow plan next → Bool) → Observer → List (Return flow plan next) → List Handed
   secondList damaged o [] = []
   secondList damaged o (r ∷ rs) =
@@ -171,8 +170,9 @@ pub record IsTally (o : Observer) (a : Tally) : Type 0 where
   pub report : (windowStart windowEnd : ℕ) (budget : PacketContinuityBudget)
       → reporting o windowStart windowEnd budget ≡ gives (tallyReport a windowStart windowEnd budget)
 
--- Both observers, which need not be alike: whatever their columns held, and however long these are.
-pub record Run {flow : InnerIpFlow} {plan : TrafficPlan} {next : ℕ} (first second : Observer) (returns : List (Return flow plan next)) : Type 0 where
+-- Both observers, which need not be alike: their columns may hold anything and have any lengths.
+pub record Run {flow : InnerIpFlow} {plan : TrafficPlan} {next : ℕ} (first second : Observer)
+    (returns : List (Return flow plan next)) : Type 0 where
   pub tally : IsTally (firstRun first returns) (tallyRun returns)
   pub whole : IsTally (secondRun damagedOnALeg first second returns) (tallyRun returns)
   pub whole-at-the-end : IsTally (secondRun damagedAtTheEnd first second returns) (tallyRun returns)

@@ -91,8 +91,7 @@ fn generate_packets(
     }
 }
 
-// The packets of a plan, from the next sequence in the caller's own record, which is changed there, also by 19 and 20
-// (leaf 5).
+// The packets of a plan, from the next sequence in the caller's record. It is changed there, by 19 and 20 too (leaf 5).
 pub fn generate_from(
     next_sequence: &mut u64,
     flow: InnerIpFlow,
