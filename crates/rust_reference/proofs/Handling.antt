@@ -11,15 +11,15 @@ use lib.ListN.{length}
 use borrow.Author.Tests.{eqb-true, eqb-false, ltb-true, ltb-false, le-ltb}
 use Rattle.counter.specs.Counter.{oneMore}
 use Rattle.error.specs.Outcome.{Outcome, refused, gives, _⇒_, firstCause}
-use Rattle.measurement.specs.Echo.{echoOf}
-use Rattle.measurement.specs.Packet.{address, addressLength}
+use Rattle.measurement.specs.Flow.{address, addressLength}
 use Rattle.measurement.specs.declared.IpVersion.{IpVersion}
 use Rattle.measurement.specs.declared.IpVersion.the-variants.{V4, V6}
+use Rattle.measurement_damage.specs.Echo.{echoOf}
 use Rattle.reflector.specs.Handle.{handleDatagram}
 use Rattle.reflector_answer.specs.Answer.{written, handedOn, Action, noop, send, Answer, gpdu, reflected, gpduOutcome, gpduCounted, gpduKnown, errorIndicationTo, gpduUnknown, isAbsent, echoRequestOutcome, echoRequestCounted, echoRequest, otherMessage, gpduAnswer, answer}
 use Rattle.reflector_answer.specs.Handle.{placed}
 use Rattle.reflector_answer.specs.State.{counted, stateCounted, nextErrorSequence, errorIndicationSent}
-use Rattle.reflector_answer.specs.declared.GtpuMessage.{GtpuMessage}
+use Rattle.gtpu.specs.declared.GtpuMessage.{GtpuMessage}
 use Rattle.reflector_answer.specs.declared.ReflectorCounter.{ReflectorCounter}
 use Rattle.reflector_answer.specs.declared.ReflectorCounter.the-variants as counter
 use Rattle.reflector_answer.specs.declared.ReflectorNoopReason.the-variants as reason
@@ -28,8 +28,8 @@ use Rattle.reflector_answer.specs.declared.ReflectorPolicy.the-variants.{Echo, 
 use Rattle.reflector_answer.specs.declared.ReflectorSendReason.the-variants.{ReflectedGpdu, RoutedGpdu, EchoResponse}
 use Rattle.reflector_answer.specs.declared.ReflectorState.{ReflectorState}
 use Rattle.reflector_answer.specs.declared.ReflectorStats.{ReflectorStats}
-use Rattle.reflector_answer.specs.declared.SequenceNumber.{SequenceNumber}
-use Rattle.reflector_answer.specs.declared.SequenceNumber.the-variants.{Present, Absent}
+use Rattle.gtpu.specs.declared.SequenceNumber.{SequenceNumber}
+use Rattle.gtpu.specs.declared.SequenceNumber.the-variants.{Present, Absent}
 use Rattle.reflector_answer.proofs.Answers.{handling-refused, handling-short, handling-passed}
 use Rattle.reflector_sessions.specs.Judge.{tableOutcome}
 use Rattle.reflector_sessions.specs.Table.{find, usedRows}

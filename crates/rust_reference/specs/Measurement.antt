@@ -5,7 +5,7 @@ use mathlib.Core.List.{List, [], _∷_, _++_}
 use mathlib.Core.Bool.{true, false, not, _||_, _&&_}
 use lib.Dec.{eqb, ltb}
 use lib.ListN.{length, drop, set, replicate}
-use Rattle.field.specs.Field.{bigEndian, number}
+use Rattle.field.specs.Field.{bigEndian, valueOf}
 use Rattle.measurement.specs.declared.MeasurementHeader.{MeasurementHeader}
 use Rattle.rust_reference.specs.Error as error
 use Rattle.rust_reference.specs.Error.{Result, Ok, Err, Truncated, UnsupportedIpVersion, InvalidPacket, Overflow, returnIf, _>>=_, _>>_}
@@ -49,12 +49,12 @@ encode header =
     let out : List ℕ = «copy_from_slice» out 8 (bigEndian 8 (header .sequence)) in
     «copy_from_slice» out 16 (bigEndian 8 (header .«send_timestamp_ns»))
 
--- lines 123 to 140. `u64::from_be_bytes` is `number`.
+-- lines 123 to 140. `u64::from_be_bytes` is `valueOf`.
 unfoldable pub decode : List ℕ → Result MeasurementHeader
 decode input = do
   returnIf (ltb (length input) «MEASUREMENT_HEADER_LEN») (Truncated error.measurement-header)
   returnIf (not (same (range input 0 8) «MEASUREMENT_MAGIC»)) (InvalidPacket error.measurement-magic-mismatch)
-  Ok (record { sequence = number (range input 8 16); «send_timestamp_ns» = number (range input 16 24) })
+  Ok (record { sequence = valueOf (range input 8 16); «send_timestamp_ns» = valueOf (range input 16 24) })
 
 -- ---- checksum, lines 459 to 474
 

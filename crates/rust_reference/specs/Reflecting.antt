@@ -4,8 +4,8 @@ use mathlib.Core.List.{List, [], _∷_}
 use mathlib.Core.Bool.{Bool}
 use lib.ListN.{length}
 use Rattle.error.specs.Outcome.{Outcome, gives}
-use Rattle.reflector_answer.specs.Handle.{placed}
-use Rattle.reflector_answer.specs.declared.GtpuMessage.{GtpuMessage}
+use Rattle.reflector_answer.specs.Handle.{placed, reflectorBytes}
+use Rattle.gtpu.specs.declared.GtpuMessage.{GtpuMessage}
 use Rattle.reflector_answer.specs.declared.ReflectorPolicy.{ReflectorPolicy}
 use Rattle.reflector_sessions.specs.Register.{registerSession}
 use Rattle.reflector_sessions.specs.Remove.{removeSession}
@@ -29,11 +29,11 @@ Typed policy (register session) = Unit {0}
 Typed policy (remove teid) = Unit {0}
 Typed policy (handle source message payload buffer) = ComparedMessage policy message payload
 
--- The output that it is lent, if any, has the 72 bytes that document 01 asks for: 15 is not due.
+-- The output that it is lent, if any, has the bytes that document 01 asks for: 15 is not due.
 abbrev pub OutputFits : Call → Type 0
 OutputFits (register session) = Unit {0}
 OutputFits (remove teid) = Unit {0}
-OutputFits (handle source message payload buffer) = 72 ≤ length buffer
+OutputFits (handle source message payload buffer) = reflectorBytes ≤ length buffer
 
 -- What a call gives, in the Rust's terms.
 pub data Given : Type 0 where

@@ -5,7 +5,7 @@ use mathlib.Core.List.{List, map, _++_}
 use mathlib.Core.Option.{Option, some, none}
 use lib.ListN.{length, drop}
 use Rattle.error.specs.Outcome.{Outcome, refused, gives}
-use Rattle.measurement.specs.Packet.{address}
+use Rattle.measurement.specs.Flow.{address}
 use Rattle.measurement.specs.declared.IpVersion.{IpVersion}
 use Rattle.measurement.specs.declared.IpVersion.the-variants.{V4, V6}
 use Rattle.reflector.specs.Handle.{handleDatagram}
@@ -15,7 +15,7 @@ use Rattle.reflector_sessions.specs.declared.ReflectorSession.{ReflectorSession
 use Rattle.reflector_sessions.specs.declared.SocketAddr.{SocketAddr}
 use Rattle.reflector_answer.specs.Answer.{payloadBytes, Action, noop, send, Answer}
 use Rattle.reflector_answer.specs.State.{fresh}
-use Rattle.reflector_answer.specs.declared.GtpuMessage.{GtpuMessage}
+use Rattle.gtpu.specs.declared.GtpuMessage.{GtpuMessage}
 use Rattle.reflector_answer.specs.declared.MultiSessionReflectorConfig.{MultiSessionReflectorConfig}
 use Rattle.reflector_answer.specs.declared.ReflectorNoopReason.{ReflectorNoopReason}
 use Rattle.reflector_answer.specs.declared.ReflectorNoopReason.the-variants.{GpduSunk, EchoResponseObserved, ErrorIndicationObserved, EndMarkerIgnored, SupportedExtensionHeadersNotificationIgnored}
@@ -24,8 +24,8 @@ use Rattle.reflector_answer.specs.declared.ReflectorPolicy.the-variants.{Echo, 
 use Rattle.reflector_answer.specs.declared.ReflectorSendReason.the-variants.{ReflectedGpdu, RoutedGpdu, EchoResponse, ErrorIndication}
 use Rattle.reflector_answer.specs.declared.ReflectorState.{ReflectorState}
 use Rattle.reflector_answer.specs.declared.RouteTarget.{RouteTarget}
-use Rattle.reflector_answer.specs.declared.SequenceNumber.{SequenceNumber}
-use Rattle.reflector_answer.specs.declared.SequenceNumber.the-variants.{Present, Absent}
+use Rattle.gtpu.specs.declared.SequenceNumber.{SequenceNumber}
+use Rattle.gtpu.specs.declared.SequenceNumber.the-variants.{Present, Absent}
 use Rattle.rust_reference.specs.Error.{Result, Ok, Err}
 use Rattle.rust_reference.specs.Gtpu as gtpu
 use Rattle.rust_reference.specs.Map as map

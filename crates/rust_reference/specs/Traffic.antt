@@ -200,7 +200,10 @@ unfoldable pub «record_return_gtpu_datagram» : ContinuityObserver → ℕ → 
           | false ↦ elim (eqb message-type «GTPU_MSG_END_MARKER»
               || eqb message-type «GTPU_MSG_SUPPORTED_EXTENSION_HEADERS_NOTIFICATION») [
                 | true ↦ record { result = Ok (Ignored message-type); observer = o }
-                | false ↦ record { result = Err (InvalidPacket error.unsupported-GTP-U-return-message-type); observer = o }
+                | false ↦ record {
+                  result = Err (InvalidPacket error.unsupported-GTP-U-return-message-type);
+                  observer = o;
+                }
               ]
         ]
       ]
