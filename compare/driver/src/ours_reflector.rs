@@ -144,7 +144,8 @@ pub struct Message {
 pub struct Handled {
     pub number: u8,
     pub action: u8,
-    pub reason: u8,
+    pub noop_reason: u8,
+    pub send_reason: u8,
     pub bytes: usize,
     pub destination: Address,
     pub message: Message,

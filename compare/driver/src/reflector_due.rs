@@ -109,7 +109,8 @@ pub fn handled(
     Handled {
         number: 0,
         action: 2,
-        reason,
+        noop_reason: 0,
+        send_reason: reason,
         bytes,
         destination: our_address(*destination),
         message: Header {
@@ -123,11 +124,11 @@ pub fn handled(
 }
 
 /// An answer with nothing to send: version 4 and zeros for the message.
-pub fn not_sent(number: u8, action: u8, reason: u8, state: State) -> Handled {
+pub fn not_sent(number: u8, action: u8, noop_reason: u8, state: State) -> Handled {
     Handled {
         number,
         action,
-        reason,
+        noop_reason,
         destination: Address {
             version: 4,
             ..Address::default()
