@@ -1,4 +1,5 @@
-//! What is due from our reflector where the Rust's answers this, and ours in the Rust's types.
+//! What our reflector has to answer where the Rust's answers this, in the numbers that are compared
+//! (compared.rs); and our values in the Rust's types.
 
 use std::net::{IpAddr, SocketAddr};
 

@@ -12,7 +12,7 @@ use lib.Seq.{take-append-seam}
 use borrow.Author.Tests.{eq-eqb}
 use Rattle.error.specs.Number.{outputTooShort}
 use Rattle.error.specs.Outcome.{Outcome, refused, gives, Cause, _⇒_, firstCause}
-use Rattle.measurement.specs.Echo.{echoOf}
+use Rattle.measurement_damage.specs.Echo.{echoOf}
 use Rattle.reflector_sessions.specs.Judge.{tableCauses, tableOutcome}
 use Rattle.reflector_sessions.specs.Session.{valueOf, noSession}
 use Rattle.reflector_sessions.specs.Table.{tableOf, usedRows, find}
@@ -24,7 +24,7 @@ use Rattle.reflector_answer.specs.declared.ReflectorPolicy.{ReflectorPolicy}
 use Rattle.reflector_answer.specs.declared.ReflectorPolicy.the-variants.{Echo, SinkAndCount, Route}
 use Rattle.reflector_answer.specs.declared.ReflectorNoopReason.{ReflectorNoopReason}
 use Rattle.reflector_answer.specs.declared.ReflectorSendReason.the-variants.{ReflectedGpdu, EchoResponse, ErrorIndication}
-use Rattle.reflector_answer.specs.declared.SequenceNumber.the-variants.{Absent}
+use Rattle.gtpu.specs.declared.SequenceNumber.the-variants.{Absent}
 use Rattle.reflector_answer.proofs.Answers.{handling-passed}
 use Rattle.reflector.specs.Handle.{handleDatagram}
 use Rattle.reflected_legs.specs.Hop.{Reflector, answerTo, gpduSent, sentOn, Forwards}

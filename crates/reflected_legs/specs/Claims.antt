@@ -7,14 +7,14 @@ use mathlib.Core.Option.{some}
 use lib.ListN.{length}
 use Rattle.error.specs.Outcome.{gives}
 use Rattle.checksum.specs.Damage.{Turned}
-use Rattle.measurement.specs.Echo.{echoOf}
-use Rattle.measurement.specs.Claims.{Travelled}
+use Rattle.measurement_damage.specs.Echo.{echoOf}
+use Rattle.measurement_damage.specs.Claims.{Travelled}
 use Rattle.gtpu.specs.Message.{gtpuMsgGpdu}
 use Rattle.reflector_sessions.specs.Judge.{tableOutcome}
 use Rattle.reflector_sessions.specs.Table.{tableOf, usedRows, find}
 use Rattle.reflector_sessions.specs.declared.ReflectorSession.{ReflectorSession}
 use Rattle.reflector_answer.specs.Answer.{payloadBytes, Outbound, send}
-use Rattle.reflector_answer.specs.Handle.{actionMeans}
+use Rattle.reflector_answer.specs.Handle.{actionMeans, reflectorBytes}
 use Rattle.reflector_answer.specs.declared.ReflectorAction.the-variants.{Send}
 use Rattle.reflector_answer.specs.declared.ReflectorPolicy.{ReflectorPolicy}
 use Rattle.reflector_answer.specs.declared.ReflectorPolicy.the-variants.{Echo, SinkAndCount, Route}
@@ -38,7 +38,7 @@ PayloadTold = (r : Reflector) (payload : List ℕ) (message : Outbound)
 -- A G-PDU of a known session, not refused by 30, 31 or 15.
 pub record Known (r : Reflector) (session : ReflectorSession) : Type 0 where
   pub sound : tableOutcome (length (r .sessions)) (r .used) (r .config .«max_sessions») ≡ gives (r .used)
-  pub room : 72 ≤ length (r .output)
+  pub room : reflectorBytes ≤ length (r .output)
   pub is-gpdu : r .message .«message_type» ≡ gtpuMsgGpdu
   pub found : find (r .message .teid) (usedRows (tableOf (r .sessions) (r .used) (r .config .«max_sessions»)))
       ≡ some session

@@ -5,7 +5,7 @@ use mathlib.Core.List.{List}
 use lib.ListN.{length}
 use Rattle.reflector_answer.specs.Answer.{Answer}
 use Rattle.reflector_answer.specs.Handle.{handleFound}
-use Rattle.reflector_answer.specs.declared.GtpuMessage.{GtpuMessage}
+use Rattle.gtpu.specs.declared.GtpuMessage.{GtpuMessage}
 use Rattle.reflector_answer.specs.declared.MultiSessionReflectorConfig.{MultiSessionReflectorConfig}
 use Rattle.reflector_sessions.specs.declared.ReflectorSession.{ReflectorSession}
 use Rattle.reflector_answer.specs.declared.ReflectorState.{ReflectorState}

@@ -1,7 +1,7 @@
 // The reflector (leaf 9; `handle_datagram` of the Rust's reflector.rs after its decode): a message, whose TEID is looked for in the session
 // table, and what is answered to it. Its contract is one definition of specs/: the answer, the counts, the error sequence and every byte
 // of the output, on refusals too.
-use reflector_answer::GtpuMessage;
+use gtpu::GtpuMessage;
 use reflector_answer::Handled;
 use reflector_answer::MultiSessionReflectorConfig;
 use reflector_answer::ReflectorState;

@@ -8,13 +8,13 @@ use lib.Dec.{eqb}
 use Rattle.error.specs.Number.{echoRequestTeidNotZero, echoRequestMissingSequence, unsupportedMessageType}
 use Rattle.error.specs.Outcome.{Outcome, refused, gives, _⇒_, firstCause}
 use Rattle.field.specs.Field.{bigEndian, bytesAt}
-use Rattle.measurement.specs.Packet.{address}
-use Rattle.measurement.specs.Echo.{echoOf}
+use Rattle.measurement.specs.Flow.{address}
+use Rattle.measurement_damage.specs.Echo.{echoOf}
 use Rattle.gtpu.specs.Claims.{errorIndication}
 use Rattle.gtpu.specs.Message.{gtpuMsgEchoRequest, gtpuMsgEchoResponse, gtpuMsgErrorIndication, gtpuMsgSupportedExtensionHeadersNotification, gtpuMsgEndMarker, gtpuMsgGpdu}
 use Rattle.reflector_sessions.specs.Session.{valueOf}
 use Rattle.reflector_answer.specs.State.{stateCounted, errorIndicationSent}
-use Rattle.reflector_answer.specs.declared.GtpuMessage.{GtpuMessage}
+use Rattle.gtpu.specs.declared.GtpuMessage.{GtpuMessage}
 use Rattle.reflector_answer.specs.declared.MultiSessionReflectorConfig.{MultiSessionReflectorConfig}
 use Rattle.reflector_answer.specs.declared.ReflectorCounter.the-variants.{GpduReceived, GpduForwarded, EchoRequestsAnswered, MalformedRejected}
 use Rattle.reflector_answer.specs.declared.ReflectorCounter.the-variants as counter
@@ -26,8 +26,8 @@ use Rattle.reflector_answer.specs.declared.ReflectorSendReason.{Reflecto
 use Rattle.reflector_answer.specs.declared.ReflectorSendReason.the-variants.{ReflectedGpdu, RoutedGpdu, EchoResponse, ErrorIndication}
 use Rattle.reflector_sessions.specs.declared.ReflectorSession.{ReflectorSession}
 use Rattle.reflector_answer.specs.declared.ReflectorState.{ReflectorState}
-use Rattle.reflector_answer.specs.declared.SequenceNumber.{SequenceNumber}
-use Rattle.reflector_answer.specs.declared.SequenceNumber.the-variants.{Present, Absent}
+use Rattle.gtpu.specs.declared.SequenceNumber.{SequenceNumber}
+use Rattle.gtpu.specs.declared.SequenceNumber.the-variants.{Present, Absent}
 use Rattle.reflector_sessions.specs.declared.SocketAddr.{SocketAddr}
 
 -- The payload of an answer: bytes that the reflector writes, or the received payload. "Route hands on the payload uncopied."

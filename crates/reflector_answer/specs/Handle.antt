@@ -9,8 +9,8 @@ use lib.Dec.{ltb}
 use lib.ListN.{length, take, drop, replicate}
 use Rattle.error.specs.Number.{outputTooShort}
 use Rattle.error.specs.Outcome.{Outcome, refused, gives, _⇒_, firstCause}
-use Rattle.measurement.specs.Echo.{echoOf}
 use Rattle.measurement.specs.declared.IpVersion.the-variants.{V4}
+use Rattle.measurement_damage.specs.Echo.{echoOf}
 use Rattle.gtpu.specs.Message.{gtpuMsgGpdu}
 use Rattle.reflector_answer.specs.State.{stateCounted}
 use Rattle.reflector_answer.specs.declared.ReflectorCounter.the-variants.{GpduForwarded}
@@ -18,7 +18,7 @@ use Rattle.reflector_answer.specs.declared.ReflectorSendReason.{Reflecto
 use Rattle.reflector_answer.specs.declared.ReflectorSendReason.the-variants.{ReflectedGpdu, RoutedGpdu, EchoResponse, ErrorIndication}
 use Rattle.reflector_sessions.specs.Judge.{tableCauses}
 use Rattle.reflector_answer.specs.Answer.{Payload, written, handedOn, Outbound, Action, noop, send, Answer, answer}
-use Rattle.reflector_answer.specs.declared.GtpuMessage.{GtpuMessage}
+use Rattle.gtpu.specs.declared.GtpuMessage.{GtpuMessage}
 use Rattle.reflector_answer.specs.declared.Handled.{Handled}
 use Rattle.reflector_answer.specs.declared.MultiSessionReflectorConfig.{MultiSessionReflectorConfig}
 use Rattle.reflector_answer.specs.declared.OutboundMessage.{OutboundMessage}
@@ -26,7 +26,7 @@ use Rattle.reflector_answer.specs.declared.ReflectorAction.{ReflectorAct
 use Rattle.reflector_answer.specs.declared.ReflectorAction.the-variants.{Refused, Noop, Send}
 use Rattle.reflector_sessions.specs.declared.ReflectorSession.{ReflectorSession}
 use Rattle.reflector_answer.specs.declared.ReflectorState.{ReflectorState}
-use Rattle.reflector_answer.specs.declared.SequenceNumber.the-variants.{Absent}
+use Rattle.gtpu.specs.declared.SequenceNumber.the-variants.{Absent}
 use Rattle.reflector_sessions.specs.declared.SocketAddr.{SocketAddr}
 
 abbrev pub noAddress : SocketAddr

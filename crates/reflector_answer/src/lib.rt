@@ -2,6 +2,8 @@
 // message whose TEID means a given session or none. Everything here is by value or on lent bytes; the session table is in the crate
 // reflector_sessions. What an answer is, is defined in specs/Answer.antt, and each contract is that definition: the answer, the counts, the error
 // sequence and every byte of the output, on refusals too.
+use gtpu::GtpuMessage;
+use gtpu::SequenceNumber;
 use measurement::IpVersion;
 use measurement::Written;
 use reflector_sessions::FoundSession;
@@ -13,7 +15,7 @@ ghost use Prim.Native.Nat.{_≤_};
 ghost use mathlib.Core.List.{_++_};
 ghost use lib.ListN.{length, drop};
 ghost use Rattle.error.specs.Outcome.{refused};
-ghost use Rattle.measurement.specs.Packet.{addressLength};
+ghost use Rattle.measurement.specs.Flow.{addressLength};
 ghost use Rattle.reflector_sessions.specs.Judge.{sessionFound};
 ghost use Rattle.reflector_answer.specs.State.{counted, nextErrorSequence, stateCounted};
 ghost use Rattle.reflector_answer.specs.Answer.{errorIndicationBlock, errorIndicationTo, ignored, gpduKnown, gpduUnknown, echoRequest, otherMessage, answer};
@@ -65,19 +67,6 @@ pub enum ReflectorCounter {
 pub struct ReflectorState {
     pub stats: ReflectorStats,
     pub next_error_sequence: u16,
-}
-
-// A sequence number that a message may lack.
-pub enum SequenceNumber {
-    Present(u16),
-    Absent,
-}
-
-// A parsed GTP-U message, without its payload.
-pub struct GtpuMessage {
-    pub message_type: u8,
-    pub teid: u32,
-    pub sequence_number: SequenceNumber,
 }
 
 // Why a message is sent.

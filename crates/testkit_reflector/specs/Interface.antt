@@ -15,7 +15,7 @@ use Rattle.reflector_sessions.specs.declared.LentSocketAddr.{LentSocketAddr}
 use Rattle.reflector_sessions.specs.declared.SocketAddr.{SocketAddr}
 use Rattle.reflector_answer.specs.Answer.{Answer}
 use Rattle.reflector_answer.specs.Handle.{handledOf, placed}
-use Rattle.reflector_answer.specs.declared.GtpuMessage.{GtpuMessage}
+use Rattle.gtpu.specs.declared.GtpuMessage.{GtpuMessage}
 use Rattle.reflector_answer.specs.declared.Handled.{Handled}
 use Rattle.reflector_answer.specs.declared.MultiSessionReflectorConfig.{MultiSessionReflectorConfig}
 use Rattle.reflector_answer.specs.declared.OutboundMessage.{OutboundMessage}
@@ -28,9 +28,9 @@ use Rattle.reflector_answer.specs.declared.ReflectorPolicy.the-variants.{Echo, 
 use Rattle.reflector_answer.specs.declared.ReflectorSendReason.{ReflectorSendReason}
 use Rattle.reflector_answer.specs.declared.ReflectorSendReason.the-variants as send
 use Rattle.reflector_answer.specs.declared.ReflectorState.{ReflectorState}
-use Rattle.reflector_answer.specs.declared.SequenceNumber.{SequenceNumber}
-use Rattle.reflector_answer.specs.declared.SequenceNumber.the-variants.{Absent, Present}
-use Rattle.measurement.specs.Packet.{versionNumber}
+use Rattle.gtpu.specs.declared.SequenceNumber.{SequenceNumber}
+use Rattle.gtpu.specs.declared.SequenceNumber.the-variants.{Absent, Present}
+use Rattle.measurement.specs.Flow.{versionNumber}
 use Rattle.testkit_reflector.specs.declared.ActionNumbers.{ActionNumbers}
 use Rattle.testkit_reflector.specs.declared.HandlingArguments.{HandlingArguments}
 use Rattle.testkit_reflector.specs.declared.SequenceNumbers.{SequenceNumbers}

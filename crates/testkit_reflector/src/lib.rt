@@ -1,7 +1,8 @@
 // The C interface to the reflector: each call under the prefix `testkit_`, with the call's own contract. The session
 // table is a lent slice of records, which hold numbers only; what else a call takes and answers goes by value. A
 // version is 4 for IPv4 and every other number for IPv6. A refusal is its number, and 0 is none.
-use reflector_answer::GtpuMessage;
+use gtpu::GtpuMessage;
+use gtpu::SequenceNumber;
 use reflector_answer::Handled;
 use reflector_answer::MultiSessionReflectorConfig;
 use reflector_answer::OutboundMessage;
@@ -12,7 +13,6 @@ use reflector_answer::ReflectorSendReason;
 use reflector_answer::ReflectorState;
 use reflector_answer::ReflectorStats;
 use reflector_answer::RouteTarget;
-use reflector_answer::SequenceNumber;
 use reflector_sessions::LentSocketAddr;
 use reflector_sessions::ReflectorSession;
 use reflector_sessions::Registered;

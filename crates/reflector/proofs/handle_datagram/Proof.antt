@@ -42,7 +42,7 @@ use denote.Triple.Walked.{says, Stays, stay-dropped, gave-slice, walkOf, goes-dr
 use denote.Exit.{yes}
 use Rattle.reflector_answer.specs.Answer.{Answer}
 use Rattle.reflector_answer.specs.Handle.{Answers, handleFound}
-use Rattle.reflector_answer.specs.declared.GtpuMessage.{GtpuMessage}
+use Rattle.gtpu.specs.declared.GtpuMessage.{GtpuMessage}
 use Rattle.reflector_answer.specs.declared.Handled.{Handled}
 use Rattle.reflector_answer.specs.declared.MultiSessionReflectorConfig.{MultiSessionReflectorConfig}
 use Rattle.reflector_answer.specs.declared.ReflectorState.{ReflectorState}
@@ -63,8 +63,8 @@ use Rattle.reflector_answer.proofs.MultiSessionReflectorConfig as K
 use Rattle.reflector_answer.proofs.MultiSessionReflectorConfig.Laws as K′
 use Rattle.reflector_answer.proofs.ReflectorState as S
 use Rattle.reflector_answer.proofs.ReflectorState.Laws as S′
-use Rattle.reflector_answer.proofs.GtpuMessage as G
-use Rattle.reflector_answer.proofs.GtpuMessage.Laws as G′
+use Rattle.gtpu.proofs.GtpuMessage as G
+use Rattle.gtpu.proofs.GtpuMessage.Laws as G′
 use Rattle.reflector_answer.proofs.Handled as N
 use Rattle.reflector_answer.proofs.Handled.Laws as N′
 use Rattle.reflector_sessions.proofs.find_session as find
