@@ -8,7 +8,7 @@ use reflector_answer::ReflectorState;
 use reflector_sessions::ReflectorSession;
 use reflector_sessions::SocketAddr;
 ghost use mathlib.Core.Path.{_≡_};
-ghost use Rattle.reflector_answer.specs.Handle.{Answers};
+ghost use Rattle.reflector_answer.specs.Handle.{HandledAs};
 ghost use Rattle.reflector.specs.Handle.{handleDatagram};
 
 // Handles a message: 30, 31, 15, then by its type.
@@ -22,7 +22,9 @@ pub fn handle_datagram(
     payload: &[u8],
     out: &mut [u8],
 ) -> Handled
-    ensures { λ r. ⌜ Answers r (now (out .exit)) (handleDatagram (now (sessions .entry)) used config state source message (now (payload .entry)) (now (out .entry))) (now (out .entry)) ⌝ }
+    ensures { λ r. ⌜ HandledAs r (now (out .exit))
+        (handleDatagram (now (sessions .entry)) used config state source message (now (payload .entry)) (now (out .entry)))
+        (now (out .entry)) ⌝ }
 {
     let found = reflector_sessions::find_session(sessions, used, config.max_sessions, message.teid);
     reflector_answer::handle_found(

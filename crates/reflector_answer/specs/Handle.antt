@@ -93,6 +93,10 @@ placed (gives (send message)) buffer = elim (message .payload) [ written bytes �
 abbrev pub Answers : Handled → List ℕ → Answer → List ℕ → Type 0
 Answers r after a before = (r ≡ handledOf a) × (after ≡ placed (a .outcome) before)
 
+-- What a call promises of them: the answer's case means the outcome, and nothing is left open beside it.
+abbrev pub HandledAs : Handled → List ℕ → Answer → List ℕ → Type 0
+HandledAs r after a before = (actionMeans (r .action) (r .message) after ≡ a .outcome) × Answers r after a before
+
 -- The output has room for the echo of a payload, if there is one.
 abbrev pub EchoFits : List ℕ → List ℕ → Type 0
 EchoFits payload output = (bytes : List ℕ) → echoOf payload ≡ gives bytes → length bytes ≤ length output

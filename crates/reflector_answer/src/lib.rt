@@ -20,7 +20,7 @@ ghost use Rattle.reflector_sessions.specs.Judge.{sessionFound};
 ghost use Rattle.reflector_answer.specs.State.{counted, nextErrorSequence, stateCounted};
 ghost use Rattle.reflector_answer.specs.Answer.{errorIndicationBlock, errorIndicationTo, ignored, gpduKnown, gpduUnknown, echoRequest, otherMessage, answer};
 ghost use Rattle.reflector_answer.specs.Claims.{IndicationAccepted, EchoReadsBack};
-ghost use Rattle.reflector_answer.specs.Handle.{nothingSent, handledOf, forwarded, Answers, EchoFits, reflectorBytes, handleFound};
+ghost use Rattle.reflector_answer.specs.Handle.{nothingSent, handledOf, forwarded, Answers, HandledAs, EchoFits, reflectorBytes, handleFound};
 
 // Where the policy `Route` sends G-PDUs.
 pub struct RouteTarget {
@@ -445,7 +445,9 @@ pub fn handle_found(
     payload: &[u8],
     out: &mut [u8],
 ) -> Handled
-    ensures { λ r. ⌜ Answers r (now (out .exit)) (handleFound length used config state (sessionFound used found) source message (now (payload .entry)) (now (out .entry))) (now (out .entry)) ⌝ }
+    ensures { λ r. ⌜ HandledAs r (now (out .exit))
+        (handleFound length used config state (sessionFound used found) source message (now (payload .entry)) (now (out .entry)))
+        (now (out .entry)) ⌝ }
 {
     match reflector_sessions::judge_table(length, used, config.max_sessions) {
         JudgedTable::Refused(number) => state.refuse(number),

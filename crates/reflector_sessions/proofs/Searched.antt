@@ -3,7 +3,7 @@
 -- three meet theirs, and what the answer and the rows are is what it promises. The two differ in what they pass, so the operands that differ are parameters: where the TEID
 -- stands in _4, what the second function takes more than they share, and the third's last.
 use mathlib.Core.Path.{_≡_, refl, sym, ap, subst}
-use Prim.Native.Nat.{ℕ, _<_, _^_, _+_}
+use Prim.Native.Nat.{ℕ, _<_, _^_}
 use mathlib.Core.List.{[], _∷_, List}
 use lib.Dec.{T as True}
 use lib.ListN.{length}

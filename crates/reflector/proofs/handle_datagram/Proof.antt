@@ -9,7 +9,7 @@ use denote.Struct.Laws as LL
 use denote.Triple.Spec.{tripleOf}
 use denote.Triple.Table.{entered, cited}
 use Rattle.reflector_answer.specs.Answer.{Answer}
-use Rattle.reflector_answer.specs.Handle.{Answers, handleFound}
+use Rattle.reflector_answer.specs.Handle.{HandledAs, handleFound}
 use Rattle.reflector_sessions.specs.Judge.{sessionFound}
 use Rattle.reflector.specs.Handle.{handleDatagram}
 use Rattle.reflector.proofs.Handling.{handled-is}
@@ -40,10 +40,10 @@ use Rattle.reflector.proofs.handle_datagram.Code as code
 
 -- what `handle_found` promises, and what is due
 abbrev Done : FoundPromise K.the-row S.the-row D.the-row G.the-row N.the-row
-Done rows used config state found source message payload out r after = Answers r after (handleFound rows used config state (sessionFound used found) source message payload out) out
+Done rows used config state found source message payload out r after = HandledAs r after (handleFound rows used config state (sessionFound used found) source message payload out) out
 
 abbrev Due : Promise K.the-row S.the-row D.the-row G.the-row N.the-row
-Due sessions used config state source message payload out r after = Answers r after (handleDatagram sessions used config state source message payload out) out
+Due sessions used config state source message payload out r after = HandledAs r after (handleDatagram sessions used config state source message payload out) out
 
 pub handle-datagram-spec : {M : Type 1} → stated.statement M
 unfolding code.routine tablesOf
@@ -55,7 +55,7 @@ handle-datagram-spec 𝓤 H 𝓜 𝓖 𝓡 =
     (struct S.the-type S′.the-laws S′.the-plain (λ x. tt) (λ x f. refl)) (struct D.the-type D′.the-laws D′.the-plain (λ x. tt) (λ x f. refl))
     (λ message. getV (fieldsOf (LL.val G.the-type G′.the-laws message)) 0) (λ message. message .teid) (λ message. restOf (restOf (fieldsOf (LL.val G.the-type G′.the-laws message)))) (one-struct G.the-type G′.the-laws G′.the-plain (λ x. tt) (λ x f. refl))
     (struct N.the-type N′.the-laws N′.the-plain (λ x. tt) (λ x f. refl)) (λ config is. LL.owed K.the-type K′.the-laws config _ is .0 .1) (λ message is. LL.owed G.the-type G′.the-laws message _ is .1 .0 .1) Done Due
-    (λ sessions used config state source message payload out r after answered. subst (λ (to : Answer). Answers r after to out) (handled-is config state source message payload out sessions used) answered) #handle-found
+    (λ sessions used config state source message payload out r after answered. subst (λ (to : Answer). HandledAs r after to out) (handled-is config state source message payload out sessions used) answered) #handle-found
     𝓤 H (𝓖 .A) (givenOf 𝓤 H 𝓜 𝓖) (𝓜 .mem) (𝓡 .run) (tablesOf 𝓤 H 𝓜 (tables 𝓤 H 𝓜 𝓡 code.env))
     (cited 𝓤 H (Find 𝓤 H (𝓖 .A) (𝓜 .mem) (𝓡 .run)) 𝓜 𝓡 code.env #find-session find-def.routine code.calls-reflector-sessions·find-session (find-thm.met 𝓤 H 𝓜 𝓖 𝓡))
     (cited 𝓤 H (HandlesFound K.the-row S.the-row D.the-row G.the-row N.the-row 𝓤 H (𝓖 .A) Done) 𝓜 𝓡 code.env #handle-found handle-def.routine code.calls-reflector-answer·handle-found (handle-thm.met 𝓤 H 𝓜 𝓖 𝓡)))

@@ -30,7 +30,7 @@ returns c =
     let k = c .before .before .before in
     let m = k .before .before in
     found-numbers (c .handled-numbers .result) (k .handle-found .result) _ _ _ _ _ _ (m .before .before .before .config-of .ensures) (m .before .before .state-of .ensures) (m .before .value .ensures) (m .message-of .ensures)
-    (c .handled-numbers .ensures) (k .handle-found .ensures)
+    (c .handled-numbers .ensures) (k .handle-found .ensures .1)
 
 pub handle-found-spec : {M : Type 1} → statement M
 handle-found-spec =
