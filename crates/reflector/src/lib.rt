@@ -1,6 +1,6 @@
-// The reflector (leaf 9; `handle_datagram` of the Rust's reflector.rs after its decode): a message, whose TEID is looked for in the session
-// table, and what is answered to it. Its contract is one definition of specs/: the answer, the counts, the error sequence and every byte
-// of the output, on refusals too.
+// The reflector (leaf 9; `handle_datagram` of the Rust's reflector.rs after its decode): a message, whose TEID is
+// looked for in the session table, and what is answered to it. Its contract is one definition of specs/: the answer,
+// the counts, the error sequence and every byte of the output, on refusals too.
 use gtpu::GtpuMessage;
 use reflector_answer::Handled;
 use reflector_answer::MultiSessionReflectorConfig;
@@ -23,7 +23,8 @@ pub fn handle_datagram(
     out: &mut [u8],
 ) -> Handled
     ensures { λ r. ⌜ HandledAs r (now (out .exit))
-        (handleDatagram (now (sessions .entry)) used config state source message (now (payload .entry)) (now (out .entry)))
+        (handleDatagram (now (sessions .entry)) used config state source message (now (payload .entry))
+        (now (out .entry)))
         (now (out .entry)) ⌝ }
 {
     let found = reflector_sessions::find_session(sessions, used, config.max_sessions, message.teid);

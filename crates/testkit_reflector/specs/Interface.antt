@@ -59,11 +59,17 @@ isRemoved (gives none) = false
 isRemoved (gives (some session)) = true
 
 abbrev pub removedNumbers : Outcome (Option ReflectorSession) → ℕ → ReflectorSession → TestkitRemoved
-removedNumbers outcome used session = record { number = outcomeNumber outcome; removed = isRemoved outcome; used = used; session = session }
+removedNumbers outcome used session = record {
+  number = outcomeNumber outcome;
+  removed = isRemoved outcome;
+  used = used;
+  session = session;
+}
 
 -- The answer and the rows of a removal.
 abbrev pub RemovesNumbers : TestkitRemoved → List ReflectorSession → Removing → Type 0
-RemovesNumbers r rows to = (r ≡ removedNumbers (to .outcome) (to .table .used) (sessionOf (to .outcome))) × (rows ≡ to .table .sessions)
+RemovesNumbers r rows to = (r ≡ removedNumbers (to .outcome) (to .table .used) (sessionOf (to .outcome)))
+    × (rows ≡ to .table .sessions)
 
 -- What a message is handled with. Every number is a policy: 0 echo, 1 sink and count, every other route.
 unfoldable pub policyNumbered : ℕ → ReflectorPolicy
@@ -101,7 +107,11 @@ stateOf s = record {
 }
 
 abbrev pub messageOf : TestkitGtpuMessage → GtpuMessage
-messageOf m = record { «message_type» = m .«message_type»; teid = m .teid; «sequence_number» = sequenceOf (m .«has_sequence») (m .sequence) }
+messageOf m = record {
+  «message_type» = m .«message_type»;
+  teid = m .teid;
+  «sequence_number» = sequenceOf (m .«has_sequence») (m .sequence);
+}
 
 -- Why nothing is sent, and why a message is.
 abbrev pub noopNumber : ReflectorNoopReason → ℕ

@@ -28,7 +28,11 @@ ghost use Rattle.reflector_sessions.specs.Remove.{removeSession, removalMeans};
 ghost use Rattle.reflector_sessions.specs.Judge.{sessionFound};
 ghost use Rattle.reflector_answer.specs.Handle.{handleFound};
 ghost use Rattle.reflector.specs.Handle.{handleDatagram};
-ghost use Rattle.testkit_reflector.specs.Interface.{registeredNumbers, RegistersNumbers, removedNumbers, RemovesNumbers, policyNumbered, policyNumber, sequenceOf, configOf, stateOf, messageOf, noopNumber, sendNumber, actionNumbers, sequenceNumbers, addressNumbers, messageNumbers, stateNumbers, handledNumbers, AnswersNumbers};
+ghost use Rattle.testkit_reflector.specs.Interface.{registeredNumbers, RegistersNumbers, removedNumbers};
+ghost use Rattle.testkit_reflector.specs.Interface.{RemovesNumbers, policyNumbered, policyNumber, sequenceOf};
+ghost use Rattle.testkit_reflector.specs.Interface.{configOf, stateOf, messageOf, noopNumber, sendNumber};
+ghost use Rattle.testkit_reflector.specs.Interface.{actionNumbers, sequenceNumbers, addressNumbers};
+ghost use Rattle.testkit_reflector.specs.Interface.{messageNumbers, stateNumbers, handledNumbers, AnswersNumbers};
 ghost use Rattle.reflector_sessions.specs.Session.{valueOf};
 
 // What registering answers: 0 and whether the session was added, or a refusal's number; and the used count that it
@@ -81,13 +85,15 @@ pub extern "C" fn testkit_register_session(
     max_sessions: usize,
     session: ReflectorSession,
 ) -> TestkitRegistered
-    ensures { λ r. ⌜ RegistersNumbers r (now (sessions .exit)) (registerSession (tableOf (now (sessions .entry)) used «max_sessions») session) ⌝ }
+    ensures { λ r. ⌜ RegistersNumbers r (now (sessions .exit))
+        (registerSession (tableOf (now (sessions .entry)) used «max_sessions») session) ⌝ }
 {
     registered_numbers(reflector_sessions::register_session(sessions, used, max_sessions, session))
 }
 
 fn removed_numbers(removed: RemovedSession) -> TestkitRemoved
-    ensures { λ r. ⌜ r ≡ removedNumbers (removalMeans (removed .removal) (removed .session)) (removed .used) (removed .session) ⌝ }
+    ensures { λ r. ⌜ r ≡ removedNumbers (removalMeans (removed .removal) (removed .session)) (removed .used)
+        (removed .session) ⌝ }
 {
     let removal = removed.removal;
     let session = removed.session;
@@ -121,7 +127,8 @@ pub extern "C" fn testkit_remove_session(
     max_sessions: usize,
     local_teid: u32,
 ) -> TestkitRemoved
-    ensures { λ r. ⌜ RemovesNumbers r (now (sessions .exit)) (removeSession (tableOf (now (sessions .entry)) used «max_sessions») «local_teid») ⌝ }
+    ensures { λ r. ⌜ RemovesNumbers r (now (sessions .exit))
+        (removeSession (tableOf (now (sessions .entry)) used «max_sessions») «local_teid») ⌝ }
 {
     removed_numbers(reflector_sessions::remove_session(sessions, used, max_sessions, local_teid))
 }

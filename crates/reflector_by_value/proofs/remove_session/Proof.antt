@@ -17,18 +17,18 @@ use Rattle.testkit_reflector.proofs.TestkitRemoved.Laws as G′
 use Rattle.testkit_reflector.proofs.testkit_remove_session.Symbol as core-def
 use Rattle.testkit_reflector.proofs.testkit_remove_session.Symbol.{name as #testkit-remove-session}
 use Rattle.testkit_reflector.proofs.testkit_remove_session.Met as core-thm
-use Rattle.reflector_tables.specs.declared.RemovedRows.{RemovedRows}
-use Rattle.reflector_tables.proofs.Changing as changing
-use Rattle.reflector_tables.proofs.Changing.{ValuePromise, Joins}
-use Rattle.reflector_tables.proofs.RemovedRows as N
-use Rattle.reflector_tables.proofs.RemovedRows.Laws as N′
-use Rattle.reflector_tables.proofs.removed_rows.Symbol as both-def
-use Rattle.reflector_tables.proofs.removed_rows.Symbol.{name as #removed-rows}
-use Rattle.reflector_tables.proofs.removed_rows.Met as both-thm
-use Rattle.reflector_tables.proofs.remove_session.Key.{name as #remove-session}
-use Rattle.reflector_tables.proofs.remove_session as f
-use Rattle.reflector_tables.proofs.remove_session.Statement as stated
-use Rattle.reflector_tables.proofs.remove_session.Code as code
+use Rattle.reflector_by_value.specs.declared.RemovedRows.{RemovedRows}
+use Rattle.reflector_by_value.proofs.Changing as changing
+use Rattle.reflector_by_value.proofs.Changing.{ValuePromise, Joins}
+use Rattle.reflector_by_value.proofs.RemovedRows as N
+use Rattle.reflector_by_value.proofs.RemovedRows.Laws as N′
+use Rattle.reflector_by_value.proofs.removed_rows.Symbol as both-def
+use Rattle.reflector_by_value.proofs.removed_rows.Symbol.{name as #removed-rows}
+use Rattle.reflector_by_value.proofs.removed_rows.Met as both-thm
+use Rattle.reflector_by_value.proofs.remove_session.Key.{name as #remove-session}
+use Rattle.reflector_by_value.proofs.remove_session as f
+use Rattle.reflector_by_value.proofs.remove_session.Statement as stated
+use Rattle.reflector_by_value.proofs.remove_session.Code as code
 
 -- what `testkit_remove_session` promises, what `removed_rows` says of its answer and the rows, and what is due
 abbrev Done : Promise u32 G.the-row
@@ -49,4 +49,4 @@ remove-session-spec 𝓤 H 𝓜 𝓖 𝓡 =
     (λ rows used maximum local-teid r zs t done same. subst (λ (x : TestkitRemoved). Done rows used maximum local-teid x (t .rows)) (sym (same .0)) (subst (Done rows used maximum local-teid r) (sym (same .1)) done)) #testkit-remove-session #removed-rows
     𝓤 H (𝓖 .A) (givenOf 𝓤 H 𝓜 𝓖) (tablesOf 𝓤 H 𝓜 (tables 𝓤 H 𝓜 𝓡 code.env))
     (cited 𝓤 H (Changes u32 G.the-row 𝓤 H (𝓖 .A) Done) 𝓜 𝓡 code.env #testkit-remove-session core-def.routine code.calls-testkit-reflector·testkit-remove-session (core-thm.met 𝓤 H 𝓜 𝓖 𝓡))
-    (cited 𝓤 H (Joins u32 G.the-row N.the-row 𝓤 H (𝓖 .A) Same) 𝓜 𝓡 code.env #removed-rows both-def.routine code.calls-reflector-tables·removed-rows (both-thm.met 𝓤 H 𝓜 𝓖 𝓡)))
+    (cited 𝓤 H (Joins u32 G.the-row N.the-row 𝓤 H (𝓖 .A) Same) 𝓜 𝓡 code.env #removed-rows both-def.routine code.calls-reflector-by-value·removed-rows (both-thm.met 𝓤 H 𝓜 𝓖 𝓡)))

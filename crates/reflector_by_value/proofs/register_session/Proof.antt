@@ -17,18 +17,18 @@ use Rattle.testkit_reflector.proofs.TestkitRegistered.Laws as G′
 use Rattle.testkit_reflector.proofs.testkit_register_session.Symbol as core-def
 use Rattle.testkit_reflector.proofs.testkit_register_session.Symbol.{name as #testkit-register-session}
 use Rattle.testkit_reflector.proofs.testkit_register_session.Met as core-thm
-use Rattle.reflector_tables.specs.declared.RegisteredRows.{RegisteredRows}
-use Rattle.reflector_tables.proofs.Changing as changing
-use Rattle.reflector_tables.proofs.Changing.{ValuePromise, Joins}
-use Rattle.reflector_tables.proofs.RegisteredRows as N
-use Rattle.reflector_tables.proofs.RegisteredRows.Laws as N′
-use Rattle.reflector_tables.proofs.registered_rows.Symbol as both-def
-use Rattle.reflector_tables.proofs.registered_rows.Symbol.{name as #registered-rows}
-use Rattle.reflector_tables.proofs.registered_rows.Met as both-thm
-use Rattle.reflector_tables.proofs.register_session.Key.{name as #register-session}
-use Rattle.reflector_tables.proofs.register_session as f
-use Rattle.reflector_tables.proofs.register_session.Statement as stated
-use Rattle.reflector_tables.proofs.register_session.Code as code
+use Rattle.reflector_by_value.specs.declared.RegisteredRows.{RegisteredRows}
+use Rattle.reflector_by_value.proofs.Changing as changing
+use Rattle.reflector_by_value.proofs.Changing.{ValuePromise, Joins}
+use Rattle.reflector_by_value.proofs.RegisteredRows as N
+use Rattle.reflector_by_value.proofs.RegisteredRows.Laws as N′
+use Rattle.reflector_by_value.proofs.registered_rows.Symbol as both-def
+use Rattle.reflector_by_value.proofs.registered_rows.Symbol.{name as #registered-rows}
+use Rattle.reflector_by_value.proofs.registered_rows.Met as both-thm
+use Rattle.reflector_by_value.proofs.register_session.Key.{name as #register-session}
+use Rattle.reflector_by_value.proofs.register_session as f
+use Rattle.reflector_by_value.proofs.register_session.Statement as stated
+use Rattle.reflector_by_value.proofs.register_session.Code as code
 
 -- what `testkit_register_session` promises, what `registered_rows` says of its answer and the rows, and what is due
 abbrev Done : Promise R G.the-row
@@ -49,4 +49,4 @@ register-session-spec 𝓤 H 𝓜 𝓖 𝓡 =
     (λ rows used maximum session r zs t done same. subst (λ (x : TestkitRegistered). Done rows used maximum session x (t .rows)) (sym (same .0)) (subst (Done rows used maximum session r) (sym (same .1)) done)) #testkit-register-session #registered-rows
     𝓤 H (𝓖 .A) (givenOf 𝓤 H 𝓜 𝓖) (tablesOf 𝓤 H 𝓜 (tables 𝓤 H 𝓜 𝓡 code.env))
     (cited 𝓤 H (Changes R G.the-row 𝓤 H (𝓖 .A) Done) 𝓜 𝓡 code.env #testkit-register-session core-def.routine code.calls-testkit-reflector·testkit-register-session (core-thm.met 𝓤 H 𝓜 𝓖 𝓡))
-    (cited 𝓤 H (Joins R G.the-row N.the-row 𝓤 H (𝓖 .A) Same) 𝓜 𝓡 code.env #registered-rows both-def.routine code.calls-reflector-tables·registered-rows (both-thm.met 𝓤 H 𝓜 𝓖 𝓡)))
+    (cited 𝓤 H (Joins R G.the-row N.the-row 𝓤 H (𝓖 .A) Same) 𝓜 𝓡 code.env #registered-rows both-def.routine code.calls-reflector-by-value·registered-rows (both-thm.met 𝓤 H 𝓜 𝓖 𝓡)))

@@ -42,7 +42,7 @@ use Rattle.reflector_sessions.proofs.Changes.{ByValue, Promise, changing, promi
 use Rattle.reflector_sessions.proofs.Memory.{R}
 use Rattle.reflector_sessions.proofs.ReflectorSession as T
 use Rattle.reflector_sessions.proofs.ReflectorSession.Laws as T′
-use Rattle.reflector_tables.proofs.Rows.{rowsVal, makes, typed, lends, comes-back}
+use Rattle.reflector_by_value.proofs.Rows.{rowsVal, makes, typed, lends, comes-back}
 
 -- the types of the rows
 abbrev rows-ty : Ty
