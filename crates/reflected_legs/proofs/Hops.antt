@@ -9,7 +9,7 @@ use lib.ListN.{length, drop, replicate}
 use lib.Seq.{take-append-seam}
 use borrow.Author.Tests.{eq-eqb}
 use Rattle.error.specs.Outcome.{Outcome, refused, gives, firstCause}
-use Rattle.measurement.specs.Echo.{echoOf}
+use Rattle.measurement_damage.specs.Echo.{echoOf}
 use Rattle.reflector_sessions.specs.Judge.{tableCauses, tableOutcome}
 use Rattle.reflector_sessions.specs.Session.{noSession}
 use Rattle.reflector_sessions.specs.Table.{tableOf, usedRows, find}

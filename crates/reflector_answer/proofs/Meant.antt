@@ -10,7 +10,7 @@ use lib.ListN.{length, drop}
 use lib.Seq.{take-append-seam}
 use Rattle.error.specs.Number.{outputTooShort}
 use Rattle.error.specs.Outcome.{Outcome, refused, gives, Cause, _⇒_, firstCause}
-use Rattle.measurement.specs.Echo.{echoOf}
+use Rattle.measurement_damage.specs.Echo.{echoOf}
 use Rattle.gtpu.specs.declared.GtpuMessage.{GtpuMessage}
 use Rattle.reflector_sessions.specs.Judge.{tableCauses}
 use Rattle.reflector_sessions.specs.Session.{valueOf}

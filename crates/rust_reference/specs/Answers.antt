@@ -1,11 +1,11 @@
--- The Rust's values as the port has them ("What must change shape", document 01): flows and T-PDUs; `Vec`s in a lent buffer;
--- the report.
+-- The Rust's values as the port has them ("What must change shape", document 01): flows and T-PDUs; `Vec`s in a lent
+-- buffer; the report.
 use Prim.Native.Nat.{ℕ}
 use mathlib.Core.List.{List, [], _∷_, _++_, map}
 use lib.ListN.{length, drop}
 use Rattle.error.specs.Outcome.{refused, gives}
 use Rattle.measurement.specs.Answer.{Writing}
-use Rattle.measurement.specs.Packet.{address, padded}
+use Rattle.measurement.specs.Flow.{address, padded}
 use Rattle.measurement.specs.declared.DecodedTpdu.{DecodedTpdu}
 use Rattle.measurement.specs.declared.InnerIpFlow.{InnerIpFlow}
 use Rattle.measurement.specs.declared.MeasurementHeader.{MeasurementHeader}
@@ -15,6 +15,7 @@ use Rattle.evidence.specs.declared.Latency.{Latency}
 use Rattle.evidence.specs.declared.Latency.the-variants.{Absent, Summary}
 use Rattle.evidence.specs.declared.LatencySummary.{LatencySummary}
 use Rattle.evidence.specs.declared.PacketContinuityReport.{PacketContinuityReport}
+use Rattle.rust_reference.specs.Compared.{told}
 use Rattle.rust_reference.specs.Error.{Result, Ok, Err}
 use Rattle.rust_reference.specs.Number.{errorNumber}
 use Rattle.rust_reference.specs.Evidence as evidence
@@ -53,12 +54,17 @@ vecs (p ∷ packets) = p .tpdu ++ vecs packets
 abbrev pub headersOf : List GeneratedPacket → List MeasurementHeader
 headersOf packets = map (λ p. record { sequence = p .sequence; «send_timestamp_ns» = p .«send_timestamp_ns» }) packets
 
--- Likewise of the Rust's packets: end to end at the front of the lent buffer. The engine's next sequence is the Rust's, after an error too.
+-- Likewise of the Rust's packets: end to end at the front of the lent buffer. The engine's next sequence is the Rust's,
+-- after an error too.
 abbrev pub packetsInBuffer : Result (List GeneratedPacket) → ℕ → List ℕ → Generating
 packetsInBuffer (Ok packets) next buffer = record { outcome = gives (length (vecs packets)); next = next; buffer = vecs packets ++ drop (length (vecs packets)) buffer }
 packetsInBuffer (Err error) next buffer = record { outcome = refused (errorNumber error); next = next; buffer = buffer }
 
--- The Rust's report as the port's: `Option` is an enum there ("`Option` becomes an enum").
+-- What our generator leaves, in the numbers that are compared.
+abbrev pub toldGenerating : Generating → Generating
+toldGenerating g = record { outcome = told (g .outcome); next = g .next; buffer = g .buffer }
+
+-- The Rust's report as ours ("`Option` becomes an enum").
 abbrev pub latencyOf : Option LatencySummary → Latency
 latencyOf None = Absent
 latencyOf (Some summary) = Summary summary

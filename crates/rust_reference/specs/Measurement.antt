@@ -1,11 +1,11 @@
--- The Rust's measurement.rs: `build_measurement_tpdu` (lines 153 to 163), `decode_measurement_tpdu` (166 to 175), `echo_tpdu` (178 to 182) and
--- what they call. Lengths are `usize` there, and no `checked_add` of them fails.
+-- The Rust's measurement.rs: `build_measurement_tpdu` (lines 153 to 163), `decode_measurement_tpdu` (166 to 175),
+-- `echo_tpdu` (178 to 182) and what they call. Lengths are `usize` there, and no `checked_add` of them fails.
 use Prim.Native.Nat.{ℕ, zero, suc, _+_, _-_, _*_, _/_, _%_}
 use mathlib.Core.List.{List, [], _∷_, _++_}
 use mathlib.Core.Bool.{true, false, not, _||_, _&&_}
 use lib.Dec.{eqb, ltb}
 use lib.ListN.{length, drop, set, replicate}
-use Rattle.field.specs.Field.{bigEndian, number}
+use Rattle.field.specs.Field.{bigEndian, valueOf}
 use Rattle.measurement.specs.declared.MeasurementHeader.{MeasurementHeader}
 use Rattle.rust_reference.specs.Error as error
 use Rattle.rust_reference.specs.Error.{Result, Ok, Err, Truncated, UnsupportedIpVersion, InvalidPacket, Overflow, returnIf, _>>=_, _>>_}
@@ -40,7 +40,8 @@ abbrev pub reversed : InnerIpFlow → InnerIpFlow
 reversed (Ipv4 src dst src-port dst-port) = Ipv4 dst src dst-port src-port
 reversed (Ipv6 src dst src-port dst-port) = Ipv6 dst src dst-port src-port
 
--- lines 104 to 109, `MeasurementHeader`: the port's struct has the same two fields. Lines 114 to 120: the array of zeros, written in three places.
+-- lines 104 to 109, `MeasurementHeader`: the port's struct has the same two fields. Lines 114 to 120: the array of
+-- zeros, written in three places.
 unfoldable pub encode : MeasurementHeader → List ℕ
 encode header =
     let out : List ℕ = replicate «MEASUREMENT_HEADER_LEN» 0 in
@@ -48,12 +49,12 @@ encode header =
     let out : List ℕ = «copy_from_slice» out 8 (bigEndian 8 (header .sequence)) in
     «copy_from_slice» out 16 (bigEndian 8 (header .«send_timestamp_ns»))
 
--- lines 123 to 140. `u64::from_be_bytes` is `number`.
+-- lines 123 to 140. `u64::from_be_bytes` is `valueOf`.
 unfoldable pub decode : List ℕ → Result MeasurementHeader
 decode input = do
   returnIf (ltb (length input) «MEASUREMENT_HEADER_LEN») (Truncated error.measurement-header)
   returnIf (not (same (range input 0 8) «MEASUREMENT_MAGIC»)) (InvalidPacket error.measurement-magic-mismatch)
-  Ok (record { sequence = number (range input 8 16); «send_timestamp_ns» = number (range input 16 24) })
+  Ok (record { sequence = valueOf (range input 8 16); «send_timestamp_ns» = valueOf (range input 16 24) })
 
 -- ---- checksum, lines 459 to 474
 

@@ -13,9 +13,9 @@ use Rattle.reflector_sessions.specs.declared.ReflectorSession.{ReflectorSession
 use Rattle.reflector_sessions.specs.declared.SocketAddr.{SocketAddr}
 use Rattle.rust_reference.specs.Map.{Option}
 use Rattle.rust_reference.specs.Number.{outcomeOf}
-use Rattle.rust_reference.specs.Compared.{told}
+use Rattle.rust_reference.specs.Compared.{ComparedMessage, told}
 use Rattle.rust_reference.specs.Reflector as rust
-use Rattle.rust_reference.specs.Sessions.{Reflector, tableIn, withTable, withState, handling, rustAddress, rustSession, rustMessage, rustRemoved, rustAction, outcomeTo, inOutput, PayloadFits}
+use Rattle.rust_reference.specs.Sessions.{Reflector, tableIn, withTable, withState, handling, rustAddress, rustSession, rustMessage, rustRemoved, rustAction, outcomeTo, inOutput}
 
 -- A call, with what it is handed: a session; a TEID; a sender, a message, its payload and an output.
 pub data Call : Type 0 where
@@ -23,11 +23,11 @@ pub data Call : Type 0 where
   remove : ℕ → Call
   handle : SocketAddr → GtpuMessage → List ℕ → List ℕ → Call
 
--- What it is handed is compared: under the policy route, payloads of at most 65,535 bytes.
+-- What it is handed is compared.
 abbrev pub Typed : ReflectorPolicy → Call → Type 0
 Typed policy (register session) = Unit {0}
 Typed policy (remove teid) = Unit {0}
-Typed policy (handle source message payload buffer) = PayloadFits policy payload
+Typed policy (handle source message payload buffer) = ComparedMessage policy message payload
 
 -- Its output, where it is lent one, has the bytes that document 01 asks for: 15 is not due.
 abbrev pub OutputFits : Call → Type 0
@@ -51,7 +51,7 @@ abbrev pub answerTo : Reflector → Call → Answer
 answerTo r (register session) = record { outcome = outcomeTo registered (registerSession (tableIn r) session .outcome); output = [] }
 answerTo r (remove teid) = record { outcome = outcomeTo removed (outcomeTo rustRemoved (removeSession (tableIn r) teid .outcome)); output = [] }
 answerTo r (handle source message payload buffer) = record {
-  outcome = outcomeTo acted (outcomeTo (rustAction payload) (told (handling r source message payload buffer .outcome)));
+  outcome = outcomeTo acted (outcomeTo (rustAction payload) (handling r source message payload buffer .outcome));
   output = placed (handling r source message payload buffer .outcome) buffer;
 }
 
@@ -63,6 +63,10 @@ afterCall r (handle source message payload buffer) = withState (handling r sourc
 abbrev pub answersTo : Reflector → List Call → List Answer
 answersTo r [] = []
 answersTo r (call ∷ calls) = answerTo r call ∷ answersTo (afterCall r call) calls
+
+-- An answer of ours, in the numbers that are compared.
+abbrev pub toldAnswer : Answer → Answer
+toldAnswer answer = record { outcome = told (answer .outcome); output = answer .output }
 
 abbrev pub after : Reflector → List Call → Reflector
 after r [] = r

@@ -1,11 +1,11 @@
 -- The port's reflector, and the Rust's that holds the same: the `Vec` of sessions is the used rows of the lent slice.
-use Prim.Native.Nat.{ℕ, _<_, _≤_}
+use Prim.Native.Nat.{ℕ, _<_}
 use mathlib.Core.Path.{_≡_}
 use mathlib.Core.List.{List, map, _++_}
 use mathlib.Core.Option.{Option, some, none}
 use lib.ListN.{length, drop}
 use Rattle.error.specs.Outcome.{Outcome, refused, gives}
-use Rattle.measurement.specs.Packet.{address}
+use Rattle.measurement.specs.Flow.{address}
 use Rattle.measurement.specs.declared.IpVersion.{IpVersion}
 use Rattle.measurement.specs.declared.IpVersion.the-variants.{V4, V6}
 use Rattle.reflector.specs.Handle.{handleDatagram}
@@ -27,12 +27,12 @@ use Rattle.reflector_answer.specs.declared.RouteTarget.{RouteTarget}
 use Rattle.gtpu.specs.declared.SequenceNumber.{SequenceNumber}
 use Rattle.gtpu.specs.declared.SequenceNumber.the-variants.{Present, Absent}
 use Rattle.rust_reference.specs.Error.{Result, Ok, Err}
-use Rattle.rust_reference.specs.Compared.{Compared}
 use Rattle.rust_reference.specs.Gtpu as gtpu
 use Rattle.rust_reference.specs.Map as map
 use Rattle.rust_reference.specs.Reflector as rust
 
--- What the caller holds between calls: the lent slice with its used count, the configuration, which has the maximum, and the state.
+-- What the caller holds between calls: the lent slice with its used count, the configuration, which has the maximum,
+-- and the state.
 pub record Reflector : Type 0 where
   pub sessions : List ReflectorSession
   pub used : ℕ
@@ -135,7 +135,8 @@ abbrev pub outcomeTo : {A B : Type 0} → (A → B) → Outcome A → Outcome B
 outcomeTo value (refused n) = refused n
 outcomeTo value (gives x) = gives (value x)
 
--- The output beside the Rust's action: a packet's payload at the front, what lies past it kept. "Route hands on the payload uncopied."
+-- The output beside the Rust's action: a packet's payload at the front, what lies past it kept. "Route hands on the
+-- payload uncopied."
 abbrev pub inOutput : Result rust.ReflectorAction → List ℕ → List ℕ
 inOutput (Err error) buffer = buffer
 inOutput (Ok (rust.Noop reason)) buffer = buffer
@@ -149,11 +150,6 @@ inOutput (Ok (rust.Send destination packet ErrorIndication)) buffer = packet .pa
 -- There is such a reflector in the Rust: `new_multi` makes one of this configuration.
 abbrev pub IsMade : Reflector → Type 0
 IsMade r = (made : rust.GtpuReflector) × (rust.«new_multi» (rustConfig (r .config)) ≡ Ok made)
-
--- A payload that is compared. The stand-in for the codec carries "a payload of at most 65,535 bytes": of what is received, only a route sends
--- the payload on as it came.
-abbrev pub PayloadFits : ReflectorPolicy → List ℕ → Type 0
-PayloadFits policy payload = Compared payload × (policy ≡ Route → length payload ≤ 65535)
 
 -- The error sequence is a u16.
 abbrev pub SequenceFits : Reflector → Type 0

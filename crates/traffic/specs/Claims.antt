@@ -5,10 +5,11 @@ use mathlib.Core.List.{List}
 use mathlib.Core.Logic.{_⊎_}
 use lib.ListN.{length, drop}
 use Rattle.error.specs.Outcome.{refused, gives}
-use Rattle.measurement.specs.Packet.{ipHeaderLength}
-use Rattle.measurement.specs.Read.{readOf}
-use Rattle.measurement.specs.Claims.{InRange, tpduBuilt}
+use Rattle.measurement.specs.Flow.{InRange}
 use Rattle.measurement.specs.declared.InnerIpFlow.{InnerIpFlow}
+use Rattle.measurement_packet.specs.Packet.{ipHeaderLength}
+use Rattle.measurement_reading.specs.Read.{readOf}
+use Rattle.measurement_damage.specs.Claims.{tpduBuilt}
 use Rattle.plan.specs.Plan.{timeAt, judgePlan}
 use Rattle.plan.specs.Claims.{accepted}
 use Rattle.plan.specs.declared.TrafficPlan.{TrafficPlan}
@@ -40,7 +41,8 @@ RoomDecides = (flow : InnerIpFlow) (plan : TrafficPlan) (next : ℕ) (buffer : L
     (length buffer < bytes → generateOf flow plan next buffer .outcome ≡ refused 15)
     × (bytes ≤ length buffer → generateOf flow plan next buffer .outcome ≡ gives bytes))
 
--- "A refusal returns its number and nothing else": no byte of the buffer changes; and the next sequence changes only with 19 and 20.
+-- "A refusal returns its number and nothing else": no byte of the buffer changes; and the next sequence changes only
+-- with 19 and 20.
 abbrev pub RefusalLeaves : Type 0
 RefusalLeaves = (flow : InnerIpFlow) (plan : TrafficPlan) (next : ℕ) (buffer : List ℕ) (n : ℕ) → generateOf flow plan next buffer .outcome ≡ refused n
     → (generateOf flow plan next buffer .buffer ≡ buffer) × ((n ≡ 19) ⊎ (n ≡ 20) ⊎ (generateOf flow plan next buffer .next ≡ next))
