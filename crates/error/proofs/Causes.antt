@@ -7,6 +7,7 @@ use native.Mathlib.Omega.{arith}
 use lib.Dec.{eqb}
 use borrow.Author.Tests.{not-true, eqb-false}
 use Rattle.error.specs.Outcome.{Outcome, refused, gives, Cause, _⇒_, firstCause}
+use Rattle.error.proofs.Tests.{both}
 
 -- the row with this number is the first that holds
 pub data Refuses : List Cause → ℕ → Type 0 where
@@ -31,10 +32,6 @@ passes o (past e r) = rw (e, firstCause) (passes o r)
 -- a refusal gives nothing
 pub refused-gives : {A : Type 0} {n : ℕ} {x : A} → refused n ≡ gives x → ⊥
 refused-gives e = let z : _≡_ {A = ℕ} 0 1 = cc in omega arith
-
-both : (a b : Bool) → a && b ≡ true → (a ≡ true) × (b ≡ true)
-both true b e = (refl, e)
-both false b e = let z : _≡_ {A = ℕ} 0 1 = cc in absurd (omega arith)
 
 -- what was given passed every row
 pub passed : {A : Type 0} (rows : List Cause) (o : Outcome A) (x : A) → firstCause rows o ≡ gives x → Passes rows × (o ≡ gives x)
