@@ -1,5 +1,5 @@
-// The packets that a traffic plan asks for (leaf 5; `TrafficEngine` of the Rust's traffic.rs). How a plan is judged is defined in the crate
-// `plan`, what the generator leaves in specs/Generate.antt.
+// The packets that a traffic plan asks for (leaf 5; `TrafficEngine` of the Rust's traffic.rs). How a plan is judged is
+// defined in the crate `plan`, what the generator leaves in specs/Generate.antt.
 use measurement::InnerIpFlow;
 use measurement::IpVersion;
 use measurement::Written;
@@ -11,7 +11,7 @@ ghost use mathlib.Core.List.{_++_};
 ghost use lib.ListN.{drop};
 ghost use Rattle.measurement_packet.specs.Packet.{ipHeaderLength};
 ghost use Rattle.plan.specs.Plan.{packetsOf};
-ghost use Rattle.traffic.specs.Claims.{PacketsReadBack, SuccessIsComplete, RoomDecides, RefusalLeaves};
+ghost use Rattle.traffic.specs.Claims.{SuccessIsComplete, RoomDecides, RefusalLeaves};
 ghost use Rattle.traffic.specs.Generate.{firstSequence, endToEnd, generated, generateOf};
 ghost use Rattle.traffic.specs.Fits.{Fits};
 
@@ -89,7 +89,8 @@ fn generate_packets(
     }
 }
 
-// The packets of a plan, from the next sequence in the caller's own record, which is changed there, also by 19 and 20 (leaf 5).
+// The packets of a plan, from the next sequence in the caller's own record, which is changed there, also by 19 and 20
+// (leaf 5).
 pub fn generate_from(
     next_sequence: &mut u64,
     flow: InnerIpFlow,
@@ -133,9 +134,9 @@ impl TrafficEngine {
     }
 }
 
-// Carries that a generated packet reads back at its place in the buffer, and that a success has every packet of the plan.
-pub fn every_packet_reads_back()
-    ensures { λ _. ⌜ PacketsReadBack × SuccessIsComplete ⌝ }
+// Carries that a success has every packet of the plan. That each reads back is proved in the crate tally.
+pub fn success_is_complete()
+    ensures { λ _. ⌜ SuccessIsComplete ⌝ }
 {}
 
 // Carries that an accepted plan is refused only for want of room, and what a refusal leaves.
