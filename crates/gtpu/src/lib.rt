@@ -1,5 +1,5 @@
-// GTP-U (the Rust's gtpu.rs, without its codec): the message types, and the information elements of an Error
-// Indication, document 01's leaf 8. How a list of elements is judged is defined in specs/Element.antt.
+// GTP-U (the Rust's gtpu.rs, without its codec): the message types, a parsed message, and the information elements of an
+// Error Indication, document 01's leaf 8. How a list of elements is judged is defined in specs/Element.antt.
 ghost use mathlib.Core.Path.{_≡_};
 ghost use Prim.Native.Nat.{_<_, _≤_};
 ghost use lib.ListN.{length, getD};
@@ -20,6 +20,19 @@ pub const GTPU_MSG_SUPPORTED_EXTENSION_HEADERS_NOTIFICATION: u8 = 31;
 pub const GTPU_MSG_END_MARKER: u8 = 254;
 
 pub const GTPU_MSG_GPDU: u8 = 255;
+
+// A sequence number that a message may lack.
+pub enum SequenceNumber {
+    Present(u16),
+    Absent,
+}
+
+// A parsed GTP-U message, without its payload: what the observer and the reflector are handed.
+pub struct GtpuMessage {
+    pub message_type: u8,
+    pub teid: u32,
+    pub sequence_number: SequenceNumber,
+}
 
 // Every message type, in the Rust's order.
 pub fn message_types() -> [u8; 6]

@@ -31,7 +31,7 @@ use Rattle.reflector_sessions.specs.declared.SocketAddr.{SocketAddr}
 use Rattle.reflector_answer.specs.State.{counted, stateCounted, nextErrorSequence}
 use Rattle.reflector_answer.specs.Answer.{Answer, Action, noop, gpduOutcome, gpduCounted, gpduKnown, gpduUnknown, echoRequestOutcome, echoRequest, otherMessage, gpduAnswer, ignored, reflected, errorIndicationTo, answer}
 use Rattle.reflector_answer.specs.Handle.{handledOf, forwarded, placed, Answers, EchoFits, reflectorBytes, handleFound}
-use Rattle.reflector_answer.specs.declared.GtpuMessage.{GtpuMessage}
+use Rattle.gtpu.specs.declared.GtpuMessage.{GtpuMessage}
 use Rattle.reflector_answer.specs.declared.Handled.{Handled}
 use Rattle.reflector_answer.specs.declared.MultiSessionReflectorConfig.{MultiSessionReflectorConfig}
 use Rattle.reflector_answer.specs.declared.ReflectorAction.the-variants as action
@@ -43,7 +43,7 @@ use Rattle.reflector_answer.specs.declared.ReflectorPolicy.the-variants.
 use Rattle.reflector_answer.specs.declared.ReflectorSendReason.the-variants.{ReflectedGpdu, RoutedGpdu, EchoResponse, ErrorIndication}
 use Rattle.reflector_answer.specs.declared.ReflectorState.{ReflectorState}
 use Rattle.reflector_answer.specs.declared.ReflectorStats.{ReflectorStats}
-use Rattle.reflector_answer.specs.declared.SequenceNumber.the-variants.{Present, Absent}
+use Rattle.gtpu.specs.declared.SequenceNumber.the-variants.{Present, Absent}
 
 abbrev refusal : ℕ → ReflectorState → Answer
 refusal n state = record { outcome = refused n; state = state }

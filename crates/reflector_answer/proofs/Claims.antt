@@ -21,7 +21,7 @@ use Rattle.gtpu.proofs.Claims.{error-indication-accepted}
 use Rattle.reflector_sessions.specs.Session.{valueOf}
 use Rattle.reflector_answer.specs.Answer.{written, answer, gpduUnknown, gpduKnown, gpduOutcome, errorIndicationTo}
 use Rattle.reflector_answer.specs.declared.ReflectorSendReason.the-variants.{ReflectedGpdu, ErrorIndication}
-use Rattle.reflector_answer.specs.declared.SequenceNumber.the-variants.{Present, Absent}
+use Rattle.gtpu.specs.declared.SequenceNumber.the-variants.{Present, Absent}
 use Rattle.reflector_answer.specs.Claims.{Sends, IndicationAccepted, EchoReadsBack}
 
 pub address-of : (v : IpVersion) (bytes : List ℕ) → (length (address v bytes) ≡ 4) ⊎ (length (address v bytes) ≡ 16)

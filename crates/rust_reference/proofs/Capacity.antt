@@ -18,7 +18,7 @@ use Rattle.measurement_reading.specs.Read.{payload, probeCauses, udpCauses, rea
 use Rattle.measurement_damage.specs.Echo.{echoOfTpdu, echoOf}
 use Rattle.reflector.specs.Handle.{handleDatagram}
 use Rattle.reflector_answer.specs.Answer.{handedOn, Action, noop, gpdu, reflected, gpduOutcome, gpduKnown, gpduUnknown, echoRequestOutcome, echoRequest, otherMessage, gpduAnswer, Answer, answer}
-use Rattle.reflector_answer.specs.declared.GtpuMessage.{GtpuMessage}
+use Rattle.gtpu.specs.declared.GtpuMessage.{GtpuMessage}
 use Rattle.reflector_answer.specs.declared.MultiSessionReflectorConfig.{MultiSessionReflectorConfig}
 use Rattle.reflector_answer.specs.declared.ReflectorNoopReason.the-variants.{GpduSunk}
 use Rattle.reflector_answer.specs.declared.ReflectorPolicy.{ReflectorPolicy}
@@ -34,10 +34,12 @@ use Rattle.reflector_sessions.specs.declared.ReflectorSession.{ReflectorSession
 use Rattle.reflector_sessions.specs.declared.SocketAddr.{SocketAddr}
 use Rattle.reflector_sessions.proofs.Judging.{Sound, is-30, is-31, is-sound, capacity-refused, table-sound}
 use Rattle.rust_reference.specs.Claims.{RefusesAsNewMulti, NewMulti}
+use Rattle.rust_reference.specs.Compared.{told}
 use Rattle.rust_reference.specs.Error.{DataplaneTestkitError, Result, Ok, Err, InvalidReflectorCapacity, returnIf, _>>_}
 use Rattle.rust_reference.specs.Number.{outcomeOf}
 use Rattle.rust_reference.specs.Reflector as rust
 use Rattle.rust_reference.specs.Sessions.{Reflector, tableIn, handling, freshReflector, rustConfig, rustReflector, IsMade}
+use Rattle.rust_reference.proofs.Branches.{told-is}
 
 -- ---- what `new_multi` makes
 
@@ -88,8 +90,8 @@ as-new-multi : {A : Type 0} (config : MultiSessionReflectorConfig) (o : Outcome 
 as-new-multi config o first never = by (capacity [] config)
   where
     by : Capacity [] config → RefusesAsNewMulti config o
-    by (unfit h f) = (λ error e. sym (first h), λ e. f)
-    by (fit h f) = (λ error e. absurd (err-ok (sym e ∙ f)), λ e. absurd (never h e))
+    by (unfit h f) = (λ error e. ap told (sym (first h)), λ e. f)
+    by (fit h f) = (λ error e. absurd (err-ok (sym e ∙ f)), λ e. absurd (never h (told-is o ∙ e)))
 
 -- ---- a table whose maximum fits is refused by 31, or sound
 
@@ -190,7 +192,7 @@ module _ (r : Reflector) where
   registering : (session : ReflectorSession) → RefusesAsNewMulti (r .config) (registerSession (tableIn r) session .outcome)
   unfolding registerSession registerOutcome sessionOutcome
   registering session =
-      as-new-multi (r .config) _ (λ h. refuses _ (is-30 rows (r .used) maximum h))
+      as-new-multi (r .config) (registerSession (tableIn r) session .outcome) (λ h. refuses _ (is-30 rows (r .used) maximum h))
       (λ h. table-not-30 rows (r .used) maximum _ h (not-by 30 _ _ refl (onward (find (session .«local_teid») (usedRows (tableIn r))))))
     where
       onward : (existing : Option ReflectorSession)
@@ -204,13 +206,14 @@ module _ (r : Reflector) where
   removing : (teid : ℕ) → RefusesAsNewMulti (r .config) (removeSession (tableIn r) teid .outcome)
   unfolding removeSession removeOutcome
   removing teid =
-      as-new-multi (r .config) _ (λ h. refuses _ (is-30 rows (r .used) maximum h))
+      as-new-multi (r .config) (removeSession (tableIn r) teid .outcome) (λ h. refuses _ (is-30 rows (r .used) maximum h))
       (λ h. table-not-30 rows (r .used) maximum _ h (λ e. refused-gives (sym e)))
 
   handled : (source : SocketAddr) (message : GtpuMessage) (payload buffer : List ℕ) → RefusesAsNewMulti (r .config) (handling r source message payload buffer .outcome)
   unfolding handleDatagram tableOutcome
   handled source message payload buffer =
-      as-new-multi (r .config) _ (λ h. ap outcome (handling-refused rows (r .used) (r .config) (r .state) session source message payload buffer (capacity-refused rows (r .used) maximum h)))
+      as-new-multi (r .config) (handling r source message payload buffer .outcome)
+      (λ h. ap outcome (handling-refused rows (r .used) (r .config) (r .state) session source message payload buffer (capacity-refused rows (r .used) maximum h)))
       (λ h. by (fitting rows (r .used) maximum h) (ltb (length buffer) 72) refl)
     where
       outcome : Answer → Outcome Action

@@ -26,8 +26,8 @@ SuccessIsComplete = (flow : InnerIpFlow) (plan : TrafficPlan) (next : ℕ) (buff
 
 -- An accepted plan fails only for want of room, and then with 15.
 abbrev pub RoomDecides : Type 0
-RoomDecides = (flow : InnerIpFlow) (plan : TrafficPlan) (next : ℕ) (buffer : List ℕ)
-    → judgePlan plan next ≡ accepted plan next
+RoomDecides =
+    (flow : InnerIpFlow) (plan : TrafficPlan) (next : ℕ) (buffer : List ℕ) → judgePlan plan next ≡ accepted plan next
     → (let bytes : ℕ = plan .«packet_count» * (ipHeaderLength (flow .version) + 32) in
     (length buffer < bytes → generateOf flow plan next buffer .outcome ≡ refused 15)
     × (bytes ≤ length buffer → generateOf flow plan next buffer .outcome ≡ gives bytes))
@@ -35,7 +35,8 @@ RoomDecides = (flow : InnerIpFlow) (plan : TrafficPlan) (next : ℕ) (buffer : L
 -- "A refusal returns its number and nothing else": no byte of the buffer changes; and the next sequence changes only
 -- with 19 and 20.
 abbrev pub RefusalLeaves : Type 0
-RefusalLeaves = (flow : InnerIpFlow) (plan : TrafficPlan) (next : ℕ) (buffer : List ℕ) (n : ℕ)
+RefusalLeaves =
+    (flow : InnerIpFlow) (plan : TrafficPlan) (next : ℕ) (buffer : List ℕ) (n : ℕ)
     → generateOf flow plan next buffer .outcome ≡ refused n
     → (generateOf flow plan next buffer .buffer ≡ buffer)
     × ((n ≡ 19) ⊎ (n ≡ 20) ⊎ (generateOf flow plan next buffer .next ≡ next))

@@ -1,5 +1,6 @@
-// The reflector's calls for C on a table by value: a call is lent its six rows, and they come back with the answer. The prover does not
-// walk a function that lends rows by itself. These three do it for every caller that has no table in lent memory, as the replay.
+// The reflector's calls for C on a table by value: a call is lent its six rows, and they come back with the answer. The
+// prover cannot follow a function that lends rows without a proof by hand. These three have one, for callers that hold
+// a table by value, such as the replay.
 use reflector_sessions::LentSocketAddr;
 use reflector_sessions::ReflectorSession;
 use testkit_reflector::TestkitGtpuMessage;
@@ -14,7 +15,8 @@ ghost use Rattle.reflector_sessions.specs.Table.{tableOf};
 ghost use Rattle.reflector_sessions.specs.Register.{registerSession};
 ghost use Rattle.reflector_sessions.specs.Remove.{removeSession};
 ghost use Rattle.reflector.specs.Handle.{handleDatagram};
-ghost use Rattle.testkit_reflector.specs.Interface.{RegistersNumbers, RemovesNumbers, AnswersNumbers, configOf, stateOf, messageOf};
+ghost use Rattle.testkit_reflector.specs.Interface.{RegistersNumbers, RemovesNumbers, AnswersNumbers, configOf};
+ghost use Rattle.testkit_reflector.specs.Interface.{stateOf, messageOf};
 
 // What registering answers, and the rows that it leaves.
 pub struct RegisteredRows {
@@ -53,7 +55,8 @@ pub fn register_session(
     max_sessions: usize,
     session: ReflectorSession,
 ) -> RegisteredRows
-    ensures { λ r. ⌜ RegistersNumbers (r .registered) (r .rows) (registerSession (tableOf rows used «max_sessions») session) ⌝ }
+    ensures { λ r. ⌜ RegistersNumbers (r .registered) (r .rows)
+        (registerSession (tableOf rows used «max_sessions») session) ⌝ }
 {
     let registered = testkit_reflector::testkit_register_session(
         &mut rows,
@@ -71,7 +74,8 @@ pub fn remove_session(
     max_sessions: usize,
     local_teid: u32,
 ) -> RemovedRows
-    ensures { λ r. ⌜ RemovesNumbers (r .removed) (r .rows) (removeSession (tableOf rows used «max_sessions») «local_teid») ⌝ }
+    ensures { λ r. ⌜ RemovesNumbers (r .removed) (r .rows)
+        (removeSession (tableOf rows used «max_sessions») «local_teid») ⌝ }
 {
     let removed = testkit_reflector::testkit_remove_session(
         &mut rows,
@@ -93,7 +97,9 @@ pub fn handle_datagram(
     payload: &[u8],
     out: &mut [u8],
 ) -> TestkitHandled
-    ensures { λ r. ⌜ AnswersNumbers r (now (out .exit)) (handleDatagram rows used (configOf config) (stateOf state) (valueOf source) (messageOf message) (now (payload .entry)) (now (out .entry))) (now (out .entry)) ⌝ }
+    ensures { λ r. ⌜ AnswersNumbers r (now (out .exit))
+        (handleDatagram rows used (configOf config) (stateOf state) (valueOf source) (messageOf message)
+        (now (payload .entry)) (now (out .entry))) (now (out .entry)) ⌝ }
 {
     testkit_reflector::testkit_handle_datagram(
         &rows,

@@ -23,7 +23,7 @@ use Rattle.reflector_sessions.specs.declared.ReflectorSession.{ReflectorSession
 use Rattle.reflector_sessions.proofs.Memory.{R}
 use Rattle.reflector_sessions.proofs.ReflectorSession as T
 use Rattle.reflector_sessions.proofs.ReflectorSession.Laws as T′
-use Rattle.reflector_tables.proofs.Lent as lent
+use Rattle.reflector_by_value.proofs.Lent as lent
 
 abbrev pub rowsVal : List ReflectorSession → Val
 rowsVal rows = only (array-vals (LL.vals T.the-type T′.the-laws) rows)

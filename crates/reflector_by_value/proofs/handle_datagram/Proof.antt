@@ -69,11 +69,11 @@ use Rattle.testkit_reflector.proofs.testkit_handle_datagram as core
 use Rattle.testkit_reflector.proofs.testkit_handle_datagram.Symbol as core-def
 use Rattle.testkit_reflector.proofs.testkit_handle_datagram.Symbol.{name as #testkit-handle-datagram}
 use Rattle.testkit_reflector.proofs.testkit_handle_datagram.Met as core-thm
-use Rattle.reflector_tables.proofs.Rows.{rowsVal, typed, shared, shared-back}
-use Rattle.reflector_tables.proofs.handle_datagram.Key.{name as #handle-datagram}
-use Rattle.reflector_tables.proofs.handle_datagram as f
-use Rattle.reflector_tables.proofs.handle_datagram.Statement as stated
-use Rattle.reflector_tables.proofs.handle_datagram.Code as code
+use Rattle.reflector_by_value.proofs.Rows.{rowsVal, typed, shared, shared-back}
+use Rattle.reflector_by_value.proofs.handle_datagram.Key.{name as #handle-datagram}
+use Rattle.reflector_by_value.proofs.handle_datagram as f
+use Rattle.reflector_by_value.proofs.handle_datagram.Statement as stated
+use Rattle.reflector_by_value.proofs.handle_datagram.Code as code
 
 abbrev Arg : Type 0
 Arg = List ReflectorSession × (ℕ × (TestkitReflectorConfig × (TestkitReflectorState × (LentSocketAddr × (TestkitGtpuMessage × (RefT (List ℕ) × (RefT (List ℕ) × Unit {0})))))))
