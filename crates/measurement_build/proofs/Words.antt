@@ -8,8 +8,10 @@ use Rattle.field.proofs.Fields.{value-big-endian}
 use Rattle.checksum.specs.Sum.{sumOf, foldOf, checksumOf}
 use Rattle.checksum.proofs.Carries.{like-halves, like-add, fold-of-like}
 use Rattle.checksum.proofs.Sums.{sum-append}
-use Rattle.measurement.specs.Packet.{ipv4, ipv4Header, pseudoHeader, probe, measurementMagic, udpSegment}
+use Rattle.measurement.specs.Pseudo.{pseudoHeader}
+use Rattle.measurement.specs.Probe.{probe, measurementMagic}
 use Rattle.measurement.specs.declared.IpVersion.the-variants.{V4}
+use Rattle.measurement_packet.specs.Packet.{ipv4, ipv4Header, udpSegment}
 use Rattle.measurement.proofs.Pseudo.{Folds, folds-over}
 
 -- eight bytes as one number, and as four words

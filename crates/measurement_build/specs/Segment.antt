@@ -3,7 +3,7 @@
 use Prim.Native.Nat.{ℕ, _+_, _-_}
 use mathlib.Core.List.{List}
 use Rattle.checksum.specs.Sum.{sumOf, foldOf}
-use Rattle.measurement.specs.Packet.{nonzero, udpSegment}
+use Rattle.measurement_packet.specs.Packet.{nonzero, udpSegment}
 
 unfoldable pub segmentOver : ℕ → ℕ → ℕ → ℕ → ℕ → List ℕ
 segmentOver pseudo sourcePort destinationPort sequence time =

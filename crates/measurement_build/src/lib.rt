@@ -10,9 +10,9 @@ ghost use mathlib.Core.List.{_++_};
 ghost use lib.ListN.{length, take, drop};
 ghost use Rattle.field.specs.Field.{bytesAt};
 ghost use Rattle.checksum.specs.Sum.{sumOf, foldOf};
-ghost use Rattle.measurement.specs.Packet.{ipv4Header, ipv6, nonzero, udpSegment, buildOf};
 ghost use Rattle.measurement.specs.Answer.{wrote, writing};
 ghost use Rattle.measurement.specs.declared.IpVersion.the-variants.{V4};
+ghost use Rattle.measurement_packet.specs.Packet.{ipv4Header, ipv6, nonzero, udpSegment, buildOf};
 ghost use Rattle.measurement_build.specs.Segment.{segmentOver};
 
 // The sum of the IPv4 header's words less that of the pseudo-header's, which has the addresses, protocol and UDP length.

@@ -5,9 +5,9 @@ use mathlib.Core.List.{List}
 use mathlib.Core.Bool.{false}
 use lib.ListN.{length}
 use Rattle.checksum.specs.Sum.{sumOf, foldOf}
-use Rattle.measurement.specs.Packet.{addressLength}
-use Rattle.measurement.specs.Read.{payload, lengthWrong}
+use Rattle.measurement.specs.Flow.{addressLength}
 use Rattle.measurement.specs.declared.IpVersion.{IpVersion}
+use Rattle.measurement_reading.specs.Read.{payload, lengthWrong}
 
 -- The part of the T-PDU that stands behind the IP header: room for a UDP header, and a length that a UDP length can count.
 pub record Part (udp : List ℕ) : Type 0 where

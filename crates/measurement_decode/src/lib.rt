@@ -16,11 +16,11 @@ ghost use lib.ListN.{length};
 ghost use Rattle.error.specs.Outcome.{refused, gives, outcomeNumber};
 ghost use Rattle.field.specs.Field.{bytesAt, field};
 ghost use Rattle.checksum.specs.Sum.{sumOf, foldOf};
-ghost use Rattle.measurement.specs.Packet.{padded};
-ghost use Rattle.measurement.specs.Read.{lengthWrong, sumWrong, tpduOf, readProbe, readUdp, readIpv4, readIpv6, readOf};
+ghost use Rattle.measurement.specs.Flow.{padded};
 ghost use Rattle.measurement.specs.Answer.{decodingMeans, decodeResult};
 ghost use Rattle.measurement.specs.declared.IpVersion.{IpVersion};
 ghost use Rattle.measurement.specs.declared.IpVersion.the-variants.{V4, V6};
+ghost use Rattle.measurement_reading.specs.Read.{lengthWrong, sumWrong, tpduOf, readProbe, readUdp, readIpv4, readIpv6, readOf};
 ghost use Rattle.measurement_decode.specs.Part.{Part, Addresses, HasProbe};
 ghost use Rattle.measurement_decode.specs.Numbers.{decodingNumbered, tpduNumbers, sourceLeft, destinationLeft};
 

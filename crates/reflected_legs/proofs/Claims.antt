@@ -1,8 +1,8 @@
 -- The claims of specs/Claims.antt, proved.
 use Prim.Native.Nat.{ℕ}
 use mathlib.Core.List.{List}
-use Rattle.measurement.specs.Claims as measurement
-use Rattle.measurement.specs.Claims.{Travelled}
+use Rattle.measurement_damage.specs.Claims as measurement
+use Rattle.measurement_damage.specs.Claims.{Travelled}
 use Rattle.reflector_answer.specs.declared.ReflectorPolicy.the-variants.{Echo}
 use Rattle.reflected_legs.specs.Way.{Way, arrives, echoes}
 use Rattle.reflected_legs.specs.Claims.{WaysAreTravelled, RoutesIncluded}

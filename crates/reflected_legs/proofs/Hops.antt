@@ -12,7 +12,7 @@ use lib.Seq.{take-append-seam}
 use borrow.Author.Tests.{eq-eqb}
 use Rattle.error.specs.Number.{outputTooShort}
 use Rattle.error.specs.Outcome.{Outcome, refused, gives, Cause, _⇒_, firstCause}
-use Rattle.measurement.specs.Echo.{echoOf}
+use Rattle.measurement_damage.specs.Echo.{echoOf}
 use Rattle.reflector_sessions.specs.Judge.{tableCauses, tableOutcome}
 use Rattle.reflector_sessions.specs.Session.{valueOf, noSession}
 use Rattle.reflector_sessions.specs.Table.{tableOf, usedRows, find}

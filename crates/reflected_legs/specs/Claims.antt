@@ -7,8 +7,8 @@ use mathlib.Core.Option.{some}
 use lib.ListN.{length}
 use Rattle.error.specs.Outcome.{gives}
 use Rattle.checksum.specs.Damage.{Turned}
-use Rattle.measurement.specs.Echo.{echoOf}
-use Rattle.measurement.specs.Claims.{Travelled}
+use Rattle.measurement_damage.specs.Echo.{echoOf}
+use Rattle.measurement_damage.specs.Claims.{Travelled}
 use Rattle.gtpu.specs.Message.{gtpuMsgGpdu}
 use Rattle.reflector_sessions.specs.Judge.{tableOutcome}
 use Rattle.reflector_sessions.specs.Table.{tableOf, usedRows, find}

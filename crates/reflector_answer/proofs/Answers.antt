@@ -11,9 +11,10 @@ use borrow.Author.Tests.{eq-eqb, ne-eqb, lt-ltb, le-ltb}
 use Rattle.error.specs.Number.{outputTooShort, unsupportedMessageType}
 use Rattle.error.specs.Outcome.{Outcome, refused, gives, Cause, _⇒_, firstCause}
 use Rattle.error.proofs.Causes.{Refuses, here, none as no-row, past, refuses, passes, refused-gives, refuses-front, refuses-behind, passes-both}
-use Rattle.measurement.specs.Read.{readOf}
-use Rattle.measurement.specs.Echo.{reversedOf, echoOfTpdu, echoOf}
+use Rattle.measurement.specs.Flow.{reversedOf}
 use Rattle.measurement.specs.declared.DecodedTpdu.{DecodedTpdu}
+use Rattle.measurement_reading.specs.Read.{readOf}
+use Rattle.measurement_damage.specs.Echo.{echoOfTpdu, echoOf}
 use Rattle.measurement_build.proofs.Whole.{writing-fits}
 use Rattle.measurement_echo.proofs.Block.{built-fits}
 use Rattle.measurement.specs.Answer.{Writing, wrote, writing, writingOf}

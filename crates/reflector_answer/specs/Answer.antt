@@ -8,8 +8,8 @@ use lib.Dec.{eqb}
 use Rattle.error.specs.Number.{echoRequestTeidNotZero, echoRequestMissingSequence, unsupportedMessageType}
 use Rattle.error.specs.Outcome.{Outcome, refused, gives, _⇒_, firstCause}
 use Rattle.field.specs.Field.{bigEndian, bytesAt}
-use Rattle.measurement.specs.Packet.{address}
-use Rattle.measurement.specs.Echo.{echoOf}
+use Rattle.measurement.specs.Flow.{address}
+use Rattle.measurement_damage.specs.Echo.{echoOf}
 use Rattle.gtpu.specs.Claims.{errorIndication}
 use Rattle.gtpu.specs.Message.{gtpuMsgEchoRequest, gtpuMsgEchoResponse, gtpuMsgErrorIndication, gtpuMsgSupportedExtensionHeadersNotification, gtpuMsgEndMarker, gtpuMsgGpdu}
 use Rattle.reflector_sessions.specs.Session.{valueOf}

@@ -4,11 +4,11 @@ use mathlib.Core.Path.{_≡_}
 use mathlib.Core.List.{List, _++_}
 use mathlib.Core.Option.{some, none}
 use Rattle.error.specs.Outcome.{Outcome, gives}
-use Rattle.measurement.specs.Packet.{buildOf}
-use Rattle.measurement.specs.Read.{readOf}
-use Rattle.measurement.specs.Echo.{reversedOf}
-use Rattle.measurement.specs.Claims.{InRange, tpduBuilt}
+use Rattle.measurement.specs.Flow.{reversedOf, InRange}
 use Rattle.measurement.specs.declared.InnerIpFlow.{InnerIpFlow}
+use Rattle.measurement_packet.specs.Packet.{buildOf}
+use Rattle.measurement_reading.specs.Read.{readOf}
+use Rattle.measurement_damage.specs.Claims.{tpduBuilt}
 use Rattle.gtpu.specs.Element.{elementsOf}
 use Rattle.gtpu.specs.Message.{gtpuMsgGpdu}
 use Rattle.reflector_sessions.specs.Session.{valueOf}

@@ -9,8 +9,8 @@ use lib.Dec.{ltb}
 use lib.ListN.{length, take, drop, replicate}
 use Rattle.error.specs.Number.{outputTooShort}
 use Rattle.error.specs.Outcome.{Outcome, refused, gives, _⇒_, firstCause}
-use Rattle.measurement.specs.Echo.{echoOf}
 use Rattle.measurement.specs.declared.IpVersion.the-variants.{V4}
+use Rattle.measurement_damage.specs.Echo.{echoOf}
 use Rattle.gtpu.specs.Message.{gtpuMsgGpdu}
 use Rattle.reflector_answer.specs.State.{stateCounted}
 use Rattle.reflector_answer.specs.declared.ReflectorCounter.the-variants.{GpduForwarded}

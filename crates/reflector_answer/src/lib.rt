@@ -15,7 +15,7 @@ ghost use Prim.Native.Nat.{_≤_};
 ghost use mathlib.Core.List.{_++_};
 ghost use lib.ListN.{length, drop};
 ghost use Rattle.error.specs.Outcome.{refused};
-ghost use Rattle.measurement.specs.Packet.{addressLength};
+ghost use Rattle.measurement.specs.Flow.{addressLength};
 ghost use Rattle.reflector_sessions.specs.Judge.{sessionFound};
 ghost use Rattle.reflector_answer.specs.State.{counted, nextErrorSequence, stateCounted};
 ghost use Rattle.reflector_answer.specs.Answer.{errorIndicationBlock, errorIndicationTo, ignored, gpduKnown, gpduUnknown, echoRequest, otherMessage, answer};

@@ -2,7 +2,7 @@
 use mathlib.Core.Bool.{Bool, true, false, _&&_}
 use lib.Dec.{eqb}
 use Rattle.field.specs.Field.{sameBytes}
-use Rattle.measurement.specs.Packet.{versionNumbered, address}
+use Rattle.measurement.specs.Flow.{versionNumbered, address}
 use Rattle.measurement.specs.declared.IpVersion.{IpVersion}
 use Rattle.measurement.specs.declared.IpVersion.the-variants.{V4, V6}
 use lib.ListN.{replicate}

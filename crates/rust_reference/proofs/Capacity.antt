@@ -11,11 +11,11 @@ use lib.ListN.{length, getD}
 use borrow.Author.Tests.{eqb-true, eqb-false, ltb-true, ltb-false}
 use Rattle.error.specs.Outcome.{Outcome, refused, gives, Cause, _⇒_, firstCause}
 use Rattle.error.proofs.Causes.{Refuses, refuses, passes, refused-gives}
-use Rattle.measurement.specs.Echo.{echoOfTpdu, echoOf}
-use Rattle.measurement.specs.Read.{probeCauses, udpCauses, readProbe, readUdp, tpduCauses, ipv4Causes, readIpv4, ipv6Causes, readIpv6, readOf}
 use Rattle.measurement.specs.declared.DecodedTpdu.{DecodedTpdu}
 use Rattle.measurement.specs.declared.IpVersion.{IpVersion}
 use Rattle.measurement.specs.declared.IpVersion.the-variants.{V4, V6}
+use Rattle.measurement_reading.specs.Read.{probeCauses, udpCauses, readProbe, readUdp, tpduCauses, ipv4Causes, readIpv4, ipv6Causes, readIpv6, readOf}
+use Rattle.measurement_damage.specs.Echo.{echoOfTpdu, echoOf}
 use Rattle.reflector.specs.Handle.{handleDatagram}
 use Rattle.reflector_answer.specs.Answer.{handedOn, Action, noop, gpdu, reflected, gpduOutcome, gpduKnown, gpduUnknown, echoRequestOutcome, echoRequest, otherMessage, gpduAnswer, Answer, answer}
 use Rattle.gtpu.specs.declared.GtpuMessage.{GtpuMessage}

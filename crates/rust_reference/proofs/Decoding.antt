@@ -15,12 +15,13 @@ use Rattle.field.specs.Field.{Bytes, bigEndian, valueOf, bytesAt, field}
 use Rattle.field.proofs.Fields.{bytes-take, bytes-drop, bytes-append, bytes-at, byte-of, value-injective, bytesAt-drop, front-bytes, same-as-itself}
 use Rattle.checksum.specs.Sum.{checksumOf}
 use Rattle.checksum.proofs.Carries.{split}
-use Rattle.measurement.specs.Packet.{pseudoHeader, measurementMagic}
-use Rattle.measurement.specs.Read.{payload, lengthWrong, covered, sumWrong, probeCauses, udpCauses, readProbe, readUdp, ihl, ipv4Causes, readIpv4, ipv6Causes, readIpv6, readOf}
+use Rattle.measurement.specs.Pseudo.{pseudoHeader}
+use Rattle.measurement.specs.Probe.{measurementMagic}
 use Rattle.measurement.specs.declared.DecodedTpdu.{DecodedTpdu}
 use Rattle.measurement.specs.declared.MeasurementHeader.{MeasurementHeader}
 use Rattle.measurement.specs.declared.IpVersion.the-variants.{V4, V6}
-use Rattle.measurement.proofs.Rows.{row-1, row-2, version-4, version-6}
+use Rattle.measurement_reading.specs.Read.{payload, lengthWrong, covered, sumWrong, probeCauses, udpCauses, readProbe, readUdp, ihl, ipv4Causes, readIpv4, ipv6Causes, readIpv6, readOf}
+use Rattle.measurement_reading.proofs.Rows.{row-1, row-2, version-4, version-6}
 use Rattle.rust_reference.specs.Claims.{DecodeMeasurementTpdu}
 use Rattle.rust_reference.specs.Error as error
 use Rattle.rust_reference.specs.Error.{Result, Ok, Err, UnsupportedIpVersion, InvalidPacket, returnIf, _>>=_, _>>_}

@@ -10,10 +10,10 @@ use lib.ListN.{length, drop}
 use borrow.Author.Tests.{eqb-true, eqb-false, leb-true, leb-false, ltb-true, ltb-false, lt-ltb, le-ltb}
 use Rattle.error.specs.Outcome.{Outcome, refused, gives}
 use Rattle.field.specs.Field.{Bytes}
-use Rattle.measurement.specs.Packet.{buildOf}
-use Rattle.measurement.specs.Claims.{InRange}
+use Rattle.measurement.specs.Flow.{InRange}
 use Rattle.measurement.specs.declared.InnerIpFlow.{InnerIpFlow}
 use Rattle.measurement.specs.declared.MeasurementHeader.{MeasurementHeader}
+use Rattle.measurement_packet.specs.Packet.{buildOf}
 use Rattle.plan.specs.Plan.{top, interval, intervalOf, timeAt, packetAt, packetsFrom, packetsOf, causesAt, causesFrom, Judged, firstPlanCause, judgePackets, judgePlan}
 use Rattle.traffic.specs.Generate.{endToEnd, Generating, placing, generateOf}
 use Rattle.plan.specs.declared.TrafficPlan.{TrafficPlan}

@@ -11,10 +11,10 @@ use lib.ListN.{length}
 use borrow.Author.Tests.{eqb-true, eqb-false, ltb-true, ltb-false, le-ltb}
 use Rattle.counter.specs.Counter.{oneMore}
 use Rattle.error.specs.Outcome.{Outcome, refused, gives, _⇒_, firstCause}
-use Rattle.measurement.specs.Echo.{echoOf}
-use Rattle.measurement.specs.Packet.{address, addressLength}
+use Rattle.measurement.specs.Flow.{address, addressLength}
 use Rattle.measurement.specs.declared.IpVersion.{IpVersion}
 use Rattle.measurement.specs.declared.IpVersion.the-variants.{V4, V6}
+use Rattle.measurement_damage.specs.Echo.{echoOf}
 use Rattle.reflector.specs.Handle.{handleDatagram}
 use Rattle.reflector_answer.specs.Answer.{written, handedOn, Action, noop, send, Answer, gpdu, reflected, gpduOutcome, gpduCounted, gpduKnown, errorIndicationTo, gpduUnknown, isAbsent, echoRequestOutcome, echoRequestCounted, echoRequest, otherMessage, gpduAnswer, answer}
 use Rattle.reflector_answer.specs.Handle.{placed}

@@ -11,7 +11,7 @@ use borrow.Author.Tests.{ltb-true, ltb-false, eqb-true, eqb-false, eq-eqb, lt-lt
 use Rattle.error.specs.Outcome.{Outcome, refused, gives}
 use Rattle.error.proofs.Tests.{true-not-false, or-left, or-right}
 use Rattle.field.specs.Field.{Bytes}
-use Rattle.measurement.specs.Read.{readOf}
+use Rattle.measurement_reading.specs.Read.{readOf}
 use Rattle.gtpu.specs.Element.{elementsOf}
 use Rattle.observer.specs.Claims.{sending, returning, indicating}
 use Rattle.counter.specs.Counter.{oneMore}

@@ -14,7 +14,7 @@ use Rattle.error.specs.Number.{invalidReflectorSession, reflectorSessionConflic
 use Rattle.error.specs.Outcome.{Outcome, gives, _⇒_, firstCause}
 use Rattle.error.proofs.Causes.{passes}
 use Rattle.field.specs.Field.{sameBytes}
-use Rattle.measurement.specs.Packet.{address}
+use Rattle.measurement.specs.Flow.{address}
 use Rattle.measurement.specs.declared.IpVersion.{IpVersion}
 use Rattle.measurement.specs.declared.IpVersion.the-variants.{V4, V6}
 use Rattle.reflector_sessions.specs.Register.{invalidSession, sessionOutcome, registerOutcome, registerSession, registeredTable}

@@ -5,7 +5,7 @@ use mathlib.Core.List.{List, [], _∷_, _++_, map}
 use lib.ListN.{length, drop}
 use Rattle.error.specs.Outcome.{refused, gives}
 use Rattle.measurement.specs.Answer.{Writing}
-use Rattle.measurement.specs.Packet.{address, padded}
+use Rattle.measurement.specs.Flow.{address, padded}
 use Rattle.measurement.specs.declared.DecodedTpdu.{DecodedTpdu}
 use Rattle.measurement.specs.declared.InnerIpFlow.{InnerIpFlow}
 use Rattle.measurement.specs.declared.MeasurementHeader.{MeasurementHeader}

@@ -13,13 +13,14 @@ use Rattle.gtpu.specs.Element.{elementsOf}
 use Rattle.gtpu.specs.Message.{gtpuMsgGpdu}
 use Rattle.field.specs.Field.{Bytes}
 use Rattle.checksum.specs.Sum.{checksumOf}
-use Rattle.measurement.specs.Packet.{probe, buildOf}
-use Rattle.measurement.specs.Read.{readOf}
-use Rattle.measurement.specs.Echo.{reversedOf, echoOf}
+use Rattle.measurement.specs.Probe.{probe}
+use Rattle.measurement.specs.Flow.{reversedOf, InRange}
 use Rattle.measurement.specs.Answer.{writing, writingOf}
-use Rattle.measurement.specs.Claims.{InRange}
 use Rattle.measurement.specs.declared.InnerIpFlow.{InnerIpFlow}
 use Rattle.measurement.specs.declared.MeasurementHeader.{MeasurementHeader}
+use Rattle.measurement_packet.specs.Packet.{buildOf}
+use Rattle.measurement_reading.specs.Read.{readOf}
+use Rattle.measurement_damage.specs.Echo.{echoOf}
 use Rattle.plan.specs.Plan.{intervalOf, judgePlan}
 use Rattle.traffic.specs.Generate.{firstSequence, generateOf}
 use Rattle.plan.specs.declared.TrafficPlan.{TrafficPlan}

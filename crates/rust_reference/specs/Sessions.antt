@@ -5,7 +5,7 @@ use mathlib.Core.List.{List, map, _++_}
 use mathlib.Core.Option.{Option, some, none}
 use lib.ListN.{length, drop}
 use Rattle.error.specs.Outcome.{Outcome, refused, gives}
-use Rattle.measurement.specs.Packet.{address}
+use Rattle.measurement.specs.Flow.{address}
 use Rattle.measurement.specs.declared.IpVersion.{IpVersion}
 use Rattle.measurement.specs.declared.IpVersion.the-variants.{V4, V6}
 use Rattle.reflector.specs.Handle.{handleDatagram}

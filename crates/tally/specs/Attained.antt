@@ -6,9 +6,10 @@ use mathlib.Core.Bool.{Bool, true, false}
 use lib.ListN.{take, drop}
 use Rattle.error.specs.Outcome.{gives}
 use Rattle.field.specs.Field.{field}
-use Rattle.measurement.specs.Packet.{ipHeaderLength}
-use Rattle.measurement.specs.Claims.{InRange, Travelled, arrives, echoes, echoesOf}
+use Rattle.measurement.specs.Flow.{InRange}
 use Rattle.measurement.specs.declared.InnerIpFlow.{InnerIpFlow}
+use Rattle.measurement_packet.specs.Packet.{ipHeaderLength}
+use Rattle.measurement_damage.specs.Claims.{Travelled, arrives, echoes, echoesOf}
 use Rattle.plan.specs.Plan.{packetsOf}
 use Rattle.traffic.specs.Generate.{generateOf}
 use Rattle.plan.specs.Claims.{Acceptable}

@@ -10,10 +10,10 @@ use Rattle.evidence.specs.Budget.{zeroLoss}
 use Rattle.evidence.specs.declared.Latency.{Latency}
 use Rattle.evidence.specs.declared.Latency.the-variants.{Absent}
 use Rattle.evidence.specs.declared.PacketContinuityReport.{PacketContinuityReport}
-use Rattle.measurement.specs.Packet.{buildOf}
-use Rattle.measurement.specs.Echo.{echoOf}
 use Rattle.measurement.specs.declared.InnerIpFlow.{InnerIpFlow}
 use Rattle.measurement.specs.declared.IpVersion.the-variants.{V4, V6}
+use Rattle.measurement_packet.specs.Packet.{buildOf}
+use Rattle.measurement_damage.specs.Echo.{echoOf}
 use Rattle.plan.specs.Plan.{intervalOf}
 use Rattle.gtpu.specs.Element.{elementsOf}
 use Rattle.observer.specs.Counts.{fresh}

@@ -7,10 +7,11 @@ use mathlib.Core.Bool.{Bool, true, false, not, _||_}
 use Rattle.error.specs.Outcome.{Outcome, refused, gives}
 use Rattle.field.specs.Field.{sameBytes}
 use Rattle.evidence.specs.declared.PacketContinuityBudget.{PacketContinuityBudget}
-use Rattle.measurement.specs.Packet.{buildOf}
-use Rattle.measurement.specs.Claims.{InRange, DamageFound, Travelled, arrives, echoes, echoesOf}
+use Rattle.measurement.specs.Flow.{InRange}
 use Rattle.measurement.specs.declared.InnerIpFlow.{InnerIpFlow}
 use Rattle.measurement.specs.declared.MeasurementHeader.{MeasurementHeader}
+use Rattle.measurement_packet.specs.Packet.{buildOf}
+use Rattle.measurement_damage.specs.Claims.{DamageFound, Travelled, arrives, echoes, echoesOf}
 use Rattle.plan.specs.Plan.{timeAt, packetsOf}
 use Rattle.traffic.specs.Generate.{generateOf}
 use Rattle.plan.specs.declared.TrafficPlan.{TrafficPlan}

@@ -9,8 +9,8 @@ use lib.ListN.{length, getD, set}
 use Rattle.error.specs.Outcome.{Outcome, refused, gives}
 use Rattle.evidence.specs.declared.PacketContinuityBudget.{PacketContinuityBudget}
 use Rattle.evidence.specs.declared.PacketContinuityReport.{PacketContinuityReport}
-use Rattle.measurement.specs.Read.{readOf}
 use Rattle.measurement.specs.declared.MeasurementHeader.{MeasurementHeader}
+use Rattle.measurement_reading.specs.Read.{readOf}
 use Rattle.counter.specs.Counter.{oneMore}
 use Rattle.observer.specs.Observer.{Row}
 use Rattle.observer.specs.declared.ObserverCounts.{ObserverCounts}

@@ -30,7 +30,7 @@ use Rattle.reflector_answer.specs.declared.ReflectorSendReason.the-variants as 
 use Rattle.reflector_answer.specs.declared.ReflectorState.{ReflectorState}
 use Rattle.gtpu.specs.declared.SequenceNumber.{SequenceNumber}
 use Rattle.gtpu.specs.declared.SequenceNumber.the-variants.{Absent, Present}
-use Rattle.measurement.specs.Packet.{versionNumber}
+use Rattle.measurement.specs.Flow.{versionNumber}
 use Rattle.testkit_reflector.specs.declared.ActionNumbers.{ActionNumbers}
 use Rattle.testkit_reflector.specs.declared.HandlingArguments.{HandlingArguments}
 use Rattle.testkit_reflector.specs.declared.SequenceNumbers.{SequenceNumbers}

@@ -12,12 +12,12 @@ use lib.Seq.{drop-at, drop-drop}
 use borrow.Author.Tests.{ltb-true, ltb-false}
 use Rattle.error.specs.Outcome.{Outcome, refused, gives}
 use Rattle.error.proofs.Causes.{refused-gives}
-use Rattle.measurement.specs.Packet.{buildOf}
-use Rattle.measurement.specs.Read.{readOf}
-use Rattle.measurement.specs.Claims.{InRange}
+use Rattle.measurement.specs.Flow.{InRange}
 use Rattle.measurement.specs.declared.InnerIpFlow.{InnerIpFlow}
 use Rattle.measurement.specs.declared.MeasurementHeader.{MeasurementHeader}
-use Rattle.measurement.proofs.Claims.{reads-back}
+use Rattle.measurement_packet.specs.Packet.{buildOf}
+use Rattle.measurement_reading.specs.Read.{readOf}
+use Rattle.measurement_damage.proofs.Claims.{reads-back}
 use Rattle.measurement_build.proofs.Whole.{build-length}
 use Rattle.plan.specs.Plan.{timeAt, packetsFrom, packetsOf, judgePlan}
 use Rattle.plan.specs.Claims.{Acceptable, accepted}

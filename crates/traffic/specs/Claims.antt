@@ -5,10 +5,11 @@ use mathlib.Core.List.{List}
 use mathlib.Core.Logic.{_⊎_}
 use lib.ListN.{length, drop}
 use Rattle.error.specs.Outcome.{refused, gives}
-use Rattle.measurement.specs.Packet.{ipHeaderLength}
-use Rattle.measurement.specs.Read.{readOf}
-use Rattle.measurement.specs.Claims.{InRange, tpduBuilt}
+use Rattle.measurement.specs.Flow.{InRange}
 use Rattle.measurement.specs.declared.InnerIpFlow.{InnerIpFlow}
+use Rattle.measurement_packet.specs.Packet.{ipHeaderLength}
+use Rattle.measurement_reading.specs.Read.{readOf}
+use Rattle.measurement_damage.specs.Claims.{tpduBuilt}
 use Rattle.plan.specs.Plan.{timeAt, judgePlan}
 use Rattle.plan.specs.Claims.{accepted}
 use Rattle.plan.specs.declared.TrafficPlan.{TrafficPlan}

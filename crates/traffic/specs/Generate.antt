@@ -3,10 +3,10 @@ use Prim.Native.Nat.{ℕ}
 use mathlib.Core.List.{List, [], _∷_, _++_}
 use Rattle.error.specs.Outcome.{Outcome, refused, gives}
 use Rattle.measurement.specs.Answer.{writtenMeans, Writing, writing}
-use Rattle.measurement.specs.Packet.{buildOf}
 use Rattle.measurement.specs.declared.InnerIpFlow.{InnerIpFlow}
 use Rattle.measurement.specs.declared.MeasurementHeader.{MeasurementHeader}
 use Rattle.measurement.specs.declared.Written.{Written}
+use Rattle.measurement_packet.specs.Packet.{buildOf}
 use Rattle.plan.specs.Plan.{judgePlan}
 use Rattle.plan.specs.declared.TrafficPlan.{TrafficPlan}
 

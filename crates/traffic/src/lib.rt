@@ -9,7 +9,7 @@ ghost use mathlib.Core.Path.{_≡_};
 ghost use Prim.Native.Nat.{_+_, _*_};
 ghost use mathlib.Core.List.{_++_};
 ghost use lib.ListN.{drop};
-ghost use Rattle.measurement.specs.Packet.{ipHeaderLength};
+ghost use Rattle.measurement_packet.specs.Packet.{ipHeaderLength};
 ghost use Rattle.plan.specs.Plan.{packetsOf};
 ghost use Rattle.traffic.specs.Claims.{PacketsReadBack, SuccessIsComplete, RoomDecides, RefusalLeaves};
 ghost use Rattle.traffic.specs.Generate.{firstSequence, endToEnd, generated, generateOf};

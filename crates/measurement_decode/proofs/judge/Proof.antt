@@ -2,7 +2,7 @@
 use mathlib.Core.Path.{refl, ap, _∙_}
 use borrow.Author.Needs.{needs}
 use Rattle.error.specs.Outcome.{outcomeNumber}
-use Rattle.measurement.proofs.Rows.{row-1, row-2, version-4, version-6}
+use Rattle.measurement_reading.proofs.Rows.{row-1, row-2, version-4, version-6}
 use Rattle.measurement_decode.proofs.judge.Statement.{statement}
 use Rattle.measurement_decode.proofs.judge.Tie as tie
 

@@ -7,10 +7,10 @@ use lib.ListN.{drop, length-take, length-drop}
 use lib.Seq.{length-take-le}
 use Rattle.error.specs.Outcome.{outcomeNumber}
 use Rattle.field.specs.Field.{bytesAt}
-use Rattle.measurement.specs.Packet.{addressLength}
-use Rattle.measurement.specs.Read.{ihl}
+use Rattle.measurement.specs.Flow.{addressLength}
 use Rattle.measurement.specs.declared.IpVersion.the-variants.{V4}
-use Rattle.measurement.proofs.Rows.{row-3, row-4-low, row-4-cut, row-5-low, row-5-past, row-6-ipv4, row-7, rest-ipv4}
+use Rattle.measurement_reading.specs.Read.{ihl}
+use Rattle.measurement_reading.proofs.Rows.{row-3, row-4-low, row-4-cut, row-5-low, row-5-past, row-6-ipv4, row-7, rest-ipv4}
 use Rattle.measurement_decode.proofs.Laws.{part-short, addresses}
 use Rattle.measurement_decode.proofs.judge_ipv4.Statement.{statement}
 use Rattle.measurement_decode.proofs.judge_ipv4.Tie as tie

@@ -5,8 +5,8 @@ use native.Mathlib.Omega.{arith}
 use borrow.Author.Needs.{needs}
 use Rattle.error.specs.Outcome.{outcomeNumber}
 use Rattle.field.specs.Field.{field}
-use Rattle.measurement.proofs.Rows.{udp4-10, udp4-12, udp4-unsummed, udp4-right}
 use Rattle.measurement.specs.declared.IpVersion.the-variants.{V4}
+use Rattle.measurement_reading.proofs.Rows.{udp4-10, udp4-12, udp4-unsummed, udp4-right}
 use Rattle.measurement_decode.proofs.judge_ipv4_udp.Statement.{statement}
 use Rattle.measurement_decode.proofs.judge_ipv4_udp.Tie as tie
 

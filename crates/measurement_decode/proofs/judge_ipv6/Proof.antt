@@ -6,9 +6,9 @@ use borrow.Author.Needs.{needs}
 use lib.ListN.{drop, length-take, length-drop}
 use Rattle.error.specs.Outcome.{outcomeNumber}
 use Rattle.field.specs.Field.{bytesAt}
-use Rattle.measurement.specs.Packet.{addressLength}
+use Rattle.measurement.specs.Flow.{addressLength}
 use Rattle.measurement.specs.declared.IpVersion.the-variants.{V6}
-use Rattle.measurement.proofs.Rows.{row-8, row-6-ipv6, row-9-low, row-9-past, rest-ipv6}
+use Rattle.measurement_reading.proofs.Rows.{row-8, row-6-ipv6, row-9-low, row-9-past, rest-ipv6}
 use Rattle.measurement_decode.proofs.Laws.{part-short, addresses}
 use Rattle.measurement_decode.proofs.judge_ipv6.Statement.{statement}
 use Rattle.measurement_decode.proofs.judge_ipv6.Tie as tie

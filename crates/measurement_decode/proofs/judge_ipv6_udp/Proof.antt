@@ -5,8 +5,8 @@ use native.Mathlib.Omega.{arith}
 use borrow.Author.Needs.{needs}
 use Rattle.error.specs.Outcome.{outcomeNumber}
 use Rattle.field.specs.Field.{field}
-use Rattle.measurement.proofs.Rows.{udp6-11, udp6-12, udp6-10, udp6-right}
 use Rattle.measurement.specs.declared.IpVersion.the-variants.{V6}
+use Rattle.measurement_reading.proofs.Rows.{udp6-11, udp6-12, udp6-10, udp6-right}
 use Rattle.measurement_decode.proofs.judge_ipv6_udp.Statement.{statement}
 use Rattle.measurement_decode.proofs.judge_ipv6_udp.Tie as tie
 

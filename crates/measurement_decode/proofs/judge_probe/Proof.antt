@@ -3,7 +3,7 @@ use mathlib.Core.Path.{ap}
 use native.Mathlib.Omega.{arith}
 use borrow.Author.Needs.{needs}
 use Rattle.error.specs.Outcome.{outcomeNumber}
-use Rattle.measurement.proofs.Rows.{length-right, probe-13, probe-14, probe-gives}
+use Rattle.measurement_reading.proofs.Rows.{length-right, probe-13, probe-14, probe-gives}
 use Rattle.measurement_decode.proofs.judge_probe.Statement.{statement}
 use Rattle.measurement_decode.proofs.judge_probe.Tie as tie
 
