@@ -119,6 +119,7 @@ struct Total {
     parts: u64,
     cases: u64,
     differences: u64,
+    left_out: u64,
     failed: u64,
 }
 
@@ -143,14 +144,16 @@ fn main() -> ExitCode {
         total.parts += 1;
         total.cases += part.cases();
         total.differences += part.differences();
+        total.left_out += part.left_out();
         total.failed += u64::from(part.failed());
     }
     println!(
-        "total: {} parts, {} failed; {} cases, {} differences (seed {}, rounds {})",
+        "total: {} parts, {} failed; {} cases, {} differences, {} left out (seed {}, rounds {})",
         total.parts,
         total.failed,
         grouped(total.cases),
         grouped(total.differences),
+        grouped(total.left_out),
         options.seed,
         options.rounds,
     );

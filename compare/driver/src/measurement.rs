@@ -5,8 +5,9 @@ use std::collections::BTreeMap;
 use std::net::SocketAddr;
 
 use crate::cases::{ipv4_probe, ipv6_probe};
+use crate::compared::{due, Answer};
 use crate::damage::{each_damage, excluded, turn, window_starts};
-use crate::numbers::OUTPUT_TOO_SHORT;
+use crate::numbers::{OUTPUT_TOO_SHORT, READING_EITHER, READING_IPV4, READING_IPV6};
 use crate::ours::{self, Values, Written};
 use crate::packet::{part_at, version, word, IPV4_HEADER_CHECKSUM_AT};
 use crate::part::{grouped, Bytes, Part, Word};
@@ -15,14 +16,10 @@ use crate::rust_side::measurement::{build, decode, echo, Flow, Probe};
 use crate::rust_side::Outcome;
 use crate::wild::{any_probe, each_wild};
 
-/// The orders in which the readers of IPv4 and IPv6 judge. Numbers 1 and 2 come before both.
-const IPV4_ORDER: [u8; 9] = [3, 4, 5, 6, 7, 10, 12, 13, 14];
-const IPV6_ORDER: [u8; 8] = [8, 6, 9, 11, 12, 10, 13, 14];
-
 /// What an output has in it before a call.
 const DIRT: u8 = 0xa5;
 
-/// One damaged packet in so many is echoed, if both sides refuse to read it.
+/// Of the damaged packets that both sides refuse to read, one in this many is echoed.
 const ECHO_SAMPLE: u64 = 64;
 
 /// Random and extreme probes into buffers of every kind. Ours is lent junk behind each IPv4
@@ -59,19 +56,19 @@ pub fn reading(seed: u64, rounds: u64) -> Part {
     let mut part = Part::new("packets");
     let mut seen = BTreeMap::new();
     each_wild(seed, rounds, |tpdu| {
-        let expected = as_ours(decode(tpdu));
         let answer = ours::decode(tpdu);
-        if answer.0 == expected.0 {
-            *seen.entry(cause(tpdu, answer.0)).or_insert(0) += 1;
+        *seen.entry(cause(tpdu, answer.0)).or_insert(0) += 1;
+        if let Some(due) = due(&mut part, tpdu, decode) {
+            part.case(tpdu, answer.told(), as_ours(due));
         }
-        part.case(tpdu, answer, expected);
     });
 
-    let mut due = vec![(0, 1), (0, 2), (4, 0), (6, 0)];
-    due.extend(IPV4_ORDER.map(|number| (4, number)));
-    due.extend(IPV6_ORDER.map(|number| (6, number)));
-    due.sort();
-    part.case(&[], seen.keys().copied().collect(), due);
+    let mut causes = vec![(4, 0), (6, 0)];
+    for (version, numbers) in [(0, READING_EITHER), (4, READING_IPV4), (6, READING_IPV6)] {
+        causes.extend(numbers.iter().map(|&number| (version, number)));
+    }
+    causes.sort();
+    part.case(&[], seen.keys().copied().collect(), causes);
     part.note(counts(&seen));
     part
 }
@@ -150,7 +147,7 @@ impl From<Probe> for Values {
             src_port: source.port(),
             dst_port: destination.port(),
             sequence: probe.sequence,
-            send_time: probe.send_time,
+            send_timestamp_ns: probe.send_timestamp_ns,
         }
     }
 }
@@ -164,7 +161,7 @@ fn as_ours(outcome: Outcome<Probe>) -> (u8, Values) {
         src_port: 0,
         dst_port: 0,
         sequence: 0,
-        send_time: 0,
+        send_timestamp_ns: 0,
     };
     match outcome {
         Ok(probe) => (0, probe.into()),
@@ -203,23 +200,28 @@ fn writes(
             number: answer.err().unwrap_or(0),
             bytes: answer.unwrap_or(0),
         };
-        part.case(input, (written, Bytes(out)), (due, Bytes(expected)));
+        part.case(input, (written.told(), Bytes(out)), (due, Bytes(expected)));
     }
 }
 
 fn echoes(part: &mut Part, tpdu: &[u8]) {
-    let due = echo(tpdu);
-    let due = due.as_deref().map_err(|number| *number);
-    writes(part, tpdu, due, |out| ours::echo(tpdu, out));
+    if let Some(due) = due(part, tpdu, echo) {
+        let due = due.as_deref().map_err(|number| *number);
+        writes(part, tpdu, due, |out| ours::echo(tpdu, out));
+    }
 }
 
-/// Both sides must read the damaged packet alike: refuse it, or read the probe that was sent.
+/// Both sides must read the damaged packet alike, and ours must refuse it or read the probe that was
+/// sent, whether it is compared or not.
 fn survives(part: &mut Part, sent: Probe, damaged: &[u8]) {
-    let outcome = decode(damaged);
-    let harmless = outcome.is_err() || outcome == Ok(sent);
-    let answer = (ours::decode(damaged), harmless);
-    part.case(damaged, answer, (as_ours(outcome), true));
-    if outcome.is_ok() || part.cases().is_multiple_of(ECHO_SAMPLE) {
+    let answer = ours::decode(damaged);
+    let is_read = answer.0 == 0;
+    let harmless = !is_read || answer.1 == sent.into();
+    match due(part, damaged, decode) {
+        Some(due) => part.case(damaged, (answer.told(), harmless), (as_ours(due), true)),
+        None => part.case(damaged, harmless, true),
+    }
+    if is_read || part.cases().is_multiple_of(ECHO_SAMPLE) {
         echoes(part, damaged);
     }
 }
@@ -240,7 +242,7 @@ fn some_probes(version: u8) -> [Probe; 5] {
             ),
         },
         sequence: 0x0123_4567_89ab_cdef,
-        send_time: 1_700_000_000_123_456_789,
+        send_timestamp_ns: 1_700_000_000_123_456_789,
     };
     let all = |byte| {
         let port = u16::from_be_bytes([byte; 2]);
@@ -251,7 +253,7 @@ fn some_probes(version: u8) -> [Probe; 5] {
                 _ => Flow::new(([byte; 16], port), ([byte; 16], port)),
             },
             sequence: number,
-            send_time: number,
+            send_timestamp_ns: number,
         }
     };
     [ordinary, steered(ordinary), all(0x00), all(0xff), case]
@@ -267,9 +269,9 @@ fn steered(mut probe: Probe) -> Probe {
         let checksum = word(&build(probe), IPV4_HEADER_CHECKSUM_AT);
         probe.flow.destination = ending(checksum.to_be_bytes());
     }
-    probe.send_time &= !0xffff;
+    probe.send_timestamp_ns &= !0xffff;
     let (_, Word(checksum)) = checksums(&build(probe));
-    probe.send_time |= u64::from(checksum);
+    probe.send_timestamp_ns |= u64::from(checksum);
     probe
 }
 
@@ -281,9 +283,9 @@ fn checksums(tpdu: &[u8]) -> (Option<Word>, Word) {
 
 /// Why a packet was refused, or 0: the number, with the IP version if the number has one.
 fn cause(tpdu: &[u8], number: u8) -> (u8, u8) {
-    match number {
-        1 | 2 => (0, number),
-        _ => (version(tpdu), number),
+    match READING_EITHER.contains(&number) {
+        true => (0, number),
+        false => (version(tpdu), number),
     }
 }
 
@@ -298,10 +300,10 @@ fn counts(seen: &BTreeMap<(u8, u8), u64>) -> String {
     };
     format!(
         "{}; IPv4 {}, read: {}; IPv6 {}, read: {}",
-        counts(0, &[1, 2]),
-        counts(4, &IPV4_ORDER),
+        counts(0, READING_EITHER),
+        counts(4, READING_IPV4),
         count(4, 0),
-        counts(6, &IPV6_ORDER),
+        counts(6, READING_IPV6),
         count(6, 0),
     )
 }

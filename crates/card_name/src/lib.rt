@@ -1,7 +1,7 @@
-// The names of the card's numbers (docs/CARD.md), printed. `.ci/rehearsal` holds them to the list of the crate `error`.
+// The names of the card's numbers (docs/CARD.md), printed. `.ci/card` holds them to the list of the crate `error`.
 
-// Numbers 1 to 14: a packet that came in.
-fn print_packet_name(number: u8) {
+// The name of a number.
+pub fn print_name(number: u8) {
     match number {
         1 => text::print(b"TRUNCATED_IP_HEADER"),
         2 => text::print(b"UNSUPPORTED_IP_VERSION"),
@@ -17,13 +17,6 @@ fn print_packet_name(number: u8) {
         12 => text::print(b"INVALID_UDP_CHECKSUM"),
         13 => text::print(b"TRUNCATED_MEASUREMENT_HEADER"),
         14 => text::print(b"MEASUREMENT_MAGIC_MISMATCH"),
-        _ => text::print(b"UNKNOWN"),
-    }
-}
-
-// Numbers 15 to 24: a buffer, a plan and the run sheet.
-fn print_run_name(number: u8) {
-    match number {
         15 => text::print(b"OUTPUT_TOO_SHORT"),
         16 => text::print(b"TARGET_RATE_IS_ZERO"),
         17 => text::print(b"TARGET_RATE_EXCEEDS_RESOLUTION"),
@@ -34,13 +27,6 @@ fn print_run_name(number: u8) {
         22 => text::print(b"OBSERVER_FULL"),
         23 => text::print(b"SEQUENCE_WAS_NOT_SENT"),
         24 => text::print(b"TIMESTAMP_REVERSED"),
-        _ => text::print(b"UNKNOWN"),
-    }
-}
-
-// Numbers 25 to 37: messages and the reflector.
-fn print_message_name(number: u8) {
-    match number {
         25 => text::print(b"TRUNCATED_ELEMENT"),
         26 => text::print(b"INVALID_PEER_ADDRESS_LENGTH"),
         27 => text::print(b"UNSUPPORTED_FIXED_LENGTH_ELEMENT"),
@@ -56,15 +42,4 @@ fn print_message_name(number: u8) {
         37 => text::print(b"UNSUPPORTED_MESSAGE_TYPE"),
         _ => text::print(b"UNKNOWN"),
     }
-}
-
-// The name of a number.
-pub fn print_name(number: u8) {
-    if number <= 14 {
-        return print_packet_name(number);
-    }
-    if number <= 24 {
-        return print_run_name(number);
-    }
-    print_message_name(number)
 }

@@ -44,6 +44,17 @@ abbrev pub TimeDecides : Type 0
 TimeDecides = (plan : TrafficPlan) (next k : ℕ) → FirstAt plan next k → next + k < top → top < timeAt plan k
     → judgePlan plan next ≡ record { outcome = refused 20; next = next + k + 1 }
 
+-- "Order: 16, 17, 18, then ..": the rate decides before the count, and both before any packet; each leaves the next
+-- sequence.
+pub record BeforePackets (plan : TrafficPlan) (next : ℕ) : Type 0 where
+  pub no-rate : plan .«target_rate_pps» ≡ 0 → judgePlan plan next ≡ record { outcome = refused 16; next = next }
+  pub too-fast : 1000000000 < plan .«target_rate_pps» → judgePlan plan next ≡ record { outcome = refused 17; next = next }
+  pub too-many : 0 < plan .«target_rate_pps» → plan .«target_rate_pps» ≤ 1000000000 → 2048 < plan .«packet_count»
+      → judgePlan plan next ≡ record { outcome = refused 18; next = next }
+
+abbrev pub RateThenCount : Type 0
+RateThenCount = (plan : TrafficPlan) (next : ℕ) → BeforePackets plan next
+
 -- A plan is refused by 16 to 20, and by no other number.
 abbrev pub PlanNumbers : Type 0
 PlanNumbers = (plan : TrafficPlan) (next n : ℕ) → judgePlan plan next .outcome ≡ refused n → (16 ≤ n) × (n ≤ 20)

@@ -3,7 +3,7 @@
 ghost use mathlib.Core.Path.{_≡_};
 ghost use Prim.Native.Nat.{_<_};
 ghost use Rattle.plan.specs.Plan.{intervalOf, intervalMeans, judgePackets, judgePlan};
-ghost use Rattle.plan.specs.Claims.{AcceptedIfAcceptable, AcceptableIfAccepted, SequenceDecides, TimeDecides, PlanNumbers, PacketsOrdered, Intervals, Examples};
+ghost use Rattle.plan.specs.Claims.{AcceptedIfAcceptable, AcceptableIfAccepted, SequenceDecides, TimeDecides, RateThenCount, PlanNumbers, PacketsOrdered, Intervals, Examples};
 ghost use Rattle.plan.specs.Judge.{InTime, Timed, Judges};
 
 // The most packets that a plan may ask for.
@@ -112,9 +112,10 @@ pub fn accepted_exactly_if_acceptable()
     ensures { λ _. ⌜ AcceptedIfAcceptable × AcceptableIfAccepted × PacketsOrdered ⌝ }
 {}
 
-// Carries that the lowest packet that fails decides, by its sequence before its time, and that no other number refuses a plan.
+// Carries that the rate decides before the count, and the count before the packets; that of these the lowest that fails
+// decides, by its sequence before its time; and that no other number refuses a plan.
 pub fn lowest_failing_packet_decides()
-    ensures { λ _. ⌜ SequenceDecides × TimeDecides × PlanNumbers ⌝ }
+    ensures { λ _. ⌜ RateThenCount × SequenceDecides × TimeDecides × PlanNumbers ⌝ }
 {}
 
 // Carries the worked examples of intervals and plans.

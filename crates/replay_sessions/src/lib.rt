@@ -204,12 +204,20 @@ fn same_destination(destination: LentSocketAddr, due: &[u8]) -> bool {
         )
 }
 
+// The reason of what is done; the other reason is 0.
+fn same_reason(handled: TestkitHandled, due: u8) -> bool {
+    if handled.action == testkit_reflector::ACTION_SEND {
+        return handled.send_reason == due && handled.noop_reason == 0;
+    }
+    handled.noop_reason == due && handled.send_reason == 0
+}
+
 // Action, reason, bytes in the output, destination, and the type, TEID and sequence of the message to send.
 fn same_action(handled: TestkitHandled, due: &[u8]) -> bool {
     let destination = handled.destination;
     let message = handled.message;
     handled.action == replay_data::byte(due, 0)
-        && handled.reason == replay_data::byte(due, 1)
+        && same_reason(handled, replay_data::byte(due, 1))
         && handled.bytes == replay_data::word(due, 2) as usize
         && same_destination(destination, replay_data::rest(due, 4))
         && same_message(message, replay_data::rest(due, 23))

@@ -1,5 +1,5 @@
--- The Rust's values as the port has them ("What must change shape", document 01): flows and T-PDUs; `Vec`s in a lent buffer;
--- the report.
+-- The Rust's values as the port has them ("What must change shape", document 01): flows and T-PDUs; `Vec`s in a lent
+-- buffer; the report.
 use Prim.Native.Nat.{ℕ}
 use mathlib.Core.List.{List, [], _∷_, _++_, map}
 use lib.ListN.{length, drop}
@@ -54,7 +54,8 @@ vecs (p ∷ packets) = p .tpdu ++ vecs packets
 abbrev pub headersOf : List GeneratedPacket → List MeasurementHeader
 headersOf packets = map (λ p. record { sequence = p .sequence; «send_timestamp_ns» = p .«send_timestamp_ns» }) packets
 
--- Likewise of the Rust's packets: end to end at the front of the lent buffer. The engine's next sequence is the Rust's, after an error too.
+-- Likewise of the Rust's packets: end to end at the front of the lent buffer. The engine's next sequence is the Rust's,
+-- after an error too.
 abbrev pub packetsInBuffer : Result (List GeneratedPacket) → ℕ → List ℕ → Generating
 packetsInBuffer (Ok packets) next buffer = record { outcome = gives (length (vecs packets)); next = next; buffer = vecs packets ++ drop (length (vecs packets)) buffer }
 packetsInBuffer (Err error) next buffer = record { outcome = refused (errorNumber error); next = next; buffer = buffer }

@@ -1,6 +1,6 @@
--- Demand 2: "where no refusal marked added is due, the results equal the Rust's". For each ported function of the Rust, by
--- its name: its result, with errors as numbers, equals document 01's definition, the one that the contract of the call
--- names. Our numbers are compared as Compared.antt tells them. proofs/ proves each claim.
+-- Demand 2: "where no refusal marked added is due, the results equal the Rust's". For each ported function of the Rust,
+-- by its name: its result, with errors as numbers, equals document 01's definition, the one that the contract of the
+-- call names. Our numbers are compared as Compared.antt tells them. proofs/ proves each claim.
 use Prim.Native.Nat.{ℕ, _%_, _≤_}
 use mathlib.Core.Path.{_≡_}
 use mathlib.Core.List.{List, [], _∷_, flatten, map}
@@ -150,8 +150,8 @@ Generate = (flow : InnerIpFlow) (plan : TrafficPlan) (next : ℕ) → InRange fl
     (packetsInBuffer (rust .result) (rust .«next_sequence») buffer ≡ toldGenerating (generateOf flow plan next buffer))
     × (outcomeBy headersOf (rust .result) ≡ told (judgePlan plan next .outcome))
 
--- `Same` relates the Rust's maps and the sheet; a fresh sheet of any columns is the Rust's new observer, and each call on
--- related ones has the same answer and leaves related ones.
+-- `Same` relates the Rust's maps and the sheet; a fresh sheet of any columns is the Rust's new observer, and each call
+-- on related ones has the same answer and leaves related ones.
 abbrev pub New : Type 0
 New = (qs ts ls ms : List ℕ) → Same traffic.new (observerOf qs ts ls ms fresh)
 
@@ -200,7 +200,8 @@ abbrev pub NoneAddedIn : Observer → List Call → Type 0
 NoneAddedIn o [] = Unit {0}
 NoneAddedIn o (call ∷ calls) = NoneAdded (answerTo o call) × NoneAddedIn (afterCall o call) calls
 
--- Every answer of a run, each report on the way among them, is the Rust's, and the observers that are left hold the same.
+-- Every answer of a run, each report on the way among them, is the Rust's, and the observers that are left hold the
+-- same.
 abbrev pub SameRun : Observer → List Call → Type 0
 SameRun o calls =
     (rustAnswersTo traffic.new calls ≡ map told (answersTo o calls)) × Same (rustAfter traffic.new calls) (after o calls)
@@ -210,8 +211,8 @@ abbrev pub Runs : Type 0
 Runs = (qs ts ls ms : List ℕ) (calls : List Call) → AllTyped calls → NoneAddedIn (observerOf qs ts ls ms fresh) calls
     → SameRun (observerOf qs ts ls ms fresh) calls
 
--- "runs up to 2,048 sequences": with columns of 2,048 entries, all that is asked is that the Rust's map of what was sent
--- ends with no more.
+-- "runs up to 2,048 sequences": with columns of 2,048 entries, all that is asked is that the Rust's map of what was
+-- sent ends with no more.
 abbrev pub RunsUpTo2048 : Type 0
 RunsUpTo2048 = (qs ts ls ms : List ℕ) → 2048 ≤ length qs → 2048 ≤ length ts → 2048 ≤ length ls → 2048 ≤ length ms
     → (calls : List Call) → AllTyped calls → length (rustAfter traffic.new calls .sent) ≤ 2048

@@ -1,5 +1,5 @@
--- Which T-PDUs are compared with the Rust, and as which number each of ours is compared. A change that makes the readers
--- differ is stated here and nowhere else.
+-- Which T-PDUs are compared with the Rust, and as which number each of ours is compared. A change that makes the
+-- readers differ is stated here and nowhere else.
 use Prim.Native.Nat.{ℕ, _≤_}
 use mathlib.Core.Path.{_≡_}
 use mathlib.Core.List.{List}
@@ -19,8 +19,8 @@ Compared tpdu = Bytes tpdu
 abbrev pub ComparedReturn : ℕ → List ℕ → Type 0
 ComparedReturn messageType payload = messageType ≡ gtpuMsgGpdu → Compared payload
 
--- A T-PDU at the reflector: only an echo reads it. A route sends it on as it came, and the stand-in for the codec carries
--- "a payload of at most 65,535 bytes".
+-- A T-PDU at the reflector: only an echo reads it. A route sends it on as it came, and the stand-in for the codec
+-- carries "a payload of at most 65,535 bytes".
 abbrev pub ComparedGpdu : ReflectorPolicy → List ℕ → Type 0
 ComparedGpdu policy tpdu = (policy ≡ Echo → Compared tpdu) × (policy ≡ Route → length tpdu ≤ 65535)
 

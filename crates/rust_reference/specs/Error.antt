@@ -1,5 +1,5 @@
--- The Rust's error.rs, lines 8 to 60, as far as the ported functions answer by it, and its `Result`. A text is a constructor, with hyphens
--- for its spaces.
+-- The Rust's error.rs, lines 8 to 60, as far as the ported functions answer by it, and its `Result`. A text is a
+-- constructor, with hyphens for its spaces.
 use Prim.Native.Nat.{ℕ}
 use mathlib.Core.Bool.{Bool, true, false}
 

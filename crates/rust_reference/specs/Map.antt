@@ -1,4 +1,5 @@
--- `Option`, and `BTreeMap<u64, u64>` and `BTreeSet<u64>` as far as the Rust uses them: a map is its entries in the order of their keys.
+-- `Option`, and `BTreeMap<u64, u64>` and `BTreeSet<u64>` as far as the Rust uses them: a map is its entries in the
+-- order of their keys.
 use Prim.Native.Nat.{ℕ}
 use mathlib.Core.List.{List, [], _∷_, map}
 use mathlib.Core.Bool.{Bool, true, false, _||_}

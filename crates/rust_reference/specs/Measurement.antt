@@ -1,5 +1,5 @@
--- The Rust's measurement.rs: `build_measurement_tpdu` (lines 153 to 163), `decode_measurement_tpdu` (166 to 175), `echo_tpdu` (178 to 182) and
--- what they call. Lengths are `usize` there, and no `checked_add` of them fails.
+-- The Rust's measurement.rs: `build_measurement_tpdu` (lines 153 to 163), `decode_measurement_tpdu` (166 to 175),
+-- `echo_tpdu` (178 to 182) and what they call. Lengths are `usize` there, and no `checked_add` of them fails.
 use Prim.Native.Nat.{ℕ, zero, suc, _+_, _-_, _*_, _/_, _%_}
 use mathlib.Core.List.{List, [], _∷_, _++_}
 use mathlib.Core.Bool.{true, false, not, _||_, _&&_}
@@ -40,7 +40,8 @@ abbrev pub reversed : InnerIpFlow → InnerIpFlow
 reversed (Ipv4 src dst src-port dst-port) = Ipv4 dst src dst-port src-port
 reversed (Ipv6 src dst src-port dst-port) = Ipv6 dst src dst-port src-port
 
--- lines 104 to 109, `MeasurementHeader`: the port's struct has the same two fields. Lines 114 to 120: the array of zeros, written in three places.
+-- lines 104 to 109, `MeasurementHeader`: the port's struct has the same two fields. Lines 114 to 120: the array of
+-- zeros, written in three places.
 unfoldable pub encode : MeasurementHeader → List ℕ
 encode header =
     let out : List ℕ = replicate «MEASUREMENT_HEADER_LEN» 0 in

@@ -5,7 +5,8 @@ use Rattle.error.specs.Outcome.{Outcome, refused, gives}
 use Rattle.rust_reference.specs.Error as rust
 use Rattle.rust_reference.specs.Error.{Context, Reason, Field, DataplaneTestkitError, Result, Truncated, UnsupportedIpVersion, InvalidPacket, Overflow, TimestampReversed, GtpuEncode, InvalidReflectorCapacity, InvalidReflectorSession, ReflectorSessionConflict, ReflectorSessionCapacityExceeded, Ok, Err}
 
--- An error that the Rust can write down and never answers by. The card has no such number, so each claim also says that it does not occur.
+-- An error that the Rust can write down and never answers by. The card has no such number, so each claim also says that
+-- it does not occur.
 abbrev pub notOnTheCard : ℕ
 notOnTheCard = 0
 

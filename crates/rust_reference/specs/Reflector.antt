@@ -1,5 +1,6 @@
--- The Rust's reflector.rs: `GtpuReflector` with `ReflectorSessions::Multiple`, made by `new_multi`. (`new` and `Single`, a reflector of one
--- session, are not ported.) What `decode_gtpu` refuses is not here: a datagram is the message in it.
+-- The Rust's reflector.rs: `GtpuReflector` with `ReflectorSessions::Multiple`, made by `new_multi`. (`new` and
+-- `Single`, a reflector of one session, are not ported.) What `decode_gtpu` refuses is not here: a datagram is the
+-- message in it.
 use Prim.Native.Nat.{ℕ, suc, _+_, _-_, _%_, max}
 use mathlib.Core.List.{List, [], _∷_, _++_}
 use mathlib.Core.Bool.{Bool, true, false, not, _||_, _&&_}
@@ -22,7 +23,8 @@ use Rattle.rust_reference.specs.Values.{same, «saturating_add»}
 abbrev pub «MAX_REFLECTOR_SESSIONS» : ℕ
 «MAX_REFLECTOR_SESSIONS» = 4096
 
--- `std::net`: an address is its octets. Flow info and scope, which a `SocketAddrV6` has beside these, are 0 in the compared domain.
+-- `std::net`: an address is its octets. Flow info and scope, which a `SocketAddrV6` has beside these, are 0 in the
+-- compared domain.
 pub data IpAddr : Type 0 where
   V4 V6 : List ℕ → IpAddr
 
@@ -52,8 +54,8 @@ pub record MultiSessionReflectorConfig : Type 0 where
   pub «recovery_counter» : ℕ
   pub policy : ReflectorPolicy
 
--- Lines 85 to 98, `ReflectorStats`, and lines 102 to 111, `ReflectorSendReason`: the port's have the same fields and cases.
--- Lines 115 to 130; a text is a constructor, with hyphens for its spaces.
+-- Lines 85 to 98, `ReflectorStats`, and lines 102 to 111, `ReflectorSendReason`: the port's have the same fields and
+-- cases. Lines 115 to 130; a text is a constructor, with hyphens for its spaces.
 pub data NoopReason : Type 0 where
   echo-response-observed error-indication-observed end-marker-ignored supported-extension-headers-notification-ignored G-PDU-sunk : NoopReason
 
@@ -110,7 +112,8 @@ position local-teid (session ∷ sessions) =
       | false ↦ elim (position local-teid sessions) [ None ↦ None | Some index ↦ Some (suc index) ]
     ]
 
--- What a `Vec` has at an index. The Rust panics past the end; here each index is that of a `position`, or of the last element.
+-- What a `Vec` has at an index. The Rust panics past the end; here each index is that of a `position`, or of the last
+-- element.
 abbrev pub at : List ReflectorSession → ℕ → ReflectorSession
 at sessions index = getD sessions index (record { «local_teid» = 0; «peer_teid» = 0; «peer_addr» = record { ip = V4 []; port = 0 } })
 

@@ -1,4 +1,5 @@
--- Whole runs: lists of the observer's calls, each on what the last one left, by document 01's definitions and by the Rust's.
+-- Whole runs: lists of the observer's calls, each on what the last one left, by document 01's definitions and by the
+-- Rust's.
 use Prim.Native.Nat.{ℕ, _≤_}
 use mathlib.Core.List.{List, [], _∷_}
 use Rattle.error.specs.Outcome.{Outcome, refused, gives}
@@ -15,7 +16,8 @@ use Rattle.rust_reference.specs.Values.{«u64_max»}
 use Rattle.rust_reference.specs.Answers.{reportOf}
 use Rattle.rust_reference.specs.Traffic as traffic
 
--- A call, with what it is handed: a sequence and its time; a time and a T-PDU; a time, a message type and a payload; a window and a budget.
+-- A call, with what it is handed: a sequence and its time; a time and a T-PDU; a time, a message type and a payload; a
+-- window and a budget.
 pub data Call : Type 0 where
   sending : ℕ → ℕ → Call
   receiving : ℕ → List ℕ → Call

@@ -31,7 +31,8 @@ use Rattle.rust_reference.specs.Gtpu as gtpu
 use Rattle.rust_reference.specs.Map as map
 use Rattle.rust_reference.specs.Reflector as rust
 
--- What the caller holds between calls: the lent slice with its used count, the configuration, which has the maximum, and the state.
+-- What the caller holds between calls: the lent slice with its used count, the configuration, which has the maximum,
+-- and the state.
 pub record Reflector : Type 0 where
   pub sessions : List ReflectorSession
   pub used : ℕ
@@ -134,7 +135,8 @@ abbrev pub outcomeTo : {A B : Type 0} → (A → B) → Outcome A → Outcome B
 outcomeTo value (refused n) = refused n
 outcomeTo value (gives x) = gives (value x)
 
--- The output beside the Rust's action: a packet's payload at the front, what lies past it kept. "Route hands on the payload uncopied."
+-- The output beside the Rust's action: a packet's payload at the front, what lies past it kept. "Route hands on the
+-- payload uncopied."
 abbrev pub inOutput : Result rust.ReflectorAction → List ℕ → List ℕ
 inOutput (Err error) buffer = buffer
 inOutput (Ok (rust.Noop reason)) buffer = buffer

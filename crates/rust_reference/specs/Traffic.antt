@@ -1,4 +1,5 @@
--- The Rust's traffic.rs: plans and the generator, lines 18 to 115; the observer, lines 141 to 232; its report, lines 235 to 332.
+-- The Rust's traffic.rs: plans and the generator, lines 18 to 115; the observer, lines 141 to 232; its report, lines
+-- 235 to 332.
 use Prim.Native.Nat.{ℕ, zero, suc, _+_, _-_, _*_, _/_, _%_, min, max}
 use mathlib.Core.List.{List, [], _∷_, _++_}
 use mathlib.Core.Bool.{true, false, _||_, _&&_}
@@ -57,8 +58,8 @@ attempted (Err e) next-sequence rest = record { result = Err e; «next_sequence�
 unfoldable pub checked : ℕ → DataplaneTestkitError → Result ℕ
 checked number e = elim (leb number «u64_max») [ true ↦ Ok number | false ↦ Err e ]
 
--- lines 89 to 112: `for offset in 0..plan.packet_count`, the turns that are left from this offset on, with the engine's next sequence and the packets
--- that were pushed
+-- lines 89 to 112: `for offset in 0..plan.packet_count`, the turns that are left from this offset on, with the engine's
+-- next sequence and the packets that were pushed
 unfoldable pub «for_offset» : ℕ → ℕ → InnerIpFlow → TrafficPlan → ℕ → ℕ → List GeneratedPacket → Generated
 «for_offset» zero offset flow plan interval-ns next-sequence packets = record { result = Ok packets; «next_sequence» = next-sequence }
 «for_offset» (suc turns) offset flow plan interval-ns next-sequence packets =
@@ -70,7 +71,8 @@ unfoldable pub «for_offset» : ℕ → ℕ → InnerIpFlow → TrafficPlan → 
     «for_offset» turns (suc offset) flow plan interval-ns next-sequence
     (packets ++ record { sequence = sequence; «send_timestamp_ns» = send-timestamp-ns; tpdu = tpdu } ∷ [])
 
--- lines 78 to 114. `usize::try_from(plan.packet_count)` does not fail where a `usize` has 64 bits, and only reserves room.
+-- lines 78 to 114. `usize::try_from(plan.packet_count)` does not fail where a `usize` has 64 bits, and only reserves
+-- room.
 unfoldable pub generate : ℕ → InnerIpFlow → TrafficPlan → Generated
 generate next-sequence flow plan =
     attempted («interval_ns» plan) next-sequence λ interval-ns.

@@ -32,7 +32,8 @@ PacketsGenerated = (flow : InnerIpFlow) (plan : TrafficPlan) (next : ℕ) (accep
     → (let size : ℕ = ipHeaderLength (flow .version) + 32 in
     take size (drop (k * size) (generateOf flow plan next (accepted .buffer) .buffer)) ≡ packet flow plan next k)
 
--- A fresh observer takes a plan if and only if it has room, whatever its columns hold; and then its rows are the plan's, in plan order.
+-- A fresh observer takes a plan if and only if it has room, whatever its columns hold; and then its rows are the
+-- plan's, in plan order.
 pub record Room (plan : TrafficPlan) (next : ℕ) (o : Observer) : Type 0 where
   pub takes : plan .«packet_count» ≤ capacity o → Takes plan next o
   pub needs : Takes plan next o → plan .«packet_count» ≤ capacity o
@@ -41,7 +42,8 @@ pub record Room (plan : TrafficPlan) (next : ℕ) (o : Observer) : Type 0 where
 abbrev pub RoomTakes : Type 0
 RoomTakes = (plan : TrafficPlan) (next : ℕ) (o : Observer) → o .counts ≡ fresh → Room plan next o
 
--- Every packet of an accepted plan may come back undamaged after any number of echoes, at any time and by either call: no such echo refuses.
+-- Every packet of an accepted plan may come back undamaged after any number of echoes, at any time and by either call:
+-- no such echo refuses.
 pub record Undamaged (flow : InnerIpFlow) (plan : TrafficPlan) (next k n time : ℕ) (call : Call) : Type 0 where
   pub return : Return flow plan next
   pub packet-is : return .packet-index ≡ k

@@ -1,4 +1,5 @@
--- Document 01's eight proved cases, as one table: what the definitions compute, and what the paper says. proofs/Cases.antt proves every row.
+-- Document 01's eight proved cases, as one table: what the definitions compute, and what the paper says.
+-- proofs/Cases.antt proves every row.
 use Prim.Native.Nat.{ℕ}
 use mathlib.Core.Path.{_≡_}
 use mathlib.Core.List.{List, [], _∷_, _++_}

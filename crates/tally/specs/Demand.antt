@@ -1,5 +1,5 @@
--- Demand 3, whole: one claim about a whole list of returns, over the definitions that the contracts of the public calls name. proofs/Demand.antt
--- proves it.
+-- Demand 3, whole: one claim about a whole list of returns, over the definitions that the contracts of the public calls
+-- name. proofs/Demand.antt proves it.
 use Prim.Native.Nat.{ℕ, _+_, _<_}
 use mathlib.Core.Path.{_≡_}
 use mathlib.Core.List.{List, [], _∷_, map}
@@ -25,7 +25,8 @@ use Rattle.tally.specs.Tally.{Tally, tallyOf, Fed, isRefused, tallyRetur
 
 -- ---- the plan and its packets
 
--- An accepted plan: with some buffer the generator takes it. Flow, next sequence and first time are of the code's types.
+-- An accepted plan: with some buffer the generator takes it. Flow, next sequence and first time are of the code's
+-- types.
 pub record Accepted (flow : InnerIpFlow) (plan : TrafficPlan) (next : ℕ) : Type 0 where
   pub in-range : InRange flow next (plan .«first_send_timestamp_ns»)
   pub buffer : List ℕ
@@ -85,8 +86,9 @@ abbrev pub receiveAll : Observer → List Handed → Observer
 receiveAll o [] = o
 receiveAll o (h ∷ hs) = receiveAll (receive o h .observer) hs
 
--- "A return is a packet of the plan, echoed any number of times or never, and a time; where an echo refuses, none comes." Each of its legs may
--- be damaged (`Travelled`). Packets may be lost, repeated and reordered: any list of returns will do.
+-- "A return is a packet of the plan, echoed any number of times or never, and a time; where an echo refuses, none
+-- comes." Each of its legs may be damaged (`Travelled`). Packets may be lost, repeated and reordered: any list of
+-- returns will do.
 pub record Return (flow : InnerIpFlow) (plan : TrafficPlan) (next : ℕ) : Type 0 where
   pub packet-index : ℕ
   pub planned : packet-index < plan .«packet_count»
@@ -127,8 +129,9 @@ module _ {flow : InnerIpFlow} {plan : TrafficPlan} {next : ℕ} where
   abbrev pub damagedAtTheEnd : Return flow plan next → Bool
   damagedAtTheEnd r = not (sameBytes (r .arrived) (wholeBytes r))
 
-  -- The second list: "the same returns at the same times, each damaged one left out if refused, else made whole". Whether a return is refused
-  -- is what the call answers at that point of the first run, whose observer is carried along.
+  -- The second list: "the same returns at the same times, each damaged one left out if refused, else made whole".
+  -- Whether a return is refused is what the call answers at that point of the first run, whose observer is carried
+  -- along.
   abbrev pub secondList : (Return flow plan next → Bool) → Observer → List (Return flow plan next) → List Handed
   secondList damaged o [] = []
   secondList damaged o (r ∷ rs) =
@@ -145,8 +148,8 @@ module _ {flow : InnerIpFlow} {plan : TrafficPlan} {next : ℕ} where
   abbrev pub firstRun : Observer → List (Return flow plan next) → Observer
   firstRun first returns = receiveAll (sendAll first (packetsOf plan next)) (map handed returns)
 
-  -- "a second fresh sheet with the same plan all entered and then the same returns at the same times, each damaged one left out if refused,
-  -- else made whole"
+  -- "a second fresh sheet with the same plan all entered and then the same returns at the same times, each damaged one
+  -- left out if refused, else made whole"
   abbrev pub secondRun : (Return flow plan next → Bool) → Observer → Observer → List (Return flow plan next) → Observer
   secondRun damaged first second returns =
       receiveAll (sendAll second (packetsOf plan next)) (secondList damaged (sendAll first (packetsOf plan next)) returns)
@@ -157,8 +160,8 @@ module _ {flow : InnerIpFlow} {plan : TrafficPlan} {next : ℕ} where
 
 -- ---- the claim
 
--- "the used rows, the counters and, for every budget and window end, the report are those of document 01's tally"; the report is given, and not
--- refused.
+-- "the used rows, the counters and, for every budget and window end, the report are those of document 01's tally"; the
+-- report is given, and not refused.
 pub record IsTally (o : Observer) (a : Tally) : Type 0 where
   pub used-rows : rows o ≡ a .rows
   pub counters : o .counts ≡ countsOf a
@@ -174,6 +177,7 @@ pub record Run {flow : InnerIpFlow} {plan : TrafficPlan} {next : ℕ} (first sec
 pub record Demand3 : Type 0 where
   -- the first sentence: one leg, of every built or echoed T-PDU
   pub one-leg : DamageFound
-  -- the second and the third: "for every accepted plan, all entered on a fresh sheet, and every list of returns after that"
+  -- the second and the third: "for every accepted plan, all entered on a fresh sheet, and every list of returns after
+  -- that"
   pub all-returns : (flow : InnerIpFlow) (plan : TrafficPlan) (next : ℕ) → Accepted flow plan next → (first second : Observer)
       → Takes plan next first → Takes plan next second → (returns : List (Return flow plan next)) → Run first second returns

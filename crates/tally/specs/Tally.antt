@@ -1,6 +1,6 @@
--- The tally ("tally" is document 01's word): what a run must show, from the plan's packets and the list of returns. Defined from the section
--- "The tally" alone, in its words. It has no search and no call of the observer: the row of a return is the row of its packet, by its place in
--- the plan, and the reader is asked only whether it refuses.
+-- The tally ("tally" is document 01's word): what a run must show, from the plan's packets and the list of returns.
+-- Defined from the section "The tally" alone, in its words. It has no search and no call of the observer: the row of a
+-- return is the row of its packet, by its place in the plan, and the reader is asked only whether it refuses.
 use Prim.Native.Nat.{ℕ, _-_}
 use mathlib.Core.List.{List, [], _∷_, map}
 use mathlib.Core.Bool.{Bool, true, false, _&&_, _||_}
@@ -54,8 +54,8 @@ higherMarked q (r ∷ rows) = (ltb q (r .sequence) && eqb (r .mark) 1) || higher
 abbrev pub marked : ℕ → Row → Row
 marked time r = record { sequence = r .sequence; sent = r .sent; latency = time - r .sent; mark = 1 }
 
--- "If its row is marked, duplicates rise by 1. Else out-of-order returns rise by 1 if a row of higher sequence is marked; then the row gets
--- mark 1 and .. latency .. Counters saturate."
+-- "If its row is marked, duplicates rise by 1. Else out-of-order returns rise by 1 if a row of higher sequence is
+-- marked; then the row gets mark 1 and .. latency .. Counters saturate."
 unfoldable pub counted : Tally → ℕ → ℕ → Row → Tally
 counted a k time r =
     elim (eqb (r .mark) 1) [

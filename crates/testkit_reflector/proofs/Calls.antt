@@ -31,12 +31,12 @@ pub removed-as : (r : RemovedSession) {x : Removal} → r .removal ≡ x
 removed-as r e = ap (λ (x : Removal). removedNumbers (removalMeans x (r .session)) (r .used) (r .session)) (sym e)
 
 pub acted-noop : {n : ℕ} {reason : ReflectorNoopReason} {action : ReflectorAction} → n ≡ noopNumber reason → action ≡ Noop reason
-    → record { number = 0; action = 1; reason = n; bytes = 0 } ≡ actionNumbers action
-acted-noop e told = ap (λ (n : ℕ). record { number = 0; action = 1; reason = n; bytes = 0 }) e ∙ ap actionNumbers (sym told)
+    → record { number = 0; action = 1; «noop_reason» = n; «send_reason» = 0; bytes = 0 } ≡ actionNumbers action
+acted-noop e told = ap (λ (n : ℕ). record { number = 0; action = 1; «noop_reason» = n; «send_reason» = 0; bytes = 0 }) e ∙ ap actionNumbers (sym told)
 
 pub acted-send : {n bytes : ℕ} {reason : ReflectorSendReason} {action : ReflectorAction} → n ≡ sendNumber reason → action ≡ Send reason bytes
-    → record { number = 0; action = 2; reason = n; bytes = bytes } ≡ actionNumbers action
-acted-send {bytes = bytes} e told = ap (λ (n : ℕ). record { number = 0; action = 2; reason = n; bytes = bytes }) e ∙ ap actionNumbers (sym told)
+    → record { number = 0; action = 2; «noop_reason» = 0; «send_reason» = n; bytes = bytes } ≡ actionNumbers action
+acted-send {bytes = bytes} e told = ap (λ (n : ℕ). record { number = 0; action = 2; «noop_reason» = 0; «send_reason» = n; bytes = bytes }) e ∙ ap actionNumbers (sym told)
 
 -- what each call promises, in numbers
 pub registers-numbers : (r : TestkitRegistered) (x : Registered) (rows : List ReflectorSession) (to : Registering)

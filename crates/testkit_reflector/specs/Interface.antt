@@ -121,12 +121,12 @@ sendNumber send.RoutedGpdu = 2
 sendNumber send.EchoResponse = 3
 sendNumber send.ErrorIndication = 4
 
--- A refusal's number, or 0; what is to be done, 0 refused, 1 nothing to send, 2 a message; its reason, or 0; and the
--- bytes in the output.
+-- A refusal's number, or 0; what is to be done, 0 refused, 1 nothing to send, 2 a message; why nothing is sent, or 0;
+-- why a message is, or 0; and the bytes in the output.
 abbrev pub actionNumbers : ReflectorAction → ActionNumbers
-actionNumbers (action.Refused number) = record { number = number; action = 0; reason = 0; bytes = 0 }
-actionNumbers (action.Noop reason) = record { number = 0; action = 1; reason = noopNumber reason; bytes = 0 }
-actionNumbers (action.Send reason bytes) = record { number = 0; action = 2; reason = sendNumber reason; bytes = bytes }
+actionNumbers (action.Refused number) = record { number = number; action = 0; «noop_reason» = 0; «send_reason» = 0; bytes = 0 }
+actionNumbers (action.Noop reason) = record { number = 0; action = 1; «noop_reason» = noopNumber reason; «send_reason» = 0; bytes = 0 }
+actionNumbers (action.Send reason bytes) = record { number = 0; action = 2; «noop_reason» = 0; «send_reason» = sendNumber reason; bytes = bytes }
 
 abbrev pub sequenceNumbers : SequenceNumber → SequenceNumbers
 sequenceNumbers Absent = record { present = 0; value = 0 }
@@ -159,7 +159,8 @@ abbrev pub handledNumbers : Handled → TestkitHandled
 handledNumbers h = record {
   number = actionNumbers (h .action) .number;
   action = actionNumbers (h .action) .action;
-  reason = actionNumbers (h .action) .reason;
+  «noop_reason» = actionNumbers (h .action) .«noop_reason»;
+  «send_reason» = actionNumbers (h .action) .«send_reason»;
   bytes = actionNumbers (h .action) .bytes;
   destination = addressNumbers (h .message .destination);
   message = messageNumbers (h .message);

@@ -189,14 +189,15 @@ pub const SEND_ECHO_RESPONSE: u8 = 3;
 
 pub const SEND_ERROR_INDICATION: u8 = 4;
 
-// What handling answers: 0 or a refusal's number, what is to be done and why, or 0. `bytes` of the payload to send are
-// in the output; of a routed one none, since it is the received payload. Where nothing is sent the destination is
-// version 4 and zeros, and the message zeros.
+// What handling answers: 0 or a refusal's number; what is to be done; why nothing is sent, or 0; why a message is sent,
+// or 0. `bytes` of the payload to send are in the output; of a routed one none, since it is the received payload. Where
+// nothing is sent the destination is version 4 and zeros, and the message zeros.
 #[repr(C)]
 pub struct TestkitHandled {
     pub number: u8,
     pub action: u8,
-    pub reason: u8,
+    pub noop_reason: u8,
+    pub send_reason: u8,
     pub bytes: usize,
     pub destination: LentSocketAddr,
     pub message: TestkitGtpuMessage,
@@ -215,7 +216,8 @@ struct HandlingArguments {
 struct ActionNumbers {
     number: u8,
     action: u8,
-    reason: u8,
+    noop_reason: u8,
+    send_reason: u8,
     bytes: usize,
 }
 
@@ -346,19 +348,22 @@ fn action_numbers(action: ReflectorAction) -> ActionNumbers
         ReflectorAction::Refused(number) => ActionNumbers {
             number: number,
             action: ACTION_REFUSED,
-            reason: 0,
+            noop_reason: 0,
+            send_reason: 0,
             bytes: 0,
         },
         ReflectorAction::Noop(reason) => ActionNumbers {
             number: 0,
             action: ACTION_NOOP,
-            reason: noop_number(reason),
+            noop_reason: noop_number(reason),
+            send_reason: 0,
             bytes: 0,
         },
         ReflectorAction::Send(reason, bytes) => ActionNumbers {
             number: 0,
             action: ACTION_SEND,
-            reason: send_number(reason),
+            noop_reason: 0,
+            send_reason: send_number(reason),
             bytes: bytes,
         },
     }
@@ -430,7 +435,8 @@ fn handled_numbers(handled: Handled) -> TestkitHandled
     TestkitHandled {
         number: action.number,
         action: action.action,
-        reason: action.reason,
+        noop_reason: action.noop_reason,
+        send_reason: action.send_reason,
         bytes: action.bytes,
         destination: address_numbers(destination),
         message: message_numbers(message),

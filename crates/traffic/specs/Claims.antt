@@ -41,7 +41,8 @@ RoomDecides = (flow : InnerIpFlow) (plan : TrafficPlan) (next : ℕ) (buffer : L
     (length buffer < bytes → generateOf flow plan next buffer .outcome ≡ refused 15)
     × (bytes ≤ length buffer → generateOf flow plan next buffer .outcome ≡ gives bytes))
 
--- "A refusal returns its number and nothing else": no byte of the buffer changes; and the next sequence changes only with 19 and 20.
+-- "A refusal returns its number and nothing else": no byte of the buffer changes; and the next sequence changes only
+-- with 19 and 20.
 abbrev pub RefusalLeaves : Type 0
 RefusalLeaves = (flow : InnerIpFlow) (plan : TrafficPlan) (next : ℕ) (buffer : List ℕ) (n : ℕ) → generateOf flow plan next buffer .outcome ≡ refused n
     → (generateOf flow plan next buffer .buffer ≡ buffer) × ((n ≡ 19) ⊎ (n ≡ 20) ⊎ (generateOf flow plan next buffer .next ≡ next))

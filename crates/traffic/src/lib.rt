@@ -1,5 +1,5 @@
-// The packets that a traffic plan asks for (leaf 5; `TrafficEngine` of the Rust's traffic.rs). How a plan is judged is defined in the crate
-// `plan`, what the generator leaves in specs/Generate.antt.
+// The packets that a traffic plan asks for (leaf 5; `TrafficEngine` of the Rust's traffic.rs). How a plan is judged is
+// defined in the crate `plan`, what the generator leaves in specs/Generate.antt.
 use measurement::InnerIpFlow;
 use measurement::IpVersion;
 use measurement::Written;
@@ -89,7 +89,8 @@ fn generate_packets(
     }
 }
 
-// The packets of a plan, from the next sequence in the caller's own record, which is changed there, also by 19 and 20 (leaf 5).
+// The packets of a plan, from the next sequence in the caller's own record, which is changed there, also by 19 and 20
+// (leaf 5).
 pub fn generate_from(
     next_sequence: &mut u64,
     flow: InnerIpFlow,
@@ -133,7 +134,8 @@ impl TrafficEngine {
     }
 }
 
-// Carries that a generated packet reads back at its place in the buffer, and that a success has every packet of the plan.
+// Carries that a generated packet reads back at its place in the buffer, and that a success has every packet of the
+// plan.
 pub fn every_packet_reads_back()
     ensures { λ _. ⌜ PacketsReadBack × SuccessIsComplete ⌝ }
 {}
