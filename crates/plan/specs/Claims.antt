@@ -48,7 +48,8 @@ TimeDecides = (plan : TrafficPlan) (next k : ℕ) → FirstAt plan next k → ne
 -- sequence.
 pub record BeforePackets (plan : TrafficPlan) (next : ℕ) : Type 0 where
   pub no-rate : plan .«target_rate_pps» ≡ 0 → judgePlan plan next ≡ record { outcome = refused 16; next = next }
-  pub too-fast : 1000000000 < plan .«target_rate_pps» → judgePlan plan next ≡ record { outcome = refused 17; next = next }
+  pub too-fast : 1000000000 < plan .«target_rate_pps»
+      → judgePlan plan next ≡ record { outcome = refused 17; next = next }
   pub too-many : 0 < plan .«target_rate_pps» → plan .«target_rate_pps» ≤ 1000000000 → 2048 < plan .«packet_count»
       → judgePlan plan next ≡ record { outcome = refused 18; next = next }
 

@@ -1,5 +1,5 @@
--- Document 01's tally, demand 3 over it, what its hypotheses are met by, the eight cases, and runs made with batch
--- calls.
+-- Document 01's tally, demand 3 over it, what meets its hypotheses, the eight cases, runs made with batch calls, and
+-- malformed sheets.
 pub mod Tally
 pub mod Demand
 pub mod Cases

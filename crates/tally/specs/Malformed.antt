@@ -18,7 +18,8 @@ use Rattle.report.specs.Report.{reporting}
 
 -- Each call refuses by 21, whatever else it is handed, and leaves the sheet and its own columns as they were.
 pub record Refuses21 (o : Observer) : Type 0 where
-  pub sending : (sequence time : ℕ) → recordSent o sequence time ≡ record { outcome = refused malformedObserver; observer = o }
+  pub sending : (sequence time : ℕ)
+      → recordSent o sequence time ≡ record { outcome = refused malformedObserver; observer = o }
   pub sending-a-plan : (plan : TrafficPlan) (next : ℕ)
       → recordSentPlan o plan next ≡ record { outcome = refused malformedObserver; observer = o }
   pub receiving : (time : ℕ) (tpdu : List ℕ)

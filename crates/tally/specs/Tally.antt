@@ -59,11 +59,19 @@ marked time r = record { sequence = r .sequence; sent = r .sent; latency = time 
 unfoldable pub counted : Tally → ℕ → ℕ → Row → Tally
 counted a k time r =
     elim (eqb (r .mark) 1) [
-      | true ↦ record { rows = a .rows; duplicates = oneMore (a .duplicates); outOfOrder = a .outOfOrder; errorIndications = a .errorIndications }
+      | true ↦ record {
+        rows = a .rows;
+        duplicates = oneMore (a .duplicates);
+        outOfOrder = a .outOfOrder;
+        errorIndications = a .errorIndications;
+      }
       | false ↦ record {
         rows = set (a .rows) k (marked time r);
         duplicates = a .duplicates;
-        outOfOrder = elim (higherMarked (r .sequence) (a .rows)) [ true ↦ oneMore (a .outOfOrder) | false ↦ a .outOfOrder ];
+        outOfOrder = elim (higherMarked (r .sequence) (a .rows)) [
+          | true ↦ oneMore (a .outOfOrder)
+          | false ↦ a .outOfOrder
+        ];
         errorIndications = a .errorIndications;
       }
     ]
@@ -72,7 +80,10 @@ counted a k time r =
 unfoldable pub tallyReturn : Tally → Fed → Tally
 tallyReturn a r =
     let row : Row = rowOfPacket (r .packet) (a .rows) in
-    elim (isRefused (readOf (r .arrived)) || ltb (r .time) (row .sent)) [ true ↦ a | false ↦ counted a (r .packet) (r .time) row ]
+    elim (isRefused (readOf (r .arrived)) || ltb (r .time) (row .sent)) [
+      | true ↦ a
+      | false ↦ counted a (r .packet) (r .time) row
+    ]
 
 abbrev pub tallyReturns : Tally → List Fed → Tally
 tallyReturns a [] = a
