@@ -132,11 +132,9 @@ fn travel(
     )
 }
 
-// The plan's packets, the first with sequence 1, and their length.
+// The plan's packets, and their length.
 fn generate(s: &Scenario, out: &mut [u8]) -> Written {
-    let mut next_sequence = 1;
-    traffic::generate_from(
-        &mut next_sequence,
+    rehearsal_packets::generate(
         rehearsal_reflector::flow(probe_delivery::ip(s)),
         plan_of(s),
         out,
