@@ -81,6 +81,10 @@ Made 𝓤 H A at-mem run = tripleOf 𝓤 H A made.signature (made.spec 𝓤 H A 
 abbrev Core : {M : Type 1} (𝓤 : URA M) (H : Heap 𝓤) (A : Atoms 𝓤) (at-mem : Memory → SProp 𝓤) (run : Routine → Fun 𝓤) → Contract 𝓤
 Core 𝓤 H A at-mem run = tripleOf 𝓤 H A core.signature (core.spec 𝓤 H A at-mem run)
 
+-- the sequence that the engine is made with
+abbrev start : ℕ
+start = 1
+
 -- machine values
 abbrev flow-val : InnerIpFlow → Val
 flow-val d = only (LL.vals F.the-type F′.the-laws d)
@@ -114,13 +118,13 @@ module _ {M : Type 1} (𝓤 : URA M) (H : Heap 𝓤) (A : Atoms 𝓤) (W : Given
 
   -- the engine is made
   abbrev to-made : Made 𝓤 H A at-mem run .Ghost
-  to-made = ((tt, tt, tt, (1, tt), (vint w64 1 ∷ [], tt)), tt)
+  to-made = ((tt, tt, tt, (start, tt), (vint w64 start ∷ [], tt)), tt)
 
   goes-made : ent 𝓤 (sem 𝓤 H A ftrue) (Made 𝓤 H A at-mem run .pre to-made)
-  goes-made = qed W (‵ ftrue ∷ []) ∵ owned ! u64 (Is u64) (uint-makes 𝓤 H A W w64) 1 _ (refl, lit< tt) $ fjoin ! $ nothing ! $ join ! $ frame ! $ done !
+  goes-made = qed W (‵ ftrue ∷ []) ∵ owned ! u64 (Is u64) (uint-makes 𝓤 H A W w64) start _ (refl, lit< tt) $ fjoin ! $ nothing ! $ join ! $ frame ! $ done !
 
-  made-of : (h : TrafficEngine) → ent 𝓤 (ensured 𝓤 H A made.ended (made.clauses 𝓤 H A at-mem run) tt (1, tt) tt h) (fact 𝓤 (h .«next_sequence» ≡ 1))
-  made-of h = exE 𝓤 _ (λ ws. snd∗ 𝓤 (sem 𝓤 H A (lasts made.ended tt (1, tt) ws)) (fact 𝓤 (h .«next_sequence» ≡ 1)))
+  made-of : (h : TrafficEngine) → ent 𝓤 (ensured 𝓤 H A made.ended (made.clauses 𝓤 H A at-mem run) tt (start, tt) tt h) (fact 𝓤 (h .«next_sequence» ≡ start))
+  made-of h = exE 𝓤 _ (λ ws. snd∗ 𝓤 (sem 𝓤 H A (lasts made.ended tt (start, tt) ws)) (fact 𝓤 (h .«next_sequence» ≡ start)))
 
   -- its record in a local, as what a reference to it borrows, and back
   lies-in : (h : TrafficEngine) (v : Val) (l : ℕ) → Is T.the-row h (v ∷ []) → ent 𝓤 (sem 𝓤 H A (fat fullShare T′.mir l 0 v)) (sem 𝓤 H A (mem T.the-row .lies h l 0))
@@ -160,7 +164,7 @@ module _ {M : Type 1} (𝓤 : URA M) (H : Heap 𝓤) (A : Atoms 𝓤) (W : Given
   abbrev Due : Written → List ℕ → Type 0
   Due r zs = (writtenMeans r ≡ generateOf flow plan 1 ys .outcome) × (zs ≡ generateOf flow plan 1 ys .buffer)
 
-  due : (h : TrafficEngine) (r : Written) (k : TrafficEngine) (zs : List ℕ) → h .«next_sequence» ≡ 1 → Says h r k zs → Due r zs
+  due : (h : TrafficEngine) (r : Written) (k : TrafficEngine) (zs : List ℕ) → h .«next_sequence» ≡ start → Says h r k zs → Due r zs
   due h r k zs first e =
       let e₁ = e ∙ ap (λ (n : ℕ). generateOf flow plan n ys) first in
       (ap (λ (g : Generating). g .outcome) e₁, ap (λ (g : Generating). g .buffer) e₁)
@@ -184,8 +188,8 @@ module _ {M : Type 1} (𝓤 : URA M) (H : Heap 𝓤) (A : Atoms 𝓤) (W : Given
         -- [_8; …; _7; …; _6; …; _5; …; _4; …; _3; …; _2; …; _1; …; room for _0; …; the token; what the parameters own]: the engine is made
         nothing ! $ use1 W (raw (Made 𝓤 H A at-mem run .pre to-made)) goes-made $
         calls-at ! fm (Made 𝓤 H A at-mem run) known-made to-made (and-then ! (lit ! tt) (no-more !)) (λ v.
-        use1 W (later (some (λ (h : TrafficEngine). (‵ ftrue ⊛ ‵ (T.the-row .own h (v ∷ []))) ⊛ raw (ensured 𝓤 H A made.ended (made.clauses 𝓤 H A at-mem run) tt (1, tt) tt h)))) (id⊢ 𝓤 _) $ await ! tt $ pick ! (λ h.
-        split ! $ move ! (1 ∷ []) $ use1 W (raw (fact 𝓤 (h .«next_sequence» ≡ 1))) (made-of h) $ heard ! (h .«next_sequence» ≡ 1) (λ first. split ! $ drop ! $
+        use1 W (later (some (λ (h : TrafficEngine). (‵ ftrue ⊛ ‵ (T.the-row .own h (v ∷ []))) ⊛ raw (ensured 𝓤 H A made.ended (made.clauses 𝓤 H A at-mem run) tt (start, tt) tt h)))) (id⊢ 𝓤 _) $ await ! tt $ pick ! (λ h.
+        split ! $ move ! (1 ∷ []) $ use1 W (raw (fact 𝓤 (h .«next_sequence» ≡ start))) (made-of h) $ heard ! (h .«next_sequence» ≡ start) (λ first. split ! $ drop ! $
         facts ! T.the-row (Is T.the-row) (shows 𝓤 H A T.the-row) h (v ∷ []) (λ h-is.
         land ! (from ! (stop !)) (init ! 6 refl (LL.lawful T.the-type T′.the-laws 𝓤 H A W .typed h _ h-is .0)) $
         assigns ! (of-opd ! (load ! (from ! (stop !)) (look ! 6 refl))) (from ! (stop !)) (init ! 8 refl (LL.lawful T.the-type T′.the-laws 𝓤 H A W .typed h _ h-is .0)) $
