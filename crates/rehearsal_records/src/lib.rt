@@ -33,10 +33,18 @@ fn print_window(s: &Scenario, word: usize) {
     text::print(b"]");
 }
 
+// The latency after the loss: null, where nothing is lost.
+fn print_latency_after(s: &Scenario) {
+    if scenario::last(s, scenario::LOSE) == 0 {
+        return text::print(b", \"latency-after-us\": null");
+    }
+    print_word_number(b", \"latency-after-us\": ", s, scenario::LATENCY_AFTER_US)
+}
+
 // What the path does, by the words.
 fn print_path(s: &Scenario) {
     print_word_number(b"\"path\": {\n  \"latency-us\": ", s, scenario::LATENCY_US);
-    print_word_number(b", \"latency-after-us\": ", s, scenario::LATENCY_AFTER_US);
+    print_latency_after(s);
     let mut word = scenario::LOSE;
     while word < scenario::WORDS {
         print_window(s, word);

@@ -80,7 +80,7 @@ fn print_reason(verdict: Verdict) {
         Verdict::NothingReturned => text::print(b"\"nothing came back\""),
         Verdict::TooManyLost(_, _) => text::print(b"\"too many lost\""),
         Verdict::TooManyInARow(_, _) => text::print(b"\"too many lost in a row\""),
-        Verdict::OutageTooLong(_, _) => text::print(b"\"outage too long, in ns\""),
+        Verdict::OutageTooLong(_, _) => text::print(b"\"outage too long\""),
         Verdict::ErrorIndicated(_) => text::print(b"\"error indications\""),
     }
 }
