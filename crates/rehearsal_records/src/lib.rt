@@ -41,15 +41,19 @@ fn print_latency_after(s: &Scenario) {
     print_word_number(b", \"latency-after-us\": ", s, scenario::LATENCY_AFTER_US)
 }
 
-// What the path does, by the words.
-fn print_path(s: &Scenario) {
-    print_word_number(b"\"path\": {\n  \"latency-us\": ", s, scenario::LATENCY_US);
-    print_latency_after(s);
+fn print_windows(s: &Scenario) {
     let mut word = scenario::LOSE;
     while word < scenario::WORDS {
         print_window(s, word);
         word += 1;
     }
+}
+
+// What the path does, by the words.
+fn print_path(s: &Scenario) {
+    print_word_number(b"\"path\": {\n  \"latency-us\": ", s, scenario::LATENCY_US);
+    print_latency_after(s);
+    print_windows(s);
     text::print(b"},\n");
 }
 
