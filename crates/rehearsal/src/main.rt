@@ -1,5 +1,6 @@
-// Rehearses a cutover in memory, as its words say; without any, the default one; by the word `-`, one for each line of standard input. Its last
-// line is `status N`, the exit status of the command `rehearse`, which runs it: 0 passed, 1 failed, 2 words not accepted, 3 no run.
+// Rehearses a cutover in memory, as its words say; without any, the default one; by the word `-`, one for each line of
+// standard input. Its last line is `status N`, the exit status of the command `rehearse`, which runs it: 0 passed, 1
+// failed, 2 words not accepted, 3 no run.
 mod words;
 
 use evidence::PacketContinuityReport;

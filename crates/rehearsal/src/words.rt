@@ -9,7 +9,8 @@ fn set(text: &mut [u8], at: usize, byte: u8) {
     }
 }
 
-// Puts one word at a place of the text, and answers where the next one goes: not before the limit, where there is no room.
+// Puts one word at a place of the text, and answers where the next one goes: not before the limit, where there is no
+// room.
 fn put(number: usize, text: &mut [u8], at: usize) -> usize {
     if text.len() <= at || LIMIT <= at {
         return LIMIT;

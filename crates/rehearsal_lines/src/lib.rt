@@ -66,7 +66,8 @@ fn print_reflector(state: ReflectorState) {
     text::print(b"\n");
 }
 
-// Whether a number of the card is an Error Indication's that broke the rules: it is not counted, and the verdict does not know of it.
+// Whether a number of the card is an Error Indication's that broke the rules: it is not counted, and the verdict does
+// not know of it.
 fn is_outside_verdict(number: u8) -> bool {
     25 <= number && number <= 29
 }

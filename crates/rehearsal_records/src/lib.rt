@@ -1,4 +1,5 @@
-// A rehearsal as records that a program reads: one JSON object (RFC 8259), or a line of comma-separated values for each row of the run sheet.
+// A rehearsal as records that a program reads: one JSON object (RFC 8259), or a line of comma-separated values for each
+// row of the run sheet.
 mod column;
 pub mod csv;
 mod fate;

@@ -1,6 +1,6 @@
-// A rehearsal of a cutover in memory: a plan's probes go through the reflector and back over a path that does what the scenario says, and what
-// came back is recorded in the order of arrival. Thin: packets, echoes, the run sheet and the report are the proved calls'; what is proved here
-// is that it is safe and ends.
+// A rehearsal of a cutover in memory: a plan's probes go through the reflector and back over a path that does what the
+// scenario says, and what came back is recorded in the order of arrival. Thin: packets, echoes, the run sheet and the
+// report are the proved calls'; what is proved here is that it is safe and ends.
 use evidence::PacketContinuityBudget;
 use measurement::Written;
 use observer::ObserverCounts;
@@ -200,8 +200,8 @@ fn go(
     Rehearsed { reported, state }
 }
 
-// Rehearses a scenario on a fresh run sheet: the plan's probes are entered as sent, and travel. `fates` gets what became of each probe, and
-// `refusals` how often each number of the card came up.
+// Rehearses a scenario on a fresh run sheet: the plan's probes are entered as sent, and travel. `fates` gets what
+// became of each probe, and `refusals` how often each number of the card came up.
 pub fn rehearse(
     s: &Scenario,
     sequences: &mut [u64],

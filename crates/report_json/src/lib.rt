@@ -1,4 +1,5 @@
-// A report as parts of a JSON object (RFC 8259): the budget, the figures, and the verdict with its reason and the two numbers of the reason.
+// A report as parts of a JSON object (RFC 8259): the budget, the figures, and the verdict with its reason and the two
+// numbers of the reason.
 use evidence::Latency;
 use evidence::LatencySummary;
 use evidence::PacketContinuityBudget;

@@ -1,4 +1,5 @@
-// A scenario read from words, each `name=value`: every word is taken, or the first that is not accepted is told with the reason.
+// A scenario read from words, each `name=value`: every word is taken, or the first that is not accepted is told with
+// the reason.
 use scenario::Scenario;
 
 fn format_named(value: &[u8]) -> u64 {
@@ -170,8 +171,8 @@ fn misses_loss(s: &Scenario) -> bool {
     scenario::last(s, scenario::LATENCY_AFTER_US) > 0 && scenario::last(s, scenario::LOSE) == 0
 }
 
-// Takes every word into a scenario, one at least: no bytes are an empty word. What two words say together is judged last, since either may be
-// given first.
+// Takes every word into a scenario, one at least: no bytes are an empty word. What two words say together is judged
+// last, since either may be given first.
 pub fn take_words(s: &mut Scenario, words: &[u8], separator: u8) -> Judged {
     let taken = take_each(s, words, separator);
     if taken.reason != ACCEPTED {

@@ -53,7 +53,7 @@ pub fn after(s: &[u8], byte: u8) -> &[u8] {
     &s[..0]
 }
 
-// The item of a list that has so many before it; none past the last. A space ends each.
+// The item of a list that has `number` others before it; none past the last. A space ends each.
 pub fn item(list: &[u8], number: usize) -> &[u8] {
     let mut at = 0;
     let mut i = 0;
