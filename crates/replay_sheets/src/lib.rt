@@ -48,10 +48,7 @@ const QUESTION: usize = 179;
 
 const REPORT_AFTER: usize = 219;
 
-// The rows of a column.
-const ROWS: usize = 6;
-
-// Whether no more of any column is to be lent than is there.
+// Whether no more of any column is to be lent than its 6 cells.
 fn lends_what_is_there(s: &[u8]) -> bool {
     replay_data::byte(s, 0) <= 6
         && replay_data::byte(s, 1) <= 6
@@ -59,11 +56,11 @@ fn lends_what_is_there(s: &[u8]) -> bool {
         && replay_data::byte(s, 3) <= 6
 }
 
-// How many cells are lent of a column.
-fn lent(s: &[u8], column: usize) -> usize
-    ensures { λ r. ⌜ r ≤ 6 ⌝ }
+// How many are lent of a column's cells.
+fn lent(s: &[u8], column: usize, cells: usize) -> usize
+    ensures { λ r. ⌜ r ≤ cells ⌝ }
 {
-    replay_data::at_most(replay_data::byte(s, column) as usize, ROWS)
+    replay_data::at_most(replay_data::byte(s, column) as usize, cells)
 }
 
 // The column of numbers that the data begins with.
@@ -304,17 +301,21 @@ fn answer_agrees(
     }
 }
 
-// Whether the call of this kind agrees with its record, and leaves every cell so: a report lends nothing to be changed.
-pub fn agrees(kind: u8, number: u8, s: &[u8]) -> bool {
-    let mut sequences = column(replay_data::rest(s, SEQUENCES));
-    let mut send_timestamps = column(replay_data::rest(s, SEND_TIMESTAMPS));
-    let mut latencies = column(replay_data::rest(s, LATENCIES));
-    let mut marks = mark_column(replay_data::rest(s, MARKS));
-    let a = lent(s, 0);
-    let b = lent(s, 1);
-    let c = lent(s, 2);
-    let d = lent(s, 3);
-    let agreed = answer_agrees(
+// The same, on the columns: what the record says is lent of each.
+fn lent_agrees(
+    kind: u8,
+    number: u8,
+    s: &[u8],
+    sequences: &mut [u64],
+    send_timestamps: &mut [u64],
+    latencies: &mut [u64],
+    marks: &mut [u8],
+) -> bool {
+    let a = lent(s, 0, sequences.len());
+    let b = lent(s, 1, send_timestamps.len());
+    let c = lent(s, 2, latencies.len());
+    let d = lent(s, 3, marks.len());
+    answer_agrees(
         kind,
         number,
         s,
@@ -322,6 +323,23 @@ pub fn agrees(kind: u8, number: u8, s: &[u8]) -> bool {
         &mut send_timestamps[0..b],
         &mut latencies[0..c],
         &mut marks[0..d],
+    )
+}
+
+// Whether the call of this kind agrees with its record, and leaves every cell so: a report lends nothing to be changed.
+pub fn agrees(kind: u8, number: u8, s: &[u8]) -> bool {
+    let mut sequences = column(replay_data::rest(s, SEQUENCES));
+    let mut send_timestamps = column(replay_data::rest(s, SEND_TIMESTAMPS));
+    let mut latencies = column(replay_data::rest(s, LATENCIES));
+    let mut marks = mark_column(replay_data::rest(s, MARKS));
+    let agreed = lent_agrees(
+        kind,
+        number,
+        s,
+        &mut sequences,
+        &mut send_timestamps,
+        &mut latencies,
+        &mut marks,
     );
     if !agreed || !lends_what_is_there(s) {
         return false;
