@@ -157,7 +157,7 @@ static void numbers(void)
     expect("that it does not", testkit_verify(copy(bytes, 8), 8), false);
     expect("a number's text", strcmp(testkit_number_text(0), "accepted") == 0, true);
     expect("a number's text", strcmp(testkit_number_text(TESTKIT_TARGET_RATE_IS_ZERO), "rate 0") == 0, true);
-    expect("a text for no number", strcmp(testkit_number_text(38), testkit_number_text(255)) == 0, true);
+    expect("a text for no number", strcmp(testkit_number_text(254), testkit_number_text(255)) == 0, true);
     for (unsigned number = 0; number < 256; number++) {
         expect("a text", testkit_number_text((uint8_t)number)[0] != 0, true);
     }
@@ -195,10 +195,13 @@ static void packets(uint8_t version)
     compare_testkit_written("echo", testkit_echo(copy(packet, length), length, out, PACKET), written_as(0, length));
     due.src_port = 2002;
     due.dst_port = 1001;
-    compare_testkit_tpdu("the echo", testkit_decode(out, length, read_src, read_dst), due);
+    compare_testkit_tpdu("the echo", testkit_decode(copy(out, length), length, read_src, read_dst), due);
     expect_bytes("the echo's source", read_src, dst, counted);
     compare_testkit_written(
         "echo, short", testkit_echo(copy(packet, length), length, out, length - 1),
+        written_as(TESTKIT_OUTPUT_TOO_SHORT, 0));
+    compare_testkit_written(
+        "echo, output null", testkit_echo(copy(packet, length), length, NULL, 0),
         written_as(TESTKIT_OUTPUT_TOO_SHORT, 0));
 
     memset(&due, 0, sizeof due);
@@ -236,7 +239,8 @@ static void generator(void)
     for (uint64_t k = 0; k < 3; k++) {
         due.sequence = 70 + k;
         due.send_timestamp_ns = 17 + k * 4000000;
-        compare_testkit_tpdu("a generated packet", testkit_decode(bytes + 52 * k, 52, read_src, read_dst), due);
+        compare_testkit_tpdu(
+            "a generated packet", testkit_decode(copy(bytes + 52 * k, 52), 52, read_src, read_dst), due);
     }
     compare_testkit_written(
         "generate, short", testkit_generate(4, src, dst, 1, 2, plan_of(3, 250, 17), next_sequence, bytes, 3 * 52 - 1),
@@ -293,14 +297,20 @@ static struct testkit_sheet one, two;
 
 #define COLUMNS two.sequences, ROWS, two.send_timestamps, ROWS, two.latencies, ROWS, two.marks, ROWS, two.counts
 
+/* By position, as a program may have it: so that the order of the fields is held too. */
 static void open_sheet(struct testkit_sheet *sheet)
 {
-    sheet->sequences = (uint64_t *)lend(ROWS * sizeof(uint64_t));
-    sheet->send_timestamps = (uint64_t *)lend(ROWS * sizeof(uint64_t));
-    sheet->latencies = (uint64_t *)lend(ROWS * sizeof(uint64_t));
-    sheet->marks = (uint8_t *)lend(ROWS);
-    sheet->capacity = ROWS;
-    sheet->counts = counts_of(0, 0, 0, 0);
+    uint64_t *sequences = (uint64_t *)lend(ROWS * sizeof(uint64_t));
+    uint64_t *send_timestamps = (uint64_t *)lend(ROWS * sizeof(uint64_t));
+    uint64_t *latencies = (uint64_t *)lend(ROWS * sizeof(uint64_t));
+    uint8_t *marks = (uint8_t *)lend(ROWS);
+    struct testkit_sheet opened = {sequences, send_timestamps, latencies, marks, ROWS, {0, 0, 0, 0}};
+    expect("the sequences' place", opened.sequences == sequences, true);
+    expect("the send times' place", opened.send_timestamps == send_timestamps, true);
+    expect("the latencies' place", opened.latencies == latencies, true);
+    expect("the marks' place", opened.marks == marks, true);
+    expect("the capacity's place", opened.capacity, ROWS);
+    *sheet = opened;
 }
 
 static void expect_alike(const char *what)
@@ -618,6 +628,13 @@ static void no_columns(void)
 {
     struct testkit_sheet none;
     struct testkit_continuity_report due;
+    struct testkit_returns_recorded list_due;
+    uint64_t *when = (uint64_t *)lend(sizeof *when);
+    size_t *long_as = (size_t *)lend(sizeof *long_as);
+    uint64_t *returned = (uint64_t *)lend(sizeof *returned);
+    uint8_t *answered = (uint8_t *)lend(1);
+    size_t length = make(4, 22);
+    *long_as = length;
     memset(&none, 0, sizeof none);
     compare_testkit_recorded(
         "no columns", testkit_sheet_record_sent(&none, 1, 2),
@@ -628,8 +645,21 @@ static void no_columns(void)
     compare_testkit_recorded(
         "no columns", testkit_sheet_record_received_tpdu(&none, 1, NULL, 0),
         recorded_as(TESTKIT_TRUNCATED_IP_HEADER, counts_of(0, 0, 0, 0)));
+    memset(&list_due, 0, sizeof list_due);
+    list_due.returns = 1;
+    compare_testkit_returns_recorded(
+        "no columns",
+        testkit_sheet_record_received_tpdus(
+            &none, when, 1, long_as, 1, copy(packet, length), length, returned, 1, answered, 1),
+        list_due);
+    expect("the number of a return on no columns", answered[0], TESTKIT_SEQUENCE_WAS_NOT_SENT);
+    expect("the sequence of a return on no columns", returned[0], 22);
+    list_due.returns = 0;
+    compare_testkit_returns_recorded(
+        "no columns, no list", testkit_sheet_record_received_tpdus(&none, NULL, 0, NULL, 0, NULL, 0, NULL, 0, NULL, 0),
+        list_due);
     expect(
-        "no columns", testkit_sheet_record_return_gtpu_datagram(&none, 1, 26, elements, 12).outcome,
+        "no columns", testkit_sheet_record_return_gtpu_datagram(&none, 1, 26, copy(elements, 12), 12).outcome,
         TESTKIT_OUTCOME_ERROR_INDICATION);
     none.counts = counts_of(0, 0, 0, 0);
     memset(&due, 0, sizeof due);
@@ -704,11 +734,21 @@ static void removed(
     expect_bytes(what, table.sessions, twin.sessions, table.capacity * sizeof *table.sessions);
 }
 
+/* By position too, but for configuration and state, whose fields are held by the proved source. */
 static void open_table(struct testkit_table *opened)
 {
-    opened->sessions = (struct testkit_reflector_session *)lend(3 * sizeof *opened->sessions);
-    opened->capacity = 3;
-    opened->used = 0;
+    struct testkit_reflector_session *sessions =
+        (struct testkit_reflector_session *)lend(3 * sizeof *opened->sessions);
+    struct testkit_reflector_config config;
+    struct testkit_reflector_state state;
+    memset(&config, 0, sizeof config);
+    memset(&state, 0, sizeof state);
+    {
+        struct testkit_table placed = {sessions, 3, 0, config, state};
+        expect("the capacity's place", placed.capacity, 3);
+        expect("the used count's place", placed.used, 0);
+        *opened = placed;
+    }
     opened->config.max_sessions = 2;
     opened->config.recovery_counter = 44;
     opened->config.policy = TESTKIT_POLICY_ECHO;
@@ -773,21 +813,22 @@ static struct testkit_gtpu_message message_of(uint8_t type, uint32_t teid, uint8
 }
 
 /* What is due where nothing is sent. */
-static struct testkit_handled nothing(uint8_t number, uint8_t action, uint8_t reason)
+static struct testkit_handled nothing(uint8_t number, uint8_t action, uint8_t noop_reason)
 {
     struct testkit_handled made;
     memset(&made, 0, sizeof made);
     made.number = number;
     made.action = action;
-    made.reason = reason;
+    made.noop_reason = noop_reason;
     made.destination.version = 4;
     return made;
 }
 
 static struct testkit_handled sends(
-    uint8_t reason, size_t bytes, struct testkit_socket_addr destination, struct testkit_gtpu_message header)
+    uint8_t send_reason, size_t bytes, struct testkit_socket_addr destination, struct testkit_gtpu_message header)
 {
-    struct testkit_handled made = nothing(0, TESTKIT_ACTION_SEND, reason);
+    struct testkit_handled made = nothing(0, TESTKIT_ACTION_SEND, 0);
+    made.send_reason = send_reason;
     made.bytes = bytes;
     made.destination = destination;
     made.message = header;
@@ -830,7 +871,7 @@ static void handling(void)
     handle(
         "echo", message_of(255, 0x11, 9, 77), packet, length,
         sends(TESTKIT_SEND_REFLECTED_GPDU, 52, address_of(4, 20, 2020), message_of(255, 0x12, 0, 0)), s);
-    expect("the echo's number", testkit_decode(out, 52, read_src, read_dst).number, TESTKIT_ACCEPTED);
+    expect("the echo's number", testkit_decode(copy(out, 52), 52, read_src, read_dst).number, TESTKIT_ACCEPTED);
     expect_bytes("the echo's source", read_src, dst, 4);
     s.gpdu_received++;
     handle(
@@ -846,7 +887,7 @@ static void handling(void)
     handle(
         "unknown", message_of(255, 0x01020304, 0, 0), packet, length,
         sends(TESTKIT_SEND_ERROR_INDICATION, 24, source, message_of(26, 0, 1, 65535)), s);
-    expect("its elements", testkit_validate_elements(out, 24), TESTKIT_ACCEPTED);
+    expect("its elements", testkit_validate_elements(copy(out, 24), 24), TESTKIT_ACCEPTED);
     expect_bytes("its TEID", out + 1, "\1\2\3\4", 4);
     expect_bytes("its address", out + 8, source.address, 16);
     s.error_indications_sent++;

@@ -1,10 +1,12 @@
-# Ways to break a header, one to a line: KIND FROM TO A B, tab-separated. In the lines FROM to TO the words A and B change places; or, where
-# KIND is size, the number A becomes B.
+# Ways to break a header, one to a line: KIND FROM TO A B, tab-separated. In the lines FROM to TO the words A and B change places; or, of the
+# kinds size, number and refusal, A becomes B.
 #   enumerator   two enumerators of one enum that have different values
 #   size         a number: an enumerator's, the version's, an array's
 #   field        two fields of one struct that have one type
-#   parameter    two parameters of one call that have one type
+#   parameter    two parameters of one call that have one type: of a static inline call where it is declared, and where it is defined
 #   argument     two arguments that a static inline call hands on; not two lengths of a list of returns, of which the shortest decides
+#   number       the number in brackets behind a name, in a comment
+#   refusal      a number of a call's list of refusals, left out; not one that the call has by `as testkit_..` too
 function say(kind, from, to, a, b) {
     if (kind == "argument" && a ~ decides && b ~ decides) return
     if (!said[kind, from, a, b]++) printf "%s\t%d\t%d\t%s\t%s\n", kind, from, to, a, b
@@ -31,13 +33,28 @@ function split_all(text, kind,    parts, count, k, item) {
     }
 }
 
+/^\/\*/ { begun = NR; split("", numbers); before = ""; by_another = 0 }
+/^\/\*/, /\*\/$/ {
+    last = NR
+    by_another = by_another || /as testkit_record_received_tpdu/
+    rest = $0
+    while (match(rest, /\([0-9]+\)/)) {
+        if ((before substr(rest, 1, RSTART - 1)) ~ /TESTKIT_[A-Z0-9_]+[ *]+$/) {
+            number = substr(rest, RSTART, RLENGTH)
+            numbers[number] = 1
+            say("number", NR, NR, number, "(" (substr(number, 2) + 1) ")")
+        }
+        rest = substr(rest, RSTART + RLENGTH)
+    }
+    before = $0
+}
 { line = $0; gsub(/\/\*[^*]*\*\//, "", line); sub(/\/\*.*$/, "", line) }
 /^#define TESTKIT_VERSION_[A-Z]+ [0-9]+$/ { say("size", NR, NR, $3, $3 + 1) }
 /^enum.*\{$/ { inside = "enum"; from = NR; n = 0; next }
-/^struct [a-z_]+ \{$/ { inside = "struct"; from = NR; n = 0; skip = /_(sheet|table) \{/; next }
+/^struct [a-z_]+ \{$/ { inside = "struct"; from = NR; n = 0; next }
 /^};/ {
     if (inside == "enum") pairs("enumerator", from, NR)
-    if (inside == "struct" && !skip) pairs("field", from, NR)
+    if (inside == "struct") pairs("field", from, NR)
     inside = ""
     next
 }
@@ -51,7 +68,7 @@ inside == "enum" && line ~ / = [0-9]+/ {
     say("size", NR, NR, value[n], value[n] + 1)
     next
 }
-inside == "struct" && line ~ /;/ && !skip {
+inside == "struct" && line ~ /;/ {
     n++
     sub(/;.*$/, "", line)
     if (match(line, /\[[0-9]+\]$/)) {
@@ -64,11 +81,17 @@ inside == "struct" && line ~ /;/ && !skip {
     type[n] = substr(line, 1, RSTART - 1)
     next
 }
-/^[a-z].*testkit_[a-z_]+\(/ && !/^static inline/ { inside = "call"; from = NR; text = "" }
+/^[a-z].*testkit_[a-z_]+\(/ {
+    inside = "call"
+    from = NR
+    text = ""
+    if (!/^static inline/ && last == NR - 1)
+        for (number in numbers) if (!(by_another && number ~ /^\((1|21)\)$/)) say("refusal", begun, last, number, "")
+}
 inside == "call" { text = text " " line }
-inside == "call" && /\);$/ {
+inside == "call" && /\);?$/ {
     sub(/^[^(]*\(/, "", text)
-    sub(/\);$/, "", text)
+    sub(/\);?$/, "", text)
     split_all(text, "parameter")
     pairs("parameter", from, NR)
     inside = ""

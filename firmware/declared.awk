@@ -1,7 +1,8 @@
 # What a C header declares, one to a line. Comments are left out.
 #     ..          its structs and its functions, in the form that declarations.awk writes
-#     enum ..     with -v enumerators=1, instead: NAME VALUE for each enumerator, and for each macro whose value is a number
-# Left out are the static inline functions, which have no counterpart in the archive, and the structs that only they use.
+#     NAME VALUE  with -v enumerators=1, instead: each enumerator, and each macro whose value is a number
+#     KIND ..     with -v inlines=1, instead: each static inline function up to its body, behind `declared` or `defined`
+# Otherwise the static inline functions are left out, which have no counterpart in the archive, and the structs that only they use.
 {
     line = $0
     while (1) {
@@ -53,6 +54,11 @@ END {
         text = substr(text, 1, RSTART - 1)
         match(rest, /[;{]/)
         at = RSTART
+        if (inlines) {
+            head = substr(rest, 1, at - 1)
+            sub(/ +$/, "", head)
+            print (substr(rest, at, 1) == "{" ? "defined " : "declared ") head
+        }
         if (substr(rest, at, 1) == "{")
             for (depth = 1; depth && at < length(rest);) {
                 at++
@@ -62,6 +68,7 @@ END {
             }
         text = text substr(rest, at + 1)
     }
+    if (inlines) exit
     while (match(text, /struct [a-z_]+ \{[^}]*\};/)) {
         item = substr(text, RSTART, RLENGTH)
         if (item !~ /^struct testkit_(sheet|table) /) print item

@@ -2,6 +2,7 @@
 #     bound NAME BYTES       the return address, and below it the deepest frames of the call and of all that it calls
 #     below NAME BYTES       how far a function writes below its own stack pointer (the red zone of the x86-64 ABI), where it does
 #     registers LETTER..     the registers besides the general ones that are named: x, y or z for %xmm, %ymm or %zmm, others by their names
+#     beyond NAME..          the instructions that are none of the lists below: of x87, MMX, SSE3 and above, BMI, and those of a kernel
 # Every path through a function is followed, and the stack pointer must have one value at each instruction. What cannot be followed (another
 # change of the stack pointer, an unknown callee, an indirect call, functions that call each other in a circle) ends the run with status 1.
 #   -v memory=BYTES          what memcpy, memmove, memset and memcmp are taken to use each, their return address included
@@ -43,7 +44,7 @@ function target(f, k,    name) {
     return (object_of[f] SUBSEP name) in first ? object_of[f] SUBSEP name : name
 }
 
-# Notes that instruction k of f runs with so many bytes of stack in use.
+# Notes that instruction k of f runs with this many bytes of stack in use.
 function reach(f, k, depth) {
     if (!((f, k) in op)) fail(name_of[f] " runs out of its code")
     if ((f, k) in at_depth) {
@@ -75,8 +76,8 @@ function follow(f,    k, depth, name, rest, displacement, callee, next_k, indire
                 if (displacement > below[f]) below[f] = displacement
                 deeper(f, depth + displacement)
             }
-            if (name ~ /^push/) depth += 8
-            else if (name ~ /^pop/) depth -= 8
+            if (name ~ /^pushq?$/) depth += 8
+            else if (name ~ /^popq?$/) depth -= 8
             else if (name == "sub" && rest ~ /^\$0x[0-9a-f]+,%rsp$/) depth += hex(substr(rest, 2, index(rest, ",") - 2))
             else if (name == "add" && rest ~ /^\$0x[0-9a-f]+,%rsp$/) depth -= hex(substr(rest, 2, index(rest, ",") - 2))
             else if (name == "lea" && rest ~ /^-?0x[0-9a-f]+\(%rsp\),%rsp$/) depth -= hex(substr(rest, 1, index(rest, "(") - 1))
@@ -151,6 +152,24 @@ function bound(f,    k, callee, here, own, self) {
     return bounds[f]
 }
 
+# Whether an instruction is of SSE or SSE2, or a general one that every x86-64 processor has. The lists are wider than what the archive has
+# today, so that another version of the compiler is not refused without need.
+function known(text,    name, at) {
+    sub(/^((data16|cs|rep|repn?z|notrack) +)+/, "", text)
+    at = index(text, " ")
+    name = at ? substr(text, 1, at - 1) : text
+    if (name == "pextrw") return text ~ /,%[er][a-z0-9]+$/ # to memory it is of SSE4.1
+    if (name ~ /^mov([aul]?p|hp|hlp|lhp|mskp|ntp)[sd]$/ || name ~ /^mov(lh|hl)ps$/ || name ~ /^mov(s[sd]|d|q|dq[au]|ntdq|nti)$/) return 1
+    if (name ~ /^(add|sub|mul|div|min|max|sqrt)[ps][sd]$/ || name ~ /^(rcp|rsqrt)[ps]s$/ || name ~ /^cmp(|eq|lt|le|unord|neq|nlt|nle|ord)[ps][sd]$/) return 1
+    if (name ~ /^(and|andn|or|xor|shuf|unpckl|unpckh)p[sd]$/ || name ~ /^u?comis[sd]$/ || name ~ /^cvtt?[a-z0-9]+2[a-z0-9]+$/) return 1
+    if (name ~ /^p(add|sub)[bwdq]$/ || name ~ /^p(add|sub)us?[bw]$/ || name ~ /^p(add|sub)s[bw]$/ || name ~ /^pmul(lw|hw|huw|udq)$/) return 1
+    if (name ~ /^p(and|andn|or|xor|maddwd|sadbw|insrw|movmskb|avg[bw]|(min|max)(ub|sw)|cmp(eq|gt)[bwd]|ack(sswb|ssdw|uswb)|shuf(d|hw|lw)|unpck[lh](bw|wd|dq|qdq))$/) return 1
+    if (name ~ /^ps(ll|rl)([wdq]|dq)$/ || name ~ /^psra[wd]$/) return 1
+    if (name ~ /^(adc|add|and|bs[fr]|bt[crs]?|cmp|dec|div|idiv|imul|inc|lea|mov|movabs|mul|neg|nop|not|or|pop|push|rc[lr]|ro[lr]|sa[lr]|sbb|sh[lr]|shld|shrd|sub|test|xadd|xchg|xor)[bwlq]?$/) return 1
+    if (name ~ /^(bswap|call|cltd|cltq|cqto|cwtd|cwtl|cbtw|hlt|j[a-z]+|leave|[lms]fence|prefetch(nta|t[012])|ret|ud2|cmov[a-z]+|set[a-z]+|mov[sz][bwl][wlq]|movslq|(movs|stos|cmps|scas|lods)[bwlq]?|endbr64)q?$/) return 1
+    return 0
+}
+
 BEGIN {
     if (memory == "") fail("-v memory is not given")
     n = split(deep, parts, " ")
@@ -197,9 +216,12 @@ BEGIN {
     sub(/^ +/, "", rest)
     sub(/ +#.*$/, "", rest)
     words[f, instruction] = rest
-    while (match(line, /%([xyz]?mm[0-9]+|k[0-7]|st|[fg]s:)/)) {
+    if (!known(line)) beyond[op[f, instruction]] = 1
+    if (line ~ /(^| )nop[wl]? /) next # padding, which may be written with %cs:
+    gsub(/%[de]s:\(%r[ds]i\)/, "", line) # what a string instruction works on
+    while (match(line, /%([xyz]?mm[0-9]+|k[0-7]|st|[cd]r[0-9]+|[c-gs]s([^a-z]|$))/)) {
         register = substr(line, RSTART + 1, RLENGTH - 1)
-        sub(/mm[0-9]+$/, "", register)
+        sub(/mm[0-9]+$|[^a-z0-9]$/, "", register)
         named[register == "" ? "mm" : register] = 1
         line = substr(line, RSTART + RLENGTH)
     }
@@ -214,4 +236,7 @@ END {
     line = "registers"
     for (register in named) line = line " " register
     print line
+    line = "beyond"
+    for (name in beyond) line = line " " name
+    if (line != "beyond") print line
 }

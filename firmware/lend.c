@@ -37,7 +37,7 @@ void lend_as(const char *way)
     }
 }
 
-/* So many whole pages between two that cannot be read. */
+/* Whole pages, as many as these bytes fill, between two that cannot be read. */
 static uint8_t *between_walls(size_t bytes)
 {
     size_t page = (size_t)sysconf(_SC_PAGESIZE);
@@ -65,6 +65,13 @@ void *lend(size_t bytes)
         }
     }
     memset(buffer, 0xA5, bytes);
+    return buffer;
+}
+
+void *lend_filled(const void *bytes, size_t length)
+{
+    void *buffer = lend(length);
+    memcpy(buffer, bytes, length);
     return buffer;
 }
 

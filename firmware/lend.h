@@ -12,8 +12,11 @@
  */
 void lend_as(const char *way);
 
-/* A buffer of so many bytes, which hold 0xA5. It is never given back. */
+/* A buffer of this length, whose bytes hold 0xA5. It is never given back. */
 void *lend(size_t bytes);
+
+/* A buffer of this length that holds these bytes. It is never given back. */
+void *lend_filled(const void *bytes, size_t length);
 
 /* A copy of these bytes to lend for reading: read-only where pages are used. It lasts until the next one is asked for.
  */

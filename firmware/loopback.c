@@ -153,7 +153,7 @@ static struct testkit_budget budget(uint64_t lost, uint64_t consecutive, uint64_
     return made;
 }
 
-/* The report, and what it comes to. */
+/* The report, judged: its verdict must have this reason. */
 static struct testkit_continuity_report verdict(struct testkit_budget allowed, uint8_t reason)
 {
     struct testkit_continuity_report report = probe_report(&probe, allowed);

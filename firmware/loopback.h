@@ -32,6 +32,8 @@ struct probe {
     struct testkit_sheet sheet;
     uint64_t *next_sequence; /* outlives runs */
     uint8_t *packets;        /* the plan's, end to end */
+    uint8_t *near_end;       /* the addresses that its T-PDUs carry */
+    uint8_t *far_end;
     struct testkit_socket_addr self;
     struct testkit_socket_addr peer;
     uint32_t teid; /* of the session at the peer */
@@ -58,8 +60,8 @@ struct reflector {
     struct testkit_table table;
     uint8_t *out;
     struct testkit_socket_addr self;
-    unsigned sent[8];    /* by reason */
-    unsigned nothing[8]; /* by reason */
+    unsigned sent[8];    /* by send_reason */
+    unsigned nothing[8]; /* by noop_reason */
     unsigned refused[256];
 };
 

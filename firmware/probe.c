@@ -15,6 +15,8 @@ enum { ROWS = 256, WAIT_NS = 5000000 };
 /* Once, at start: the memory, and the first sequence. */
 void probe_open(struct probe *probe, struct testkit_socket_addr self, struct testkit_socket_addr peer, uint32_t teid)
 {
+    static const uint8_t near_end[TESTKIT_ADDRESS_BYTES] = {10, 0, 0, 1};
+    static const uint8_t far_end[TESTKIT_ADDRESS_BYTES] = {10, 0, 0, 2};
     memset(probe, 0, sizeof *probe);
     expect("the archive's version", testkit_version(), TESTKIT_VERSION);
     probe->sheet.sequences = (uint64_t *)lend(ROWS * sizeof *probe->sheet.sequences);
@@ -25,6 +27,8 @@ void probe_open(struct probe *probe, struct testkit_socket_addr self, struct tes
     probe->next_sequence = (uint64_t *)lend(sizeof *probe->next_sequence);
     *probe->next_sequence = 1;
     probe->packets = (uint8_t *)lend(ROWS * TESTKIT_IPV6_TPDU_BYTES);
+    probe->near_end = (uint8_t *)lend_filled(near_end, TESTKIT_ADDRESS_BYTES);
+    probe->far_end = (uint8_t *)lend_filled(far_end, TESTKIT_ADDRESS_BYTES);
     probe->self = self;
     probe->peer = peer;
     probe->teid = teid;
@@ -55,7 +59,6 @@ static void send_message(const struct probe *probe, uint8_t type, uint32_t teid,
  * there. */
 void probe_send_plan(struct probe *probe, uint8_t version, uint64_t packets, uint64_t rate)
 {
-    static const uint8_t near_end[16] = {10, 0, 0, 1}, far_end[16] = {10, 0, 0, 2};
     size_t length = version == 4 ? TESTKIT_IPV4_TPDU_BYTES : TESTKIT_IPV6_TPDU_BYTES;
     uint64_t first = *probe->next_sequence; /* from before the plan: the sheet wants it */
     struct testkit_plan plan;
@@ -67,7 +70,7 @@ void probe_send_plan(struct probe *probe, uint8_t version, uint64_t packets, uin
     plan.target_rate_pps = rate;
     plan.first_send_timestamp_ns = wire_now() + 1000000;
     written = testkit_generate(
-        version, near_end, far_end, 1000, 2000, plan, probe->next_sequence, probe->packets,
+        version, probe->near_end, probe->far_end, 1000, 2000, plan, probe->next_sequence, probe->packets,
         ROWS * TESTKIT_IPV6_TPDU_BYTES);
     if (written.number != TESTKIT_ACCEPTED) {
         printf("  no plan: %s\n", testkit_number_text(written.number));
@@ -137,18 +140,19 @@ void probe_receive(struct probe *probe)
     }
 }
 
-/* The same with a list: T-PDUs are kept, and entered many at a time. Other messages are not for this loop. */
+/* The same with a list: T-PDUs are kept, and entered many at a time. Other messages are not for this loop. Firmware
+ * lends the columns that it fills; here each list is lent as long as it is, so that a byte past its end is seen. */
 void probe_receive_list(struct probe *probe)
 {
-    uint64_t *times = (uint64_t *)lend(LIST_ROWS * sizeof *times);
-    size_t *lengths = (size_t *)lend(LIST_ROWS * sizeof *lengths);
-    uint8_t *tpdus = (uint8_t *)lend(LIST_BYTES);
-    uint64_t *returned = (uint64_t *)lend(LIST_ROWS * sizeof *returned);
-    uint8_t *numbers = (uint8_t *)lend(LIST_ROWS);
+    static uint64_t times[LIST_ROWS];
+    static size_t lengths[LIST_ROWS];
+    static uint8_t tpdus[LIST_BYTES];
     struct datagram datagram;
     bool more = true;
     while (more) {
         size_t rows = 0, bytes = 0;
+        uint64_t *returned;
+        uint8_t *numbers;
         struct testkit_returns_recorded recorded;
         while (rows < LIST_ROWS && (more = wire_receive(probe->self, &datagram))) {
             if (datagram.message.message_type != TESTKIT_GTPU_MSG_GPDU ||
@@ -161,8 +165,12 @@ void probe_receive_list(struct probe *probe)
             memcpy(tpdus + bytes, datagram.payload, datagram.payload_length);
             bytes += datagram.payload_length;
         }
+        returned = (uint64_t *)lend(rows * sizeof *returned);
+        numbers = (uint8_t *)lend(rows);
         recorded = testkit_sheet_record_received_tpdus(
-            &probe->sheet, times, rows, lengths, rows, tpdus, bytes, returned, LIST_ROWS, numbers, LIST_ROWS);
+            &probe->sheet, (uint64_t *)lend_filled(times, rows * sizeof *times), rows,
+            (size_t *)lend_filled(lengths, rows * sizeof *lengths), rows, (uint8_t *)lend_filled(tpdus, bytes), bytes,
+            returned, rows, numbers, rows);
         if (recorded.number != TESTKIT_ACCEPTED) {
             refused(probe, recorded.number);
             return;
@@ -188,7 +196,7 @@ struct testkit_continuity_report probe_report(const struct probe *probe, struct 
         report.sent_packets, report.received_packets, report.lost_packets, report.duplicate_packets,
         report.out_of_order_packets, report.gtpu_error_indications);
     printf(
-        "  longest run %" PRIu64 ", longest outage %" PRIu64 " ns\n", report.max_consecutive_lost_packets,
+        "  longest run of losses %" PRIu64 ", longest outage %" PRIu64 " ns\n", report.max_consecutive_lost_packets,
         report.max_gap_duration_ns);
     if (report.has_latency) {
         printf(

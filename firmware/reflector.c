@@ -60,8 +60,8 @@ void reflector_serve(struct reflector *reflector)
             TESTKIT_REFLECTOR_BYTES);
         switch (handled.action) {
         case TESTKIT_ACTION_SEND:
-            reflector->sent[handled.reason & 7]++;
-            if (handled.reason == TESTKIT_SEND_ROUTED_GPDU) {
+            reflector->sent[handled.send_reason & 7]++;
+            if (handled.send_reason == TESTKIT_SEND_ROUTED_GPDU) {
                 /* on its way as it came: the payload is not copied */
                 wire_send(reflector->self, handled.destination, handled.message, payload, datagram.payload_length);
             } else {
@@ -69,7 +69,7 @@ void reflector_serve(struct reflector *reflector)
             }
             break;
         case TESTKIT_ACTION_NOOP:
-            reflector->nothing[handled.reason & 7]++;
+            reflector->nothing[handled.noop_reason & 7]++;
             break;
         default:
             expect("a refusal's action", handled.action, TESTKIT_ACTION_REFUSED);

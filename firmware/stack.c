@@ -6,13 +6,20 @@
  * frames.awk reads off the machine code, and this the second way; a bound may be higher, where no input takes the
  * deepest path.
  *
- * Inputs. Packets, of both versions: built ones; cut at every length; each single bit turned; for IPv4 with options, of
- * every IHL; each of these alone, and in lists of two returns, the first whole and the second whole, cut or empty.
- * Plans: of 0, 1 and 2048 packets, and each refusal. Element lists: up to 4096 elements, each cut. Run sheets: empty,
- * of 1 row and of 2048 rows, none, one, all or every other returned; a new row at the front, in the middle and at the
- * end; and malformed. Reports under budgets that each alone is and is not kept, and refused ones. Session tables:
- * empty, of 1 and of 4096 sessions, full and not, and refused; the first, the last and no session asked for; packets as
- * above under each policy, and messages of every type with and without TEID and sequence.
+ * What each call answered is printed: firmware/run holds the numbers to the list of refusals that testkit.h has for the
+ * call, so that each was met and no other. What else an answer may say (a verdict's reason, a message's outcome, what
+ * is to be done with it and why, whether a session was added or removed, whether a report's two verdicts hold) is
+ * checked here: exit status 1 where one was never met.
+ *
+ * Inputs. Packets, of both versions: built ones; cut at every length; each single bit turned; with each cause that a
+ * checksum would hide, made right by another field; for IPv4 with options, of every IHL; each of these alone, and in
+ * lists of two returns, the first whole and the second whole, cut or empty. Plans: of 0, 1 and 2048 packets, and each
+ * refusal. Element lists: up to 4096 elements, each cut. Run sheets: empty, of 1 row and of 2048 rows, none, one, all
+ * or every other returned; a new row at the front, in the middle and at the end; returns before and after their send
+ * time; counts of 0 and at their top; and malformed. Reports under budgets that each alone is and is not kept, and
+ * refused ones. Session tables: empty, of 1 and of 4096 sessions, full and not, and refused; the first, the last and no
+ * session asked for; sessions that differ from a registered one in one field; packets as above under each policy, and
+ * messages of every type with and without TEID and sequence; counts of 0 and at their top, and the last error sequence.
  *
  * For x86-64 and GNU C. Linked with -z now, so that finding memcpy is not counted.
  */
@@ -69,28 +76,39 @@ static struct testkit_socket_addr source;
 static struct testkit_gtpu_message message;
 static volatile uint64_t kept; /* so that no answer is thrown away */
 
+/* What the call answered: its numbers, and what else its answer says, as a small number. */
+static volatile uint8_t answered[2];
+static volatile int answers;
+static volatile unsigned kind;
+static void note(uint8_t number, unsigned said)
+{
+    answered[0] = number;
+    answers = 1;
+    kind = said;
+}
+
 #define SHEET sequences, ROWS, times, ROWS, latencies, ROWS, marks, ROWS, counts
 
 static void call_version(void) { kept = ENTER(testkit_version)(); }
 static void call_sum(void) { kept = ENTER(testkit_sum)(1, in, in_length); }
 static void call_checksum(void) { kept = ENTER(testkit_checksum)(in, in_length); }
-static void call_verify(void) { kept = ENTER(testkit_verify)(in, in_length); }
-static void call_build(void) { kept = ENTER(testkit_build)(version, src, dst, 1, 2, 3, 4, out, out_length).number; }
+static void call_verify(void) { kind = ENTER(testkit_verify)(in, in_length); }
+static void call_build(void) { note(ENTER(testkit_build)(version, src, dst, 1, 2, 3, 4, out, out_length).number, 0); }
 static void call_decode(void)
 {
     uint8_t s[16], d[16];
-    kept = ENTER(testkit_decode)(in, in_length, s, d).number;
+    note(ENTER(testkit_decode)(in, in_length, s, d).number, 0);
 }
-static void call_echo(void) { kept = ENTER(testkit_echo)(in, in_length, out, out_length).number; }
+static void call_echo(void) { note(ENTER(testkit_echo)(in, in_length, out, out_length).number, 0); }
 static void call_generate(void)
 {
     uint64_t next_sequence = plan_sequence;
-    kept = ENTER(testkit_generate)(version, src, dst, 1, 2, plan, &next_sequence, out, out_length).number;
+    note(ENTER(testkit_generate)(version, src, dst, 1, 2, plan, &next_sequence, out, out_length).number, 0);
 }
-static void call_elements(void) { kept = ENTER(testkit_validate_elements)(in, in_length); }
-static void call_sent(void) { kept = ENTER(testkit_record_sent)(SHEET, sequence, 7).number; }
-static void call_received(void) { kept = ENTER(testkit_record_received_tpdu)(SHEET, 9, in, in_length).number; }
-static void call_plan(void) { kept = ENTER(testkit_record_sent_plan)(SHEET, plan, sequence).number; }
+static void call_elements(void) { note(ENTER(testkit_validate_elements)(in, in_length), 0); }
+static void call_sent(void) { note(ENTER(testkit_record_sent)(SHEET, sequence, 7).number, 0); }
+static void call_received(void) { note(ENTER(testkit_record_received_tpdu)(SHEET, 9, in, in_length).number, 0); }
+static void call_plan(void) { note(ENTER(testkit_record_sent_plan)(SHEET, plan, sequence).number, 0); }
 /* Two returns: T-PDUs of these lengths, cut where `in` ends. */
 static size_t lengths[2];
 static void call_returns(void)
@@ -98,57 +116,83 @@ static void call_returns(void)
     static const uint64_t at[2] = {9, 9};
     static uint64_t read[2];
     static uint8_t numbers[2];
-    kept = ENTER(testkit_record_received_tpdus)(SHEET, at, 2, lengths, 2, in, in_length, read, 2, numbers, 2).number;
+    struct testkit_returns_recorded recorded =
+        ENTER(testkit_record_received_tpdus)(SHEET, at, 2, lengths, 2, in, in_length, read, 2, numbers, 2);
+    note(recorded.number, 0);
+    if (recorded.number == 0) {
+        answered[0] = numbers[0];
+        answered[1] = numbers[1];
+        answers = 2;
+    }
 }
 static void call_message(void)
 {
-    kept = ENTER(testkit_record_return_gtpu_datagram)(SHEET, 9, message_type, in, in_length).number;
+    struct testkit_datagram_recorded recorded =
+        ENTER(testkit_record_return_gtpu_datagram)(SHEET, 9, message_type, in, in_length);
+    note(recorded.number, recorded.outcome);
 }
 static struct testkit_budget budget;
+static uint64_t window_end;
 static struct testkit_continuity_report report;
-static void call_report(void) { kept = ENTER(testkit_report)(SHEET, 1, 2, budget).number; }
-static void call_judge(void) { kept = ENTER(testkit_judge_report)(report, budget).reason; }
+static void call_report(void)
+{
+    struct testkit_continuity_report made = ENTER(testkit_report)(SHEET, 1, window_end, budget);
+    note(made.number, made.number != 0 ? 4 : made.forwarding_proven + 2u * made.packet_continuity_proven);
+}
+static void call_judge(void) { kind = ENTER(testkit_judge_report)(report, budget).reason; }
 static void call_register(void)
 {
-    kept = ENTER(testkit_register_session)(sessions, SESSIONS, sessions_used, config.max_sessions, session).number;
+    struct testkit_registered registered =
+        ENTER(testkit_register_session)(sessions, SESSIONS, sessions_used, config.max_sessions, session);
+    note(registered.number, registered.added);
 }
 static void call_remove(void)
 {
-    kept = ENTER(testkit_remove_session)(sessions, SESSIONS, sessions_used, config.max_sessions, session.local_teid)
-               .number;
+    struct testkit_removed removed =
+        ENTER(testkit_remove_session)(sessions, SESSIONS, sessions_used, config.max_sessions, session.local_teid);
+    note(removed.number, removed.removed);
 }
 static void call_handle(void)
 {
-    kept = ENTER(testkit_handle_datagram)(
-               sessions, SESSIONS, sessions_used, config, state, source, message, in, in_length, out, out_length)
-               .number;
+    struct testkit_handled handled = ENTER(testkit_handle_datagram)(
+        sessions, SESSIONS, sessions_used, config, state, source, message, in, in_length, out, out_length);
+    note(handled.number, handled.action * 8u + handled.noop_reason + handled.send_reason);
 }
 
-/* The calls, and the most that each has used so far. */
+/* The calls; of each what its answers must say, as bits; and so far the most that it has used, what its answers have
+ * said, and their numbers. Of a report the bits are both verdicts, and 4 where there is none; of a message handled,
+ * 8 * action + reason. */
+#define BITS(from, to) (((UINT64_C(1) << ((to) - (from) + 1)) - 1) << (from))
 static struct row {
     const char *name;
     void (*call)(void);
-    size_t said, used;
+    size_t said;
+    uint64_t kinds_due;
+    size_t used;
+    uint64_t kinds;
+    bool met[256];
 } rows[] = {
-    {"testkit_version", call_version, TESTKIT_STACK_VERSION, 0},
-    {"testkit_sum", call_sum, TESTKIT_STACK_SUM, 0},
-    {"testkit_checksum", call_checksum, TESTKIT_STACK_CHECKSUM, 0},
-    {"testkit_verify", call_verify, TESTKIT_STACK_VERIFY, 0},
-    {"testkit_build", call_build, TESTKIT_STACK_BUILD, 0},
-    {"testkit_decode", call_decode, TESTKIT_STACK_DECODE, 0},
-    {"testkit_echo", call_echo, TESTKIT_STACK_ECHO, 0},
-    {"testkit_generate", call_generate, TESTKIT_STACK_GENERATE, 0},
-    {"testkit_validate_elements", call_elements, TESTKIT_STACK_VALIDATE_ELEMENTS, 0},
-    {"testkit_record_sent", call_sent, TESTKIT_STACK_RECORD_SENT, 0},
-    {"testkit_record_received_tpdu", call_received, TESTKIT_STACK_RECORD_RECEIVED_TPDU, 0},
-    {"testkit_record_sent_plan", call_plan, TESTKIT_STACK_RECORD_SENT_PLAN, 0},
-    {"testkit_record_received_tpdus", call_returns, TESTKIT_STACK_RECORD_RECEIVED_TPDUS, 0},
-    {"testkit_record_return_gtpu_datagram", call_message, TESTKIT_STACK_RECORD_RETURN_GTPU_DATAGRAM, 0},
-    {"testkit_report", call_report, TESTKIT_STACK_REPORT, 0},
-    {"testkit_judge_report", call_judge, TESTKIT_STACK_JUDGE_REPORT, 0},
-    {"testkit_register_session", call_register, TESTKIT_STACK_REGISTER_SESSION, 0},
-    {"testkit_remove_session", call_remove, TESTKIT_STACK_REMOVE_SESSION, 0},
-    {"testkit_handle_datagram", call_handle, TESTKIT_STACK_HANDLE_DATAGRAM, 0},
+    {"testkit_version", call_version, TESTKIT_STACK_VERSION, BITS(0, 0), 0, 0, {0}},
+    {"testkit_sum", call_sum, TESTKIT_STACK_SUM, BITS(0, 0), 0, 0, {0}},
+    {"testkit_checksum", call_checksum, TESTKIT_STACK_CHECKSUM, BITS(0, 0), 0, 0, {0}},
+    {"testkit_verify", call_verify, TESTKIT_STACK_VERIFY, BITS(0, 1), 0, 0, {0}},
+    {"testkit_build", call_build, TESTKIT_STACK_BUILD, BITS(0, 0), 0, 0, {0}},
+    {"testkit_decode", call_decode, TESTKIT_STACK_DECODE, BITS(0, 0), 0, 0, {0}},
+    {"testkit_echo", call_echo, TESTKIT_STACK_ECHO, BITS(0, 0), 0, 0, {0}},
+    {"testkit_generate", call_generate, TESTKIT_STACK_GENERATE, BITS(0, 0), 0, 0, {0}},
+    {"testkit_validate_elements", call_elements, TESTKIT_STACK_VALIDATE_ELEMENTS, BITS(0, 0), 0, 0, {0}},
+    {"testkit_record_sent", call_sent, TESTKIT_STACK_RECORD_SENT, BITS(0, 0), 0, 0, {0}},
+    {"testkit_record_received_tpdu", call_received, TESTKIT_STACK_RECORD_RECEIVED_TPDU, BITS(0, 0), 0, 0, {0}},
+    {"testkit_record_sent_plan", call_plan, TESTKIT_STACK_RECORD_SENT_PLAN, BITS(0, 0), 0, 0, {0}},
+    {"testkit_record_received_tpdus", call_returns, TESTKIT_STACK_RECORD_RECEIVED_TPDUS, BITS(0, 0), 0, 0, {0}},
+    {"testkit_record_return_gtpu_datagram", call_message, TESTKIT_STACK_RECORD_RETURN_GTPU_DATAGRAM,
+     BITS(0, 4), 0, 0, {0}},
+    {"testkit_report", call_report, TESTKIT_STACK_REPORT, BITS(0, 4), 0, 0, {0}},
+    {"testkit_judge_report", call_judge, TESTKIT_STACK_JUDGE_REPORT, BITS(0, 6), 0, 0, {0}},
+    {"testkit_register_session", call_register, TESTKIT_STACK_REGISTER_SESSION, BITS(0, 1), 0, 0, {0}},
+    {"testkit_remove_session", call_remove, TESTKIT_STACK_REMOVE_SESSION, BITS(0, 1), 0, 0, {0}},
+    {"testkit_handle_datagram", call_handle, TESTKIT_STACK_HANDLE_DATAGRAM,
+     BITS(0, 0) | BITS(9, 13) | BITS(17, 20), 0, 0, {0}},
 };
 enum { CALLS = sizeof rows / sizeof *rows };
 
@@ -182,21 +226,30 @@ static size_t depth(void (*call)(void), uint8_t pattern)
 static void measure(void (*call)(void))
 {
     static uint8_t marks_before[ROWS];
-    static uint64_t sequences_before[ROWS];
+    static uint64_t sequences_before[ROWS], times_before[ROWS];
     static struct testkit_reflector_session sessions_before[SESSIONS];
     size_t table = call == call_register || call == call_remove ? sizeof sessions : 0;
     struct row *row = rows;
     memcpy(marks_before, marks, sizeof marks);
     memcpy(sequences_before, sequences, sizeof sequences);
+    memcpy(times_before, times, sizeof times);
     memcpy(sessions_before, sessions, table);
     while (row->call != call) {
         row++;
     }
     for (int turn = 0; turn < 2; turn++) {
-        size_t used = depth(call, turn ? 0x5a : 0xa5);
+        size_t used;
+        answers = 0;
+        kind = 0;
+        used = depth(call, turn ? 0x5a : 0xa5);
         row->used = used > row->used ? used : row->used;
+        row->kinds |= UINT64_C(1) << kind;
+        for (int k = 0; k < answers; k++) {
+            row->met[answered[k]] = true;
+        }
         memcpy(marks, marks_before, sizeof marks);
         memcpy(sequences, sequences_before, sizeof sequences);
+        memcpy(times, times_before, sizeof times);
         memcpy(sessions, sessions_before, table);
     }
 }
@@ -269,6 +322,34 @@ static void measure_reflector(size_t used, size_t maximum)
     }
 }
 
+/* Sessions that differ from a registered one in one field: peer TEID, version, a byte of the address that counts, a
+ * byte that does not, port. Messages of every type with counts at their top and the last error sequence. */
+static void measure_reflector_ends(void)
+{
+    for (size_t k = 0; k < 2; k++) {
+        set_sessions(2, 3);
+        for (int field = 0; field < 5; field++) {
+            session = sessions[k];
+            session.peer_teid += field == 0;
+            session.peer_addr.version ^= field == 1 ? 2 : 0;
+            session.peer_addr.address[3] ^= field == 2;
+            session.peer_addr.address[15] ^= field == 3;
+            session.peer_addr.port += field == 4;
+            measure(call_register);
+        }
+    }
+    state = (struct testkit_reflector_state){
+        UINT64_MAX, UINT64_MAX, UINT64_MAX, UINT64_MAX, UINT64_MAX, UINT64_MAX, 65535};
+    for (int k = 0; k < 4 * 256; k++) {
+        message = (struct testkit_gtpu_message){(uint8_t)k, k / 256 % 2 ? 1 : 99, (uint8_t)(k / 512), 65535};
+        message.teid = message.message_type == 1 ? 0 : message.teid;
+        for (config.policy = 0; config.policy <= 2; config.policy++) {
+            measure(call_handle);
+        }
+    }
+    state = (struct testkit_reflector_state){0, 0, 0, 0, 0, 0, 0};
+}
+
 /* The packet of `in` with room for options of every length: IHL and total length raised, both header sums made right.
  */
 static void measure_options(void)
@@ -290,6 +371,31 @@ static void measure_options(void)
     }
 }
 
+/* Packets with a cause that single bits do not show, since the checksum is judged before it. The UDP checksum covers
+ * the whole part behind the IP header, so what one field loses another gets. */
+static void measure_hidden_causes(uint64_t probe)
+{
+    size_t udp = version == 4 ? 20 : 40;
+    for (int cause = 0; cause < 4; cause++) {
+        in_length = testkit_build(version, src, dst, 1, 2, probe, 4, in, sizeof in).bytes;
+        if (cause == 0) { /* no probe: two words of its first 8 bytes exchanged */
+            uint8_t word[2];
+            memcpy(word, in + udp + 8, 2);
+            memcpy(in + udp + 8, in + udp + 10, 2);
+            memcpy(in + udp + 10, word, 2);
+        } else if (cause == 1) { /* a probe of 23 bytes: the UDP length to the source port */
+            in[udp + 5] -= 1;
+            in[udp + 1] += 1;
+        } else if (cause == 2) { /* a UDP length of 7 */
+            in[udp + 5] -= 25;
+            in[udp + 1] += 25;
+        } else { /* a UDP checksum of 0: not verified in IPv4 */
+            in[udp + 6] = in[udp + 7] = 0;
+        }
+        measure_packet();
+    }
+}
+
 static void measure_packets(uint64_t probe)
 {
     for (version = 4; version <= 6; version += 2) {
@@ -306,6 +412,7 @@ static void measure_packets(uint64_t probe)
         if (version == 4) {
             measure_options();
         }
+        measure_hidden_causes(probe);
     }
 }
 
@@ -345,16 +452,19 @@ static void measure_elements(size_t count)
     in[3 * count + 7] = 5;
     in_length = length;
     measure(call_elements);
+    measure(call_message);
     in[3 * count] = 17;
     measure(call_elements);
+    measure(call_message);
 }
 
-/* A sheet of `used` rows with sequences 2, 4, .., every `step`-th of them returned (0: none). */
+/* A sheet of `used` rows with sequences 2, 4, .., every `step`-th of them returned (0: none). The first 1000 were sent
+ * before time 9, at which packets return, and the others after it. */
 static void set_sheet(size_t used, size_t step)
 {
     for (size_t k = 0; k < ROWS; k++) {
         sequences[k] = 2 * (k + 1);
-        times[k] = 5;
+        times[k] = k < 1000 ? 5 : 10;
         latencies[k] = UINT64_MAX;
         marks[k] = step != 0 && k % step == 0;
     }
@@ -372,21 +482,33 @@ static void measure_plans(size_t used)
     }
 }
 
-/* The report and its verdict, under budgets that are kept and that are not. */
+/* The report and its verdict, under budgets of which each alone is kept and is not, with the end of the window before
+ * and after the send times. */
 static void measure_report(void)
 {
-    for (int k = 0; k < 16; k++) {
+    for (int k = 0; k < 32; k++) {
         budget = (struct testkit_budget){k & 1 ? 0 : UINT64_MAX, k & 2 ? 0 : UINT64_MAX, k & 4 ? 0 : UINT64_MAX};
+        window_end = k & 16 ? 2 : 99;
         measure(call_report);
-        report = testkit_report(SHEET, 1, 2, budget);
+        report = testkit_report(SHEET, 1, window_end, budget);
         report.gtpu_error_indications = k & 8;
         measure(call_judge);
     }
 }
 
+/* An Error Indication that is counted. */
+static void measure_indication(void)
+{
+    static const uint8_t elements[12] = {16, 0, 0, 0, 9, 133, 0, 4, 10, 0, 0, 2};
+    memcpy(in, elements, sizeof elements);
+    in_length = sizeof elements;
+    message_type = 26;
+    measure(call_message);
+}
+
 static void measure_sheet(size_t used, size_t step)
 {
-    static const uint64_t new_sequences[] = {0, 1, 2, 2049, 2050, 4095, 4096, 9999};
+    static const uint64_t new_sequences[] = {0, 1, 2, 2049, 2050, 4095, 4096, 9999, UINT64_MAX - 1};
     set_sheet(used, step);
     for (size_t k = 0; k < sizeof new_sequences / sizeof *new_sequences; k++) {
         sequence = new_sequences[k];
@@ -400,6 +522,13 @@ static void measure_sheet(size_t used, size_t step)
         message_type = (uint8_t)type;
         measure(call_message);
     }
+    counts = (struct testkit_counts){used, UINT64_MAX, UINT64_MAX, UINT64_MAX};
+    measure_report();
+    for (sequence = 2; sequence <= 4; sequence += 2) {
+        in_length = testkit_build(4, src, dst, 1, 2, sequence, 4, in, sizeof in).bytes;
+        measure_packet();
+    }
+    measure_indication();
     marks[0] = 2;
     measure_report();
     measure(call_sent);
@@ -441,9 +570,24 @@ int main(void)
     measure_reflector(SESSIONS, SESSIONS);
     measure_reflector(2, 1);
     measure_reflector(0, 0);
+    measure_reflector_ends();
     for (size_t k = 0; k < CALLS; k++) {
-        printf("%-36s %5zu bytes of stack, %5zu said\n", rows[k].name, rows[k].used, rows[k].said);
+        const char *before = "; answers ";
+        printf("%-36s %5zu bytes of stack, %5zu said", rows[k].name, rows[k].used, rows[k].said);
+        for (unsigned number = 0; number < 256; number++) {
+            if (rows[k].met[number]) {
+                printf("%s%u", before, number);
+                before = " ";
+            }
+        }
+        printf("\n");
         if (rows[k].used > rows[k].said) {
+            status = EXIT_FAILURE;
+        }
+        if (rows[k].kinds != rows[k].kinds_due) {
+            fprintf(
+                stderr, "stack: %s: its answers said %llx, and must say %llx\n", rows[k].name,
+                (unsigned long long)rows[k].kinds, (unsigned long long)rows[k].kinds_due);
             status = EXIT_FAILURE;
         }
     }

@@ -3,41 +3,51 @@
  *
  * Build and link: firmware/install PREFIX puts this header, libtestkit.a and a pkg-config file under a prefix, and then
  *
+ *     export PKG_CONFIG_PATH=PREFIX/lib/pkgconfig      (where pkg-config does not search PREFIX by itself)
  *     cc -std=c99 program.c $(pkg-config --cflags --libs testkit) -o program
  *
  * Nothing else is linked: of the C library the archive asks for memory functions (memcpy, memmove, memset, memcmp) and
- * no more. It allocates nothing, calls no operating system, and has no variable of its own.
+ * no more. It allocates nothing, makes no system call, and has no variable of its own. Paths in this file are those of
+ * the repository.
  *
- * What is proved, what is checked, what is only said. Each call is proved to be what document 01 and the RFCs say; its
- * contract stands beside its code, in crates/testkit_packets, testkit_sheet and testkit_reflector. This header is not
- * proved. firmware/run, which is part of the gate, checks of it
- *   - each call and each struct that the archive has, with types and names in their order, against the proved source;
- *     struct testkit_sheet, struct testkit_table and the calls over them are the header's own, and are tried beside the
- *     archive's calls (firmware/answers.c);
- *   - each enumerator and the version against a constant of the proved source, and that none is left out;
+ * What is proved, what is checked, what is only said. Each call is proved to meet its contract, which stands beside its
+ * code in crates/testkit_packets, testkit_sheet and testkit_reflector. The contract is what document 01 (docs/SCOPE.md)
+ * and the RFCs say; testkit_version, testkit_record_sent_plan, testkit_record_received_tpdus and testkit_judge_report
+ * are not in document 01, and have contracts of our own. This header is not proved. firmware/run, which is part of the
+ * gate, checks the following:
+ *   - each call and each struct that the archive has, with types and names in their order, against the proved source.
+ *     struct testkit_sheet, struct testkit_table and the calls over them are the header's own: each of those calls is
+ *     declared as it is defined, and is tried beside the archive's call (firmware/answers.c);
+ *   - each enumerator and the version against a constant of the proved source, and that none is left out.
+ *     TESTKIT_ACCEPTED has no constant there, and must be 0;
+ *   - that a number in brackets behind a name is that name's, and that no name means two things;
  *   - each size, alignment and offset: the C compiler asserts those that C's rules give for the proved source. The
  *     archive does not tell how its structs are laid out, so a program calls it with a value of its own in each field
  *     of each struct, and compares every field of every answer (firmware/answers.c);
- *   - each figure of stack, how far the archive uses the red zone, and that it uses no other registers than are said
- *     here, against its machine code;
+ *   - each call's list of refusals: every number of the list is met, and no other is, on the inputs of a program that
+ *     is there to meet them (firmware/stack.c). The order of a list is not checked;
+ *   - that each call takes null for a buffer of length 0, as the archive is built today (firmware/answers.c);
+ *   - against the archive's machine code, each figure of stack, how deep the walk over elements goes, how far the red
+ *     zone is used, and that there are no other symbols, variables, registers and instructions than this header says;
  *   - each text of testkit_number_text against the card (.ci/card does this).
  * Every other sentence of a comment is checked by no machine.
  *
  * Lending. Every buffer is the caller's, before, during and after a call, and no call keeps a pointer. A buffer is lent
  * as a pointer and a length, where the length counts elements. The caller sees to it that
  *   - a pointer is not null, and is aligned for its type;
- *   - all the elements that the length counts may be read and, where the pointer is not to const, written, and have a
- *     value;
- *   - a buffer that a call may write overlaps no other buffer of that call, and nobody else touches a lent buffer
- *     meanwhile. A number that is lent by pointer, as testkit_generate its next sequence, is a buffer of one element.
- * Everything else is the call's to judge: no value, length or content is forbidden. A call reads and writes only what
- * it is lent; const buffers it does not write.
+ *   - all the elements that the length counts are initialised, to whatever value, and may be read and, where the
+ *     pointer is not to const, written;
+ *   - a buffer that a call may write overlaps no other buffer of that call: no echo is written over the packet that it
+ *     answers (`out` is neither `tpdu` nor `payload`);
+ *   - until the call returns, nobody else writes a lent buffer, or reads one that the call may write.
+ * A number that is lent by pointer, as testkit_generate is lent its next sequence, is a buffer of one element.
+ * Everything else is the call's to judge: no value, length or content is forbidden, but for a bool, which is 0 or 1
+ * (testkit_judge_report is handed some). A call reads and writes only what it is lent, and writes no const buffer.
  *
  * What no call can detect. A null or wild pointer, or a length past the end of a buffer, is a wrong memory access: the
  * program stops, or other memory is read or changed. Where a buffer that is written overlaps another one, answer and
- * bytes are those of no contract: what is read may be what was just written. Null with length 0 is promised at no
- * call. As the archive is built today a buffer of length 0 is not touched, and firmware/answers.c finds that each call
- * answers with null there as it must. Addresses and the next sequence have no length: null is never right for them.
+ * bytes are those of no contract: what is read may be what was just written. No call promises to take null with length
+ * 0, though today each does. Addresses and the next sequence have no length: null is never right for them.
  *
  * Byte order. Ports, TEIDs, sequences, times and lengths are numbers of the machine, in host order; addresses and
  * packets are bytes in the order that they have on the wire. So, of a struct sockaddr_in `in` and a GTP-U header:
@@ -48,38 +58,43 @@
  *     message.teid = ntohl(teid_of_the_header);
  *
  * and back with htons and htonl. Of an IPv4 address the first 4 bytes count and the other 12 do not. testkit_decode,
- * which makes addresses, leaves those 12 at 0; an address that the caller lends (a session's, a route target's, a
- * source) comes back with all 16 bytes as they were lent.
+ * which makes addresses, leaves those 12 at 0; an address that the caller hands in (a session's, a route target's, a
+ * source) comes back with all 16 bytes as they were.
  *
  * State. A call has no state of its own: what it is to remember stands in the caller's buffers, and in records that go
- * in by value and come back changed. The calls over struct testkit_sheet and struct testkit_table store those
- * themselves; who uses the calls with single arguments stores them, after refusals too.
+ * in by value and come back changed. The calls over struct testkit_sheet and struct testkit_table store those records
+ * themselves; a caller of the calls with single arguments stores them, after refusals too.
  *
  * Answers. `number` is TESTKIT_ACCEPTED (0) or says why the call refused: enum testkit_number, testkit_number_text for
  * its cause in words, and docs/CARD.md for what to do about it. Of several causes it names the first in the order that
- * is given at the call. A call that refuses leaves every lent byte and every count as it was, but for two:
+ * is given at the call. A call that refuses leaves every lent byte and every count as it was, with two exceptions:
  * testkit_generate (the next sequence) and testkit_handle_datagram (counts). testkit_record_received_tpdus answers for
- * each return by itself: where one is refused, the others are entered. On success, output bytes past the answer stay.
+ * each return by itself: where one is refused, the others are still tried. On success, output bytes past the answer
+ * stay as they were.
  *
  * Time. Every call ends; none waits. How long it takes, up to a constant:
  *   - checksums, reading, echo and the walk over elements: the bytes that they are lent, or fewer;
  *   - testkit_generate: the bytes that it writes;
  *   - each call on a run sheet scans all used rows for TESTKIT_MALFORMED_OBSERVER (21) once, up to 2,048. Then a row is
- *     found by halving. A new sequence moves every row above it by one: nothing where sequences rise, all rows where
- *     they fall. A first return looks through the marks above its row. So a plan or a list takes one scan, and each of
- *     its packets the rest; single calls take a scan each;
- *   - each call on a session table searches the used rows one after the other, up to 4,096, whatever the message is;
- *   - the report: the used rows. The verdict and the version: nothing that grows.
+ *     found by binary search. A new sequence moves every row above it by one: none where sequences rise, all where they
+ *     fall. A first return looks through the marks above its row. So a plan or a list takes one scan in all, and the
+ *     rest for each of its packets; single calls take a scan each. A return, single or in a list, also takes the bytes
+ *     of its T-PDU or elements;
+ *   - each call on a session table searches the used rows one after the other, up to 4,096, whatever the message is. A
+ *     G-PDU that is echoed also takes its payload's bytes;
+ *   - the report: the used rows;
+ *   - testkit_build, the verdict and the version: nothing that grows.
  * Times that are handed in are in nanoseconds since whatever moment the caller chose.
  *
  * Threads, signals, interrupts. Calls on different buffers may run at the same time, also one that interrupts another.
- * The archive is ordinary x86-64 user code: it uses the general registers, the flags and %xmm0 to %xmm15 (SSE2), and no
- * other vector, mask, MMX, x87 or segment register; and it uses the red zone, the 128 bytes below the stack pointer
- * (the figures of stack count them). A Unix signal handler needs no care: the kernel keeps both. An interrupt that is
- * taken on the interrupted stack destroys the red zone, since the processor itself pushes there: where calls run with
- * such interrupts open, as in a kernel or on bare metal, give the interrupts a stack of their own. A handler that makes
- * calls itself saves the %xmm registers first and restores them afterwards, and code that runs without them (-mno-sse)
- * must switch them on.
+ * The archive is ordinary x86-64 user code. It uses the general registers, the flags and %xmm0 to %xmm15, no other
+ * vector, mask, MMX, x87 or segment register, and no instruction beyond SSE2, which every x86-64 processor has. It uses
+ * the red zone, the 128 bytes below the stack pointer (the figures of stack count them). A Unix signal handler needs no
+ * care: the kernel saves the registers and keeps off the red zone. An interrupt that is taken on the interrupted stack
+ * destroys the red zone, since the processor itself pushes there: where calls run with such interrupts open, as in a
+ * kernel or on bare metal, give the interrupts a stack of their own. A handler that makes calls itself saves the %xmm
+ * registers first and restores them afterwards; and where the program is built without them (-mno-sse), SSE must be
+ * enabled before a call.
  */
 #ifndef TESTKIT_H
 #define TESTKIT_H
@@ -88,7 +103,11 @@
 #include <stddef.h>
 #include <stdint.h>
 
-/* The version of this header. testkit_version gives that of the archive. */
+/*
+ * The version of this header; testkit_version gives that of the archive. Header and archive must be of one version, all
+ * three parts alike. From one version to the next, MAJOR rises where a program may have to be changed; otherwise MINOR,
+ * where something was added (a call, a number, a field) and a program need only be compiled again; otherwise PATCH.
+ */
 #define TESTKIT_VERSION_MAJOR 1
 #define TESTKIT_VERSION_MINOR 0
 #define TESTKIT_VERSION_PATCH 0
@@ -106,10 +125,10 @@ enum {
     TESTKIT_MAXIMUM_PACKETS = 2048,  /* packets in a plan */
     TESTKIT_MAXIMUM_ROWS = 2048,     /* rows of a run sheet: elements past these are never used */
     TESTKIT_MAXIMUM_SESSIONS = 4096, /* sessions of a reflector */
-    TESTKIT_REFLECTOR_BYTES = 72     /* the output that a message is handled with */
+    TESTKIT_REFLECTOR_BYTES = 72     /* the least `out` of testkit_handle_datagram */
 };
 
-/* The GTP-U messages that some call knows. */
+/* The types of GTP-U messages that the calls know. */
 enum testkit_message_type {
     TESTKIT_GTPU_MSG_ECHO_REQUEST = 1,
     TESTKIT_GTPU_MSG_ECHO_RESPONSE = 2,
@@ -211,11 +230,12 @@ static inline const char *testkit_number_text(uint8_t number)
 /*
  * The most stack that a call can use, in bytes: its return address, and below that the frames of the call and of all
  * that it calls, and the red zone where it is used. What the caller itself puts on its stack, arguments and the place
- * for the answer among it, comes on top. Read off the archive's machine code, over every path through it
- * (firmware/frames.awk); firmware/run fails where a figure is not what it finds, and measures that no call uses more
- * (firmware/stack.c). A memory function is taken to use TESTKIT_STACK_MEMORY_FUNCTION bytes, its return address
- * included: where yours uses more, add the difference. No call recurses but for the walk over elements, at most 16 deep
- * by a constant of the proved source.
+ * for the answer among them, comes on top; so does the frame of a testkit_sheet_ or testkit_table_ call, which is
+ * compiled into the caller. Read off the archive's machine code, over every path through it (firmware/frames.awk);
+ * firmware/run fails where a figure is not what it finds, and measures that no call uses more (firmware/stack.c). A
+ * memory function is taken to use TESTKIT_STACK_MEMORY_FUNCTION bytes, its return address included: where yours uses
+ * more, add the difference. No call recurses but for the walk over elements, at most 16 deep by a constant of the
+ * proved source.
  */
 enum testkit_stack {
     TESTKIT_STACK_MEMORY_FUNCTION = 64,
@@ -240,15 +260,15 @@ enum testkit_stack {
     TESTKIT_STACK_HANDLE_DATAGRAM = 776
 };
 
-/* The version of the archive: TESTKIT_VERSION, where header and archive are of one version. */
+/* The version of the archive. A program compares it with TESTKIT_VERSION when it starts. */
 uint32_t testkit_version(void);
 
 /* ---- Checksum (RFC 1071) ---- */
 
 /*
  * The ones' complement sum of `start` and the big-endian 16-bit words of the bytes, an odd last byte being the high
- * half of a word. Of any length. A sum may be taken in parts: the sum of one part is the start of the next, where each
- * part but the last has an even length.
+ * half of a word. Any length will do. A sum may be taken in parts: the sum of one part is the start of the next, where
+ * each part but the last has an even length.
  */
 uint16_t testkit_sum(uint16_t start, const uint8_t *bytes, size_t bytes_length);
 
@@ -320,7 +340,8 @@ struct testkit_tpdu testkit_decode(const uint8_t *tpdu, size_t tpdu_length, uint
 
 /* ---- Generator ---- */
 
-/* A plan of packets. Packet k, from 0, is sent at first_send_timestamp_ns + k * (1000000000 / target_rate_pps). */
+/* A plan of packets. Packet k, from 0, is sent at first_send_timestamp_ns + k * (1000000000 / target_rate_pps), where
+ * the division rounds down. */
 struct testkit_plan {
     uint64_t packet_count;    /* at most TESTKIT_MAXIMUM_PACKETS; 0 asks for none */
     uint64_t target_rate_pps; /* packets per second, 1 to 1000000000 */
@@ -333,12 +354,12 @@ struct testkit_plan {
  *   next_sequence       the caller's own record of the sequence that comes next, changed in place. Lend the same place
  *                       for the next plan, also after a refusal, and never restore an older copy. Sequence UINT64_MAX
  *                       is never sent
- *   out                 packet_count * 52 bytes (IPv4) or packet_count * 72 (IPv6): for every plan, 147456
+ *   out                 packet_count * 52 bytes (IPv4) or packet_count * 72 (IPv6); 147456 are enough for every plan
  * On success *next_sequence rises by packet_count. Refuses by TESTKIT_TARGET_RATE_IS_ZERO (16),
  * TESTKIT_TARGET_RATE_EXCEEDS_RESOLUTION (17), TESTKIT_TOO_MANY_PACKETS (18); then by TESTKIT_SEQUENCE_OVERFLOW (19)
  * before TESTKIT_SEND_TIMESTAMP_OVERFLOW (20) at the first packet that either stops; then by TESTKIT_OUTPUT_TOO_SHORT
  * (15). TESTKIT_SEQUENCE_OVERFLOW (19) at packet k leaves *next_sequence k higher, TESTKIT_SEND_TIMESTAMP_OVERFLOW (20)
- * k + 1 higher; every other refusal leaves it as it was. `out` stays.
+ * k + 1 higher; every other refusal leaves it as it was. A refusal leaves `out` as it was.
  */
 struct testkit_written testkit_generate(
     uint8_t version,
@@ -354,20 +375,22 @@ struct testkit_written testkit_generate(
 
 /*
  * Judges the elements of an Error Indication: the message's payload, after its GTP-U header. 0, or the number of a
- * refusal: TESTKIT_TRUNCATED_ELEMENT (25), TESTKIT_INVALID_PEER_ADDRESS_LENGTH (26) or
- * TESTKIT_UNSUPPORTED_FIXED_LENGTH_ELEMENT (27) at the first element that has a cause; else TESTKIT_MISSING_TEID_DATA_I
- * (28), then TESTKIT_MISSING_PEER_ADDRESS (29). The stack does not grow with the list.
+ * refusal, at the first element that has a cause: TESTKIT_UNSUPPORTED_FIXED_LENGTH_ELEMENT (27);
+ * TESTKIT_TRUNCATED_ELEMENT (25) where the payload ends before or within its length; then
+ * TESTKIT_INVALID_PEER_ADDRESS_LENGTH (26), also where the value is cut; then TESTKIT_TRUNCATED_ELEMENT (25) where the
+ * value is cut. Else TESTKIT_MISSING_TEID_DATA_I (28), then TESTKIT_MISSING_PEER_ADDRESS (29). The stack does not grow
+ * with the list.
  */
 uint8_t testkit_validate_elements(const uint8_t *payload, size_t payload_length);
 
 /* ---- Run sheet ---- */
 
-/* Beside the columns of a run sheet. Fresh: all 0. */
+/* Beside the columns of a run sheet. Fresh: all 0. A counter that has reached UINT64_MAX stays there. */
 struct testkit_counts {
-    size_t used; /* rows in use, from the front */
-    uint64_t duplicate_packets;
-    uint64_t out_of_order_packets;
-    uint64_t gtpu_error_indications; /* these three stay at their top once there */
+    size_t used;                   /* rows in use, from the front */
+    uint64_t duplicate_packets;    /* returns after the first of a sequence */
+    uint64_t out_of_order_packets; /* first returns below a sequence that had returned */
+    uint64_t gtpu_error_indications;
 };
 
 /*
@@ -418,30 +441,34 @@ struct testkit_datagram_recorded {
 /* What a run may lose, at most. */
 struct testkit_budget {
     uint64_t max_lost_packets;
-    uint64_t max_consecutive_lost_packets; /* in one run of rows that did not return */
-    uint64_t outage_budget_ns;             /* how long such a run may last */
+    uint64_t max_consecutive_lost_packets; /* in one run of losses: rows, one after the other, that did not return */
+    uint64_t outage_budget_ns;             /* how long one run of losses, an outage, may last */
 };
 
-/* 0 and the report; or a refusal's number and zeros. */
+/*
+ * 0 and the report; or a refusal's number and zeros. An outage lasts from the send time of the first row of a run of
+ * losses to the send time of the returned row behind it, else to window_end_ns; never below 0.
+ */
 struct testkit_continuity_report {
     uint8_t number;
     uint64_t window_start_ns; /* as handed in */
     uint64_t window_end_ns;
     uint64_t sent_packets;
-    uint64_t received_packets;
-    uint64_t lost_packets; /* sent less received */
+    uint64_t received_packets; /* sent packets that returned, each once */
+    uint64_t lost_packets;     /* sent less received */
     uint64_t duplicate_packets;
     uint64_t out_of_order_packets;
     uint64_t gtpu_error_indications;
-    uint64_t max_consecutive_lost_packets; /* the longest run of rows that did not return */
-    uint64_t max_gap_duration_ns;          /* the longest time that a run lasted; perhaps another run */
+    uint64_t max_consecutive_lost_packets; /* the longest run of losses, by count */
+    uint64_t max_gap_duration_ns;          /* the longest outage; perhaps of another run of losses */
     bool has_latency;                      /* false where nothing returned, and then the three are 0 */
     uint64_t min_ns;
     uint64_t max_ns;
     uint64_t avg_ns;               /* rounded down */
     struct testkit_budget budget;  /* as handed in */
     bool forwarding_proven;        /* something returned */
-    bool packet_continuity_proven; /* lost, longest run and longest time within budget, and no Error Indication */
+    bool packet_continuity_proven; /* losses, longest run of losses and longest outage within budget, and no Error
+                                      Indication */
 };
 
 /* The verdict on a report: pass, or the first reason against it. */
@@ -449,7 +476,7 @@ enum testkit_verdict_reason {
     TESTKIT_VERDICT_PASS = 0,
     TESTKIT_VERDICT_NOTHING_RETURNED = 1,
     TESTKIT_VERDICT_TOO_MANY_LOST = 2,
-    TESTKIT_VERDICT_TOO_MANY_IN_A_ROW = 3,
+    TESTKIT_VERDICT_TOO_MANY_IN_A_ROW = 3, /* a run of losses */
     TESTKIT_VERDICT_OUTAGE_TOO_LONG = 4,
     TESTKIT_VERDICT_ERROR_INDICATED = 5,
     TESTKIT_VERDICT_NO_REPORT = 6 /* the report's number is not 0 */
@@ -464,7 +491,7 @@ struct testkit_verdict {
 
 /*
  * The calls over a sheet. Each is the call of the same name below, without `sheet_`, on the sheet's columns and counts:
- * it answers and refuses as that one does. Those that are lent the sheet to write store the answer's counts in it.
+ * it answers and refuses as that one does. All but testkit_sheet_report store the answer's counts in the sheet.
  */
 static inline struct testkit_recorded testkit_sheet_record_sent(
     struct testkit_sheet *sheet, uint64_t sequence, uint64_t send_timestamp_ns);
@@ -493,17 +520,17 @@ static inline struct testkit_continuity_report testkit_sheet_report(
  * that holds of its figures, or TESTKIT_VERDICT_PASS. The report's own budget, forwarding_proven and
  * packet_continuity_proven are not looked at. Beside TOO_MANY_LOST, TOO_MANY_IN_A_ROW and OUTAGE_TOO_LONG stand the
  * report's number and the budget's, beside ERROR_INDICATED the number of Error Indications and 0. The report's bools
- * must be 0 or 1, as a bool of C is.
+ * must be 0 or 1, as a bool of C is: see to it where a report comes from storage or from another machine.
  */
 struct testkit_verdict testkit_judge_report(struct testkit_continuity_report report, struct testkit_budget budget);
 
 /*
- * The calls with single arguments: the four columns, each with its length, and the counts, which go in by value.
- * The caller stores the answer's counts, on refusals too. The columns may differ in length: the shortest decides how
- * many rows there are, and at most TESTKIT_MAXIMUM_ROWS.
+ * The calls with single arguments: the four columns, each with its length, and the counts, which go in by value. The
+ * caller stores the answer's counts, on refusals too. The columns may differ in length: there are as many rows as the
+ * shortest has elements, and at most TESTKIT_MAXIMUM_ROWS.
  *
  * Every call refuses first by TESTKIT_MALFORMED_OBSERVER (21): the used count is above the number of rows, the
- * sequences of the used rows do not rise, or one of their marks is not 0 or 1. No call leaves a sheet so.
+ * sequences of the used rows do not rise, or one of their marks is not 0 or 1. No call leaves a sheet in that state.
  */
 
 /*
@@ -526,8 +553,8 @@ struct testkit_recorded testkit_record_sent(
  *   next_sequence the sequence of the plan's first packet: the value that *next_sequence had before testkit_generate
  *                 made these packets, and not the value that it has afterwards, which is that of the next plan
  * Refuses by TESTKIT_MALFORMED_OBSERVER (21), also where packet_count is 0; then by TESTKIT_TARGET_RATE_IS_ZERO (16) to
- * TESTKIT_SEND_TIMESTAMP_OVERFLOW (20) as testkit_generate; then by TESTKIT_OBSERVER_FULL (22), which is due only where
- * more of the plan's sequences are not on the sheet than rows are free. A refused plan leaves the sheet.
+ * TESTKIT_SEND_TIMESTAMP_OVERFLOW (20), in the order of testkit_generate; then by TESTKIT_OBSERVER_FULL (22), which is
+ * due only where more of the plan's sequences are new than rows are free. A refused plan leaves the sheet as it was.
  */
 struct testkit_recorded testkit_record_sent_plan(
     uint64_t *sequences, size_t sequences_length,
@@ -539,7 +566,7 @@ struct testkit_recorded testkit_record_sent_plan(
     uint64_t next_sequence);
 
 /*
- * Enters a packet that came back as a T-PDU, at a time. A second return of a sequence is taken and only counted.
+ * Enters a packet that came back as a T-PDU at `return_timestamp_ns`. A second return of a sequence is only counted.
  * Refuses by TESTKIT_MALFORMED_OBSERVER (21); then as testkit_decode; then by TESTKIT_SEQUENCE_WAS_NOT_SENT (23),
  * TESTKIT_TIMESTAMP_REVERSED (24).
  */
@@ -560,13 +587,12 @@ struct testkit_recorded testkit_record_received_tpdu(
  *                      those behind it are empty; no byte past the end is read, whatever the lengths add up to. Each is
  *                      judged as testkit_decode judges those bytes: an empty one by TESTKIT_TRUNCATED_IP_HEADER (1), a
  *                      cut one by what is then wrong with it. Where the lengths end first, the bytes behind are ignored
- *   returned           gets the sequence that each T-PDU reads as, or 0
+ *   returned           gets the sequence that each T-PDU reads as, or 0 where testkit_decode refuses it
  *   numbers            gets each return's answer, 0 or a refusal's number
  * There are as many returns as the shortest of `return_timestamps`, `lengths`, `returned` and `numbers` has elements. A
- * return that is refused changes no more than its elements of `returned` and `numbers`, and those behind it are tried
- * all the same.
- * Refuses the whole list by TESTKIT_MALFORMED_OBSERVER (21) alone, an empty list too, and then writes nothing,
- * `returned` and `numbers` included.
+ * return that is refused changes only its elements of `returned` and `numbers`, and those behind it are still tried.
+ * Refuses the whole list by TESTKIT_MALFORMED_OBSERVER (21) alone, an empty list too, and then writes nothing, not even
+ * `returned` and `numbers`. Each return is refused as testkit_record_received_tpdu.
  */
 struct testkit_returns_recorded testkit_record_received_tpdus(
     const uint64_t *sequences, size_t sequences_length,
@@ -581,9 +607,10 @@ struct testkit_returns_recorded testkit_record_received_tpdus(
     uint8_t *numbers, size_t numbers_length);
 
 /*
- * Enters a GTP-U message that came back, at a time: its type, and its payload after the GTP-U header, which the caller
- * has parsed. A G-PDU carries a T-PDU; an Error Indication is counted if its elements are right; an Echo Response is
- * noticed; an End Marker and a Supported Extension Headers Notification are ignored.
+ * Enters a GTP-U message that came back at `return_timestamp_ns`: its type, and its payload after the GTP-U header,
+ * which the caller has parsed. A G-PDU carries a T-PDU; an Error Indication is counted if its elements are right; an
+ * Echo Response, an End Marker and a Supported Extension Headers Notification change nothing. TEID and source are not
+ * looked at: whether a message belongs to this run is the caller's to know.
  * Refuses by TESTKIT_MALFORMED_OBSERVER (21); then a G-PDU as testkit_record_received_tpdu, an Error Indication as
  * testkit_validate_elements, other types, an Echo Request among them, by TESTKIT_UNSUPPORTED_MESSAGE_TYPE (37).
  */
@@ -600,7 +627,7 @@ struct testkit_datagram_recorded testkit_record_return_gtpu_datagram(
 /*
  * The report of a run sheet.
  *   window_start_ns    copied into the report, and used for nothing else
- *   window_end_ns      where a run of losses ends that no return ended
+ *   window_end_ns      when an outage ends that no return ended: the time at which the caller stopped waiting
  *   budget             what the report's packet_continuity_proven is about
  * Refuses by TESTKIT_MALFORMED_OBSERVER (21).
  */
@@ -642,12 +669,13 @@ struct testkit_reflector_config {
     uint8_t recovery_counter;          /* for Echo Responses */
     uint8_t policy;                    /* enum testkit_policy */
     struct testkit_socket_addr target; /* where G-PDUs are routed to; under another policy it does not count */
-    uint32_t target_teid;
+    uint32_t target_teid;              /* neither is judged: a port or TEID of 0 is handed on */
 };
 
-/* What changes from message to message. Fresh: all counts 0, next_error_sequence 1. */
+/* What changes from message to message. Fresh: all counts 0, next_error_sequence 1. A count that has reached UINT64_MAX
+ * stays there. */
 struct testkit_reflector_state {
-    uint64_t gpdu_received; /* the six counts stay at their top once there */
+    uint64_t gpdu_received; /* of known TEIDs */
     uint64_t gpdu_forwarded;
     uint64_t gpdu_sunk;
     uint64_t echo_requests_answered;
@@ -668,16 +696,16 @@ struct testkit_table {
     struct testkit_reflector_state state;
 };
 
-/* 0 and whether the session was added, which it is not where the same record is there; or a refusal's number. Both with
- * the used count. */
+/* 0 and whether the session was added, or else the same record was there; or a refusal's number and false. In both
+ * cases the used count. */
 struct testkit_registered {
     uint8_t number;
     bool added;
     size_t used;
 };
 
-/* 0, whether a session was removed, and that session or zeros; or a refusal's number and zeros. Both with the used
- * count. */
+/* 0, whether a session was removed, and that session or zeros; or a refusal's number, false and zeros. In both cases
+ * the used count. */
 struct testkit_removed {
     uint8_t number;
     bool removed;
@@ -689,7 +717,8 @@ struct testkit_removed {
 struct testkit_gtpu_message {
     uint8_t message_type; /* enum testkit_message_type, or another */
     uint32_t teid;
-    uint8_t has_sequence; /* 0: none; every other number: `sequence`. In an answer 0 or 1 */
+    uint8_t has_sequence; /* 0: none; every other number: `sequence`. In an answer 0 or 1. It is no bool, since the
+                             caller hands it in and no number is forbidden */
     uint16_t sequence;
 };
 
@@ -717,12 +746,13 @@ enum testkit_send_reason {
  * zeros, and `message` zeros. */
 struct testkit_handled {
     uint8_t number;
-    uint8_t action; /* enum testkit_action */
-    uint8_t reason; /* enum testkit_noop_reason or testkit_send_reason, by the action; 0 on a refusal */
-    size_t bytes;   /* the payload to send, at the front of `out`; 0 for a routed G-PDU, which is sent with the payload
-                       as it came */
+    uint8_t action;      /* enum testkit_action */
+    uint8_t noop_reason; /* enum testkit_noop_reason where the action is TESTKIT_ACTION_NOOP, else 0 */
+    uint8_t send_reason; /* enum testkit_send_reason where the action is TESTKIT_ACTION_SEND, else 0 */
+    size_t bytes;        /* the payload to send, at the front of `out`; 0 for a routed G-PDU, which is sent with the
+                            payload as it came */
     struct testkit_socket_addr destination; /* its version is 4 or 6 */
-    struct testkit_gtpu_message message; /* the header of the message to send */
+    struct testkit_gtpu_message message;    /* the header of the message to send */
     struct testkit_reflector_state state;
 };
 
@@ -741,12 +771,12 @@ static inline struct testkit_handled testkit_table_handle_datagram(
     uint8_t *out, size_t out_length);
 
 /*
- * The calls with single arguments: the rows with their length, the used count and the maximum, and the state,
- * which goes in by value. The caller stores the answer's used count or state, on refusals too.
+ * The calls with single arguments: the rows with their length, the used count and the maximum, and the state, which
+ * goes in by value. The caller stores the answer's used count or state, on refusals too.
  *
  * Every call refuses first by TESTKIT_INVALID_REFLECTOR_CAPACITY (30), where the maximum is 0 or above
  * TESTKIT_MAXIMUM_SESSIONS; then by TESTKIT_MALFORMED_REFLECTOR_TABLE (31), where the used count is above the maximum
- * or the table has fewer rows than it.
+ * or the table has fewer rows than the maximum.
  */
 
 /*
@@ -773,15 +803,15 @@ struct testkit_removed testkit_remove_session(
 
 /*
  * Handles a GTP-U message from `source`, with its payload after the header. A G-PDU of a known TEID is echoed, sunk or
- * routed, of an unknown one answered by an Error Indication; an Echo Request is answered by an Echo Response; of Echo
- * Responses, Error Indications, End Markers and Supported Extension Headers Notifications nothing comes. `out` gets the
- * payload to send; it must have TESTKIT_REFLECTOR_BYTES. On a refusal, and where nothing is sent or a G-PDU is routed,
- * it stays as it was.
+ * routed, of an unknown one answered by an Error Indication; an Echo Request is answered by an Echo Response; nothing
+ * is sent for Echo Responses, Error Indications, End Markers and Supported Extension Headers Notifications. `out` gets
+ * the payload to send; it must have at least TESTKIT_REFLECTOR_BYTES, whatever the message is. On a refusal, and where
+ * nothing is sent or a G-PDU is routed, it stays as it was.
  * Refuses by TESTKIT_INVALID_REFLECTOR_CAPACITY (30), TESTKIT_MALFORMED_REFLECTOR_TABLE (31), TESTKIT_OUTPUT_TOO_SHORT
- * (15); these leave the state. Then a G-PDU under TESTKIT_POLICY_ECHO is refused as by testkit_decode, and
- * gpdu_received has risen; an Echo Request by TESTKIT_ECHO_REQUEST_TEID_NOT_ZERO (35),
- * TESTKIT_ECHO_REQUEST_MISSING_SEQUENCE (36), and other types by TESTKIT_UNSUPPORTED_MESSAGE_TYPE (37), and
- * malformed_rejected has risen.
+ * (15); these leave the state as it was. Then, under TESTKIT_POLICY_ECHO, a G-PDU of a known TEID is refused as
+ * testkit_decode refuses its payload, and gpdu_received has risen. An Echo Request is refused by
+ * TESTKIT_ECHO_REQUEST_TEID_NOT_ZERO (35), TESTKIT_ECHO_REQUEST_MISSING_SEQUENCE (36), and a message of another type by
+ * TESTKIT_UNSUPPORTED_MESSAGE_TYPE (37); there malformed_rejected has risen.
  */
 struct testkit_handled testkit_handle_datagram(
     const struct testkit_reflector_session *sessions, size_t sessions_length,

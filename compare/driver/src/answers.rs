@@ -22,9 +22,9 @@ const G_PDU: u8 = 255;
 /// A number that the Rust gave, if it refused, and the number that is due.
 type Refusal = (Option<u8>, u8);
 
-/// Each number that the Rust has, at least once, and none of those that it has not.
+/// Each number that the Rust has, at least once, and none of those that it does not have.
 pub fn refusals() -> Part {
-    let mut part = Part::new("refusals of the Rust", "refusals");
+    let mut part = Part::new("refusals");
     let mut seen = BTreeSet::new();
     let rows = [
         reading_refuses(),
@@ -36,8 +36,7 @@ pub fn refusals() -> Part {
         part.case(&[], answer, Some(number));
         seen.insert(number);
     }
-    let numbers = CARD.filter(|number| !NOT_IN_THE_RUST.contains(number));
-    part.case(&[], seen, numbers.collect());
+    part.case(&[], seen, of_the_rust());
     part
 }
 
@@ -161,7 +160,7 @@ fn reflector_refuses() -> Vec<Refusal> {
 
 /// Each thing that the Rust does when it does not refuse, once, and the state that it leaves.
 pub fn actions() -> Part {
-    let mut part = Part::new("actions of the Rust", "actions");
+    let mut part = Part::new("actions");
     generator_acts(&mut part);
     observer_acts(&mut part);
     table_changes(&mut part);
@@ -178,7 +177,7 @@ fn generator_acts(part: &mut Part) {
     let packet = packets.expect("a plan that is in order").pop();
     let expected = GeneratedPacket {
         sequence: probe.sequence,
-        send_timestamp_ns: probe.send_time,
+        send_timestamp_ns: probe.send_timestamp_ns,
         tpdu: build(probe),
     };
     part.case(&[], (packet, next_sequence), (Some(expected), 9));

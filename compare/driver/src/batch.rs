@@ -1,8 +1,7 @@
 //! Our batch calls against single calls in a loop, the Rust's and ours: the packets of a plan, all or
 //! none, and lists of returns. The Rust has no batch calls.
 
-use std::iter;
-
+use crate::compared::{as_the_rust_tells, compared, Answer};
 use crate::numbers::*;
 use crate::observer::{any_call, any_contents, any_rows, malformed_sheet, time_near, Call, Pair};
 use crate::ours_traffic::RunSheet;
@@ -20,7 +19,7 @@ type Plan = (Probe, u64, u64);
 
 /// Plans entered and lists of returns taken, on sheets in any state.
 pub fn batches(seed: u64, rounds: u64) -> Part {
-    let mut part = Part::new("run sheet, batches", "batch calls and reports");
+    let mut part = Part::new("batch calls and reports");
     let mut seen = Seen::default();
     let mut random = Random::new(seed);
     for rows in [2, 48, MOST_ROWS] {
@@ -38,13 +37,7 @@ pub fn batches(seed: u64, rounds: u64) -> Part {
         }
         pair.reports(&mut part, &mut random);
     }
-    seen.require(
-        &mut part,
-        iter::once(0)
-            .chain(READING)
-            .chain(TARGET_RATE_IS_ZERO..=SEND_TIMESTAMP_OVERFLOW)
-            .chain(OBSERVER_FULL..=TIMESTAMP_REVERSED),
-    );
+    seen.require(&mut part, answers(&[READING, PLANNING, OBSERVING]));
     part
 }
 
@@ -52,7 +45,7 @@ pub fn batches(seed: u64, rounds: u64) -> Part {
 /// list of returns, an empty one too, is refused by 21. The sheet is left, and so are the two columns
 /// that are lent for the list.
 pub fn malformed_batches(seed: u64, rounds: u64) -> Part {
-    let mut part = Part::new("run sheet, malformed, batches", "batch calls");
+    let mut part = Part::new("batch calls");
     let mut random = Random::new(seed);
     for round in 0..rounds / 10 {
         let (contents, sheet) = malformed_sheet(&mut random, round);
@@ -73,7 +66,7 @@ pub fn malformed_batches(seed: u64, rounds: u64) -> Part {
 }
 
 fn send(sheet: &mut RunSheet, (first, count, rate): Plan) -> u8 {
-    sheet.record_sent_plan(count, rate, first.send_time, first.sequence)
+    sheet.record_sent_plan(count, rate, first.send_timestamp_ns, first.sequence)
 }
 
 /// A plan near the rows of a sheet, near the tops, or anywhere; now and then with a count or a rate
@@ -105,7 +98,7 @@ fn any_plan(random: &mut Random, contents: &Sheet, rows: usize) -> Plan {
             row.sequence.saturating_sub(before).saturating_add(after)
         }
     };
-    first.send_time = match random.below(8) {
+    first.send_timestamp_ns = match random.below(8) {
         0 => near_top(random, 1_000_000_000 / rate.max(1)),
         1 => random.number(),
         _ => random.length(1 << 20) as u64,
@@ -137,26 +130,26 @@ fn enter(part: &mut Part, seen: &mut Seen, pair: &mut Pair, plan: Plan) -> u8 {
             for packet in packets {
                 let call = Call::Sent {
                     sequence: packet.sequence,
-                    send_time: packet.send_timestamp_ns,
+                    send_timestamp_ns: packet.send_timestamp_ns,
                 };
-                pair.due_answer(&mut Seen::default(), &call);
+                pair.due_answer(&call);
             }
             0
         }
     };
-    seen.add(number);
     let mut ours = pair.ours.clone();
     let answer = send(&mut ours, plan);
+    seen.add(answer);
     let due = pair.due();
     let differences = (difference(&ours, &due), difference(&ours, &singly));
-    part.case(&[], (answer, differences), (number, (None, None)));
+    part.case(&[], (answer.told(), differences), (number, (None, None)));
     pair.ours = due;
     answer
 }
 
-/// Plans that just fit and that do not, on a fresh sheet of so many rows: half of it, then all of it,
-/// of which half is there; one sequence further, for which no row is free; all of it once more, which
-/// needs no row; and counts that no plan may have.
+/// Plans that just fit and that do not, on a fresh sheet of `rows` rows: one for half of them; one for
+/// all, of which half are entered; one that goes a sequence further, for which no row is free; the
+/// second again, which needs no row; and counts that no plan may have.
 fn fit(part: &mut Part, seen: &mut Seen, random: &mut Random, rows: usize) {
     let mut pair = Pair::new(fresh(random, rows), Sheet::default());
     let all = rows as u64;
@@ -171,7 +164,7 @@ fn fit(part: &mut Part, seen: &mut Seen, random: &mut Random, rows: usize) {
     for (sequence, count, number) in plans {
         let mut first = any_probe(random);
         first.sequence = sequence;
-        first.send_time = random.length(1 << 20) as u64;
+        first.send_timestamp_ns = random.length(1 << 20) as u64;
         let answer = enter(part, seen, &mut pair, (first, count, 1_000));
         part.case(&[], answer, number);
     }
@@ -187,7 +180,9 @@ fn any_returns(random: &mut Random, contents: &Sheet, rows: usize) -> Returns {
         match any_call(random, &contents.rows, 0, rows) {
             Call::Tpdu { time, tpdu } => returns.push((time, tpdu)),
             Call::Message { time, payload, .. } => returns.push((time, payload)),
-            Call::Sent { send_time, .. } => returns.push((time_near(random, send_time), vec![])),
+            Call::Sent {
+                send_timestamp_ns, ..
+            } => returns.push((time_near(random, send_timestamp_ns), vec![])),
         }
     }
     returns
@@ -237,14 +232,24 @@ impl Due {
         due
     }
 
-    /// Takes the list on our sheet and compares every column.
-    fn compare(&self, part: &mut Part, mut ours: RunSheet, due: &RunSheet, returns: &Returns) {
+    /// Takes the list on our sheet and compares every column. The numbers that ours wrote.
+    fn compare(
+        &self,
+        part: &mut Part,
+        mut ours: RunSheet,
+        due: &RunSheet,
+        returns: &Returns,
+    ) -> Vec<u8> {
         let times: Vec<u64> = returns.iter().map(|(time, _)| *time).collect();
         let lengths: Vec<usize> = returns.iter().map(|(_, tpdu)| tpdu.len()).collect();
         let tpdus: Vec<u8> = returns.iter().flat_map(|(_, tpdu)| tpdu.clone()).collect();
         let (mut returned, mut numbers) = self.before.clone();
         let answer =
             ours.record_received_tpdus(&times, &lengths, &tpdus, &mut returned, &mut numbers);
+        let written = numbers[..self.returns].to_vec();
+        for number in &mut numbers[..self.returns] {
+            *number = as_the_rust_tells(*number);
+        }
         let answer = (answer, returned, numbers, difference(&ours, due));
         let due = (
             (self.returns, self.number),
@@ -253,17 +258,27 @@ impl Due {
             None,
         );
         part.case(&tpdus, answer, due);
+        written
     }
 }
 
 /// Takes a list of returns on both sides.
 fn take(part: &mut Part, seen: &mut Seen, random: &mut Random, pair: &mut Pair, rows: usize) {
-    let returns = any_returns(random, &pair.contents, rows);
+    let mut returns = any_returns(random, &pair.contents, rows);
+    returns.retain(|(_, tpdu)| {
+        let compared = compared(tpdu);
+        if !compared {
+            part.leave_out();
+        }
+        compared
+    });
     let due = Due::of(random, &returns, |k| {
         let (time, tpdu) = returns[k].clone();
-        pair.due_answer(seen, &Call::Tpdu { time, tpdu }).number
+        pair.due_answer(&Call::Tpdu { time, tpdu }).number
     });
     let sheet = pair.due();
-    due.compare(part, pair.ours.clone(), &sheet, &returns);
+    for number in due.compare(part, pair.ours.clone(), &sheet, &returns) {
+        seen.add(number);
+    }
     pair.ours = sheet;
 }

@@ -17,7 +17,7 @@ use crate::rust_side::traffic::{generate, interval, Observer};
 const WINDOW_ENDS: [u64; 7] = [0, 10, 15, 40, 41, 100, u64::MAX];
 
 pub fn worked_cases() -> Part {
-    let mut part = Part::new("worked cases on the Rust", "cases");
+    let mut part = Part::new("cases");
 
     // 1. Header and UDP checksum.
     let tpdu = build(ipv4_probe(0));
@@ -74,13 +74,13 @@ pub fn worked_cases() -> Part {
 }
 
 /// 10.0.0.1:1000 to 10.0.0.2:2000, sequence 1.
-pub fn ipv4_probe(send_time: u64) -> Probe {
+pub fn ipv4_probe(send_timestamp_ns: u64) -> Probe {
     let source = (Ipv4Addr::new(10, 0, 0, 1), 1000);
     let destination = (Ipv4Addr::new(10, 0, 0, 2), 2000);
     Probe {
         flow: Flow::new(source, destination),
         sequence: 1,
-        send_time,
+        send_timestamp_ns,
     }
 }
 
@@ -91,7 +91,7 @@ pub fn ipv6_probe() -> Probe {
     Probe {
         flow: Flow::new(source, destination),
         sequence: 1,
-        send_time: 0,
+        send_timestamp_ns: 0,
     }
 }
 

@@ -20,7 +20,7 @@ const BOUNDARY: [u8; 9] = [0x00, 0x01, 0x02, 0x7e, 0x7f, 0x80, 0x81, 0xfe, 0xff]
 
 /// Every list of up to 3 bytes, and every one of 4 to 6 boundary bytes.
 pub fn short_lists() -> Part {
-    let mut part = Part::new("checksum, every short list", "lists");
+    let mut part = Part::new("lists");
     let all: Vec<u8> = (0..=0xff).collect();
     each_list(&all, 0..=3, |list| agree(&mut part, list, rust(list)));
     each_list(&BOUNDARY, 4..=6, |list| agree(&mut part, list, rust(list)));
@@ -29,7 +29,7 @@ pub fn short_lists() -> Part {
 
 /// Sums that go on from a word: every word of boundary bytes, with every list of up to 2 bytes.
 pub fn starts() -> Part {
-    let mut part = Part::new("sum from a start, every short list", "sums");
+    let mut part = Part::new("sums");
     let all: Vec<u8> = (0..=0xff).collect();
     each_list(&BOUNDARY, 2..=2, |start| {
         let word = u16::from_be_bytes([start[0], start[1]]);
@@ -44,7 +44,7 @@ pub fn starts() -> Part {
 
 /// Random lists of up to 70,000 bytes, and the longest that the Rust sums rightly.
 pub fn random_lists(seed: u64, rounds: u64) -> Part {
-    let mut part = Part::new("checksum, random lists", "lists");
+    let mut part = Part::new("lists");
     let mut random = Random::new(seed);
     for _ in 0..rounds {
         let length = random.length(70_000);
@@ -60,7 +60,7 @@ pub fn random_lists(seed: u64, rounds: u64) -> Part {
 
 /// Lists summed in two parts, the first of even length, as a pseudo-header is (12 or 40 bytes).
 pub fn sums_in_parts(seed: u64, rounds: u64) -> Part {
-    let mut part = Part::new("checksum, sums in parts", "lists");
+    let mut part = Part::new("lists");
     let mut random = Random::new(seed);
     for _ in 0..rounds {
         let length = match random.below(3) {
@@ -84,7 +84,7 @@ pub fn sums_in_parts(seed: u64, rounds: u64) -> Part {
 /// Every damage, within 16 neighbouring bits, of case 1's IPv4 header, and of the same header
 /// with one byte more.
 pub fn damaged_header() -> Part {
-    let mut part = Part::new("damage, every one of a header", "damaged lists");
+    let mut part = Part::new("damaged lists");
     let tpdu = build(ipv4_probe(0));
     for length in [20, 21] {
         let mut header = tpdu[..length].to_vec();
@@ -99,7 +99,7 @@ pub fn damaged_header() -> Part {
 
 /// Random damage, within 16 neighbouring bits, of random lists with a checksum in them.
 pub fn damaged_lists(seed: u64, rounds: u64) -> Part {
-    let mut part = Part::new("damage, random lists", "lists, whole and damaged");
+    let mut part = Part::new("lists, whole and damaged");
     let mut random = Random::new(seed);
     for _ in 0..rounds {
         let length = 2 + random.length(2_000);
@@ -120,7 +120,7 @@ pub fn damaged_lists(seed: u64, rounds: u64) -> Part {
 /// The damage that no sum of 16-bit words can see: 16 equal bits, all turned, from any bit of an
 /// even or an odd byte on. Both sides accept it, so the parts above do not refuse everything.
 pub fn equal_bits_turned(seed: u64, rounds: u64) -> Part {
-    let mut part = Part::new("damage, 16 equal bits turned", "damaged lists");
+    let mut part = Part::new("damaged lists");
     let mut random = Random::new(seed);
     for _ in 0..rounds {
         let length = 5 + random.length(60);
@@ -141,7 +141,7 @@ pub fn equal_bits_turned(seed: u64, rounds: u64) -> Part {
 
 /// Lists past the Rust's limit, against the model. At the first such length the Rust is wrong.
 pub fn long_lists(seed: u64) -> Part {
-    let mut part = Part::new("checksum, past the Rust's limit", "lists");
+    let mut part = Part::new("lists");
     let mut random = Random::new(seed);
     for length in [RUST_LIMIT + 1, RUST_LIMIT + 2, 1 << 20, (1 << 24) + 1] {
         for list in [vec![0xff; length], random.bytes(length), vec![0; length]] {

@@ -1,6 +1,8 @@
 //! Our element walk against the Rust's: short lists, lists of elements, long lists.
 
+use crate::compared::Answer;
 use crate::lists::each_list;
+use crate::numbers::{answers, WALKING};
 use crate::ours_traffic::validate_elements;
 use crate::part::Part;
 use crate::random::Random;
@@ -13,12 +15,13 @@ const DECIDING: [u8; 11] = [0, 1, 4, 5, 15, 16, 17, 127, 128, 133, 255];
 /// Every list of up to 3 bytes; every list of 4 to 6 bytes that decide; random lists of elements,
 /// most of them short. Each number of the walk must have been due.
 pub fn elements(seed: u64, rounds: u64) -> Part {
-    let mut part = Part::new("element walk", "lists");
+    let mut part = Part::new("lists");
     let mut seen = Seen::default();
     let mut walk = |list: &[u8]| {
         let due = validate_error_indication_ies(list).err().unwrap_or(0);
-        seen.add(due);
-        part.case(list, validate_elements(list), due);
+        let answer = validate_elements(list);
+        seen.add(answer);
+        part.case(list, answer.told(), due);
     };
     let all: Vec<u8> = (0..=0xff).collect();
     each_list(&all, 0..=3, &mut walk);
@@ -39,7 +42,7 @@ pub fn elements(seed: u64, rounds: u64) -> Part {
         walk(&[&smallest[..length / 3 * 3], &needed].concat());
         walk(&[&needed, &[200, 0xff, 0xff][..], &vec![0; length]].concat());
     }
-    seen.require(&mut part, [0, 25, 26, 27, 28, 29]);
+    seen.require(&mut part, answers(&[WALKING]));
     part
 }
 
@@ -48,14 +51,14 @@ const STACK: usize = 256 << 10;
 
 /// The most elements that 65,535 bytes and 64 MiB can hold, walked on a stack of 256 KiB.
 pub fn deep_lists() -> Part {
-    let mut part = Part::new("element walk, 256 KiB of stack", "lists");
+    let mut part = Part::new("lists");
     for length in [65_535, 64 << 20] {
         let list: Vec<u8> = [128, 0, 0].into_iter().cycle().take(length).collect();
         let due = validate_error_indication_ies(&list).err().unwrap_or(0);
         let walk = move || (validate_elements(&list), list);
         let thread = std::thread::Builder::new().stack_size(STACK).spawn(walk);
         let (answer, list) = thread.expect("a thread").join().expect("an answer");
-        part.case(&list[..3], answer, due);
+        part.case(&list[..3], answer.told(), due);
     }
     part
 }

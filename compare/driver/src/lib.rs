@@ -1,6 +1,6 @@
 //! The comparison of our library with the original Rust, one idea to a module. The binary
 //! `compare` (main.rs) runs its parts; `speed` (speed.rs) measures; `sample` (write_sample.rs)
-//! writes answers of the Rust's for `crates/replay`.
+//! writes the Rust's answers for `crates/replay`.
 
 #![deny(unsafe_code)]
 
@@ -8,6 +8,7 @@ pub mod answers;
 pub mod batch;
 pub mod cases;
 pub mod checksum;
+pub mod compared;
 pub mod damage;
 pub mod gtpu;
 pub mod lists;

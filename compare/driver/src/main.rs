@@ -1,6 +1,5 @@
-//! `compare [--seed N] [--rounds N] [--skip N] [--take N] [--long]`: runs every part of the
-//! comparison, or leaves out the first (skip) and of the rest all but the first (take), prints a line
-//! for each and a last one of totals.
+//! `compare [--seed N] [--rounds N] [--long] [--only NAME]..`: runs every part of the comparison, or
+//! only those named, prints a line for each and a last one of totals.
 //!
 //! Exit status: 0 if both sides agree; 1 if they differ, or a part had nothing to compare;
 //! 2 if an argument is bad.
@@ -13,7 +12,55 @@ use driver::{
     answers, batch, cases, checksum, gtpu, measurement, observer, reflector, tally, traffic,
 };
 
-const USAGE: &str = "usage: compare [--seed N] [--rounds N] [--skip N] [--take N] [--long]";
+const USAGE: &str = "usage: compare [--seed N] [--rounds N] [--long] [--only NAME]..";
+
+/// What a part is run with.
+enum Run {
+    Fixed(fn() -> Part),
+    /// Whether it is to be long.
+    Long(fn(bool) -> Part),
+    Seed(fn(u64) -> Part),
+    SeedAndRounds(fn(u64, u64) -> Part),
+}
+
+use Run::{Fixed, Long, Seed, SeedAndRounds};
+
+/// The parts, in the order in which they run, each under the name that `--only` takes.
+#[rustfmt::skip]
+const PARTS: &[(&str, Run)] = &[
+    ("worked cases on the Rust", Fixed(cases::worked_cases)),
+    ("refusals of the Rust", Fixed(answers::refusals)),
+    ("actions of the Rust", Fixed(answers::actions)),
+    ("checksum, every short list", Fixed(checksum::short_lists)),
+    ("sum from a start, every short list", Fixed(checksum::starts)),
+    ("checksum, random lists", SeedAndRounds(checksum::random_lists)),
+    ("checksum, sums in parts", SeedAndRounds(checksum::sums_in_parts)),
+    ("damage, every one of a header", Fixed(checksum::damaged_header)),
+    ("damage, random lists", SeedAndRounds(checksum::damaged_lists)),
+    ("damage, 16 equal bits turned", SeedAndRounds(checksum::equal_bits_turned)),
+    ("checksum, past the Rust's limit", Seed(checksum::long_lists)),
+    ("building", SeedAndRounds(measurement::building)),
+    ("reading, wild packets", SeedAndRounds(measurement::reading)),
+    ("echo, wild packets", SeedAndRounds(measurement::echoing)),
+    ("echo of echo", SeedAndRounds(measurement::echoing_twice)),
+    ("damage, every one of some packets", Long(measurement::damaged_packets)),
+    ("damage, random packets", SeedAndRounds(measurement::damaged_random_packets)),
+    ("generator", SeedAndRounds(traffic::generating)),
+    ("runs of plans on one engine", SeedAndRounds(traffic::runs)),
+    ("element walk", SeedAndRounds(gtpu::elements)),
+    ("element walk, 256 KiB of stack", Fixed(gtpu::deep_lists)),
+    ("run sheet, runs", SeedAndRounds(observer::runs)),
+    ("run sheet, any state", SeedAndRounds(observer::states)),
+    ("run sheet, malformed", SeedAndRounds(observer::malformed)),
+    ("run sheet, batches", SeedAndRounds(batch::batches)),
+    ("run sheet, malformed, batches", SeedAndRounds(batch::malformed_batches)),
+    ("reflector, runs", SeedAndRounds(reflector::runs)),
+    ("reflector, near copies", SeedAndRounds(reflector::near_copies)),
+    ("reflector, full tables", Seed(reflector::full_tables)),
+    ("reflector, error sequence", Seed(reflector::error_sequences)),
+    ("reflector, refused tables and outputs", SeedAndRounds(reflector::refused)),
+    ("tally", SeedAndRounds(tally::tallies)),
+];
 
 /// What the command line may choose.
 struct Options {
@@ -21,12 +68,10 @@ struct Options {
     seed: u64,
     /// How many random inputs a part draws.
     rounds: u64,
-    /// How many parts to leave out, from the first on.
-    skip: u64,
-    /// How many parts to run after those.
-    take: u64,
-    /// Whether to damage all packets that there are for it, and not only the first.
+    /// Whether to damage every packet that there is for it, and not only the first few.
     long: bool,
+    /// The names of the parts to run; none, and all are run.
+    only: Vec<String>,
 }
 
 impl Options {
@@ -34,18 +79,23 @@ impl Options {
         let mut options = Options {
             seed: 1071,
             rounds: 20_000,
-            skip: 0,
-            take: u64::MAX,
             long: false,
+            only: Vec::new(),
         };
         while let Some(word) = words.next() {
             let option = match word.as_str() {
                 "--seed" => &mut options.seed,
                 "--rounds" => &mut options.rounds,
-                "--skip" => &mut options.skip,
-                "--take" => &mut options.take,
                 "--long" => {
                     options.long = true;
+                    continue;
+                }
+                "--only" => {
+                    let name = words.next().ok_or("--only needs the name of a part")?;
+                    if !PARTS.iter().any(|(part, _)| *part == name) {
+                        return Err(format!("no part has the name \"{name}\""));
+                    }
+                    options.only.push(name);
                     continue;
                 }
                 _ => return Err(format!("unknown argument {word}")),
@@ -57,47 +107,24 @@ impl Options {
         }
         Ok(options)
     }
+
+    fn chooses(&self, name: &str) -> bool {
+        self.only.is_empty() || self.only.iter().any(|only| only == name)
+    }
 }
 
 /// The sum of the parts so far.
 #[derive(Default)]
 struct Total {
-    /// How many parts are still to be left out.
-    skip: u64,
-    /// How many are then run.
-    take: u64,
     parts: u64,
     cases: u64,
     differences: u64,
+    left_out: u64,
     failed: u64,
 }
 
-impl Total {
-    fn add(&mut self, part: impl FnOnce() -> Part) {
-        if self.skip > 0 {
-            self.skip -= 1;
-            return;
-        }
-        if self.parts == self.take {
-            return;
-        }
-        let part = part();
-        println!("{part}");
-        self.parts += 1;
-        self.cases += part.cases();
-        self.differences += part.differences();
-        self.failed += u64::from(part.failed());
-    }
-}
-
 fn main() -> ExitCode {
-    let Options {
-        seed,
-        rounds,
-        skip,
-        take,
-        long,
-    } = match Options::parse(env::args().skip(1)) {
+    let options = match Options::parse(env::args().skip(1)) {
         Ok(options) => options,
         Err(message) => {
             eprintln!("compare: {message}; {USAGE}");
@@ -105,50 +132,30 @@ fn main() -> ExitCode {
         }
     };
 
-    let mut total = Total {
-        skip,
-        take,
-        ..Total::default()
-    };
-    total.add(cases::worked_cases);
-    total.add(answers::refusals);
-    total.add(answers::actions);
-    total.add(checksum::short_lists);
-    total.add(checksum::starts);
-    total.add(|| checksum::random_lists(seed, rounds));
-    total.add(|| checksum::sums_in_parts(seed, rounds));
-    total.add(checksum::damaged_header);
-    total.add(|| checksum::damaged_lists(seed, rounds));
-    total.add(|| checksum::equal_bits_turned(seed, rounds));
-    total.add(|| checksum::long_lists(seed));
-    total.add(|| measurement::building(seed, rounds));
-    total.add(|| measurement::reading(seed, rounds));
-    total.add(|| measurement::echoing(seed, rounds));
-    total.add(|| measurement::echoing_twice(seed, rounds));
-    total.add(|| measurement::damaged_packets(if long { 5 } else { 2 }));
-    total.add(|| measurement::damaged_random_packets(seed, rounds));
-    total.add(|| traffic::generating(seed, rounds));
-    total.add(|| traffic::runs(seed, rounds));
-    total.add(|| gtpu::elements(seed, rounds));
-    total.add(gtpu::deep_lists);
-    total.add(|| observer::runs(seed, rounds));
-    total.add(|| observer::states(seed, rounds));
-    total.add(|| observer::malformed(seed, rounds));
-    total.add(|| batch::batches(seed, rounds));
-    total.add(|| batch::malformed_batches(seed, rounds));
-    total.add(|| reflector::runs(seed, rounds));
-    total.add(|| reflector::near_copies(seed, rounds));
-    total.add(|| reflector::full_tables(seed));
-    total.add(|| reflector::error_sequences(seed));
-    total.add(|| reflector::refused(seed, rounds));
-    total.add(|| tally::tallies(seed, rounds));
-
+    let mut total = Total::default();
+    for (name, run) in PARTS.iter().filter(|(name, _)| options.chooses(name)) {
+        let part = match run {
+            Fixed(part) => part(),
+            Long(part) => part(options.long),
+            Seed(part) => part(options.seed),
+            SeedAndRounds(part) => part(options.seed, options.rounds),
+        };
+        println!("{name}: {part}");
+        total.parts += 1;
+        total.cases += part.cases();
+        total.differences += part.differences();
+        total.left_out += part.left_out();
+        total.failed += u64::from(part.failed());
+    }
     println!(
-        "total: {} parts, {} failed; {} cases, {} differences (seed {seed}, rounds {rounds})",
+        "total: {} parts, {} failed; {} cases, {} differences, {} left out (seed {}, rounds {})",
         total.parts,
         total.failed,
         grouped(total.cases),
         grouped(total.differences),
+        grouped(total.left_out),
+        options.seed,
+        options.rounds,
     );
     ExitCode::from(u8::from(total.failed > 0))
 }

@@ -5,8 +5,9 @@ use std::collections::BTreeMap;
 use std::net::SocketAddr;
 
 use crate::cases::{ipv4_probe, ipv6_probe};
+use crate::compared::{due, Answer};
 use crate::damage::{each_damage, excluded, turn, window_starts};
-use crate::numbers::OUTPUT_TOO_SHORT;
+use crate::numbers::{OUTPUT_TOO_SHORT, READING_EITHER, READING_IPV4, READING_IPV6};
 use crate::ours::{self, Values, Written};
 use crate::packet::{part_at, version, word, IPV4_HEADER_CHECKSUM_AT};
 use crate::part::{grouped, Bytes, Part, Word};
@@ -15,20 +16,16 @@ use crate::rust_side::measurement::{build, decode, echo, Flow, Probe};
 use crate::rust_side::Outcome;
 use crate::wild::{any_probe, each_wild};
 
-/// The orders in which the readers of IPv4 and IPv6 judge. Numbers 1 and 2 come before both.
-const IPV4_ORDER: [u8; 9] = [3, 4, 5, 6, 7, 10, 12, 13, 14];
-const IPV6_ORDER: [u8; 8] = [8, 6, 9, 11, 12, 10, 13, 14];
-
 /// What an output has in it before a call.
 const DIRT: u8 = 0xa5;
 
-/// One damaged packet in so many is echoed, if both sides refuse to read it.
+/// Of the damaged packets that both sides refuse to read, one in this many is echoed.
 const ECHO_SAMPLE: u64 = 64;
 
 /// Random and extreme probes into buffers of every kind. Ours is lent junk behind each IPv4
 /// address, and for IPv6 any version but 4.
 pub fn building(seed: u64, rounds: u64) -> Part {
-    let mut part = Part::new("building", "calls");
+    let mut part = Part::new("calls");
     let mut random = Random::new(seed);
     for round in 0..rounds {
         let mut probe = any_probe(&mut random);
@@ -56,36 +53,36 @@ pub fn building(seed: u64, rounds: u64) -> Part {
 
 /// Wild packets, read by both. Each cause of a refusal must have been met, in both versions.
 pub fn reading(seed: u64, rounds: u64) -> Part {
-    let mut part = Part::new("reading, wild packets", "packets");
+    let mut part = Part::new("packets");
     let mut seen = BTreeMap::new();
     each_wild(seed, rounds, |tpdu| {
-        let expected = as_ours(decode(tpdu));
         let answer = ours::decode(tpdu);
-        if answer.0 == expected.0 {
-            *seen.entry(cause(tpdu, answer.0)).or_insert(0) += 1;
+        *seen.entry(cause(tpdu, answer.0)).or_insert(0) += 1;
+        if let Some(due) = due(&mut part, tpdu, decode) {
+            part.case(tpdu, answer.told(), as_ours(due));
         }
-        part.case(tpdu, answer, expected);
     });
 
-    let mut due = vec![(0, 1), (0, 2), (4, 0), (6, 0)];
-    due.extend(IPV4_ORDER.map(|number| (4, number)));
-    due.extend(IPV6_ORDER.map(|number| (6, number)));
-    due.sort();
-    part.case(&[], seen.keys().copied().collect(), due);
+    let mut causes = vec![(4, 0), (6, 0)];
+    for (version, numbers) in [(0, READING_EITHER), (4, READING_IPV4), (6, READING_IPV6)] {
+        causes.extend(numbers.iter().map(|&number| (version, number)));
+    }
+    causes.sort();
+    part.case(&[], seen.keys().copied().collect(), causes);
     part.note(counts(&seen));
     part
 }
 
 /// Wild packets, echoed by both.
 pub fn echoing(seed: u64, rounds: u64) -> Part {
-    let mut part = Part::new("echo, wild packets", "calls");
+    let mut part = Part::new("calls");
     each_wild(seed, rounds, |tpdu| echoes(&mut part, tpdu));
     part
 }
 
 /// The echo of the echo of a built packet is the packet.
 pub fn echoing_twice(seed: u64, rounds: u64) -> Part {
-    let mut part = Part::new("echo of echo", "packets");
+    let mut part = Part::new("packets");
     let mut random = Random::new(seed);
     for _ in 0..rounds {
         let tpdu = build(any_probe(&mut random));
@@ -97,10 +94,11 @@ pub fn echoing_twice(seed: u64, rounds: u64) -> Part {
     part
 }
 
-/// Every damage, within 16 neighbouring bits, of the first few of `some_probes` in both
-/// versions: refused, or read as what was sent.
-pub fn damaged_packets(count: usize) -> Part {
-    let mut part = Part::new("damage, every one of some packets", "readings and echoes");
+/// Every damage, within 16 neighbouring bits, of the first two of `some_probes` in both versions,
+/// or of all five: refused, or read as what was sent.
+pub fn damaged_packets(long: bool) -> Part {
+    let count = if long { 5 } else { 2 };
+    let mut part = Part::new("readings and echoes");
     for version in [4, 6] {
         for probe in some_probes(version).into_iter().take(count) {
             each_damage(&build(probe), |damaged| {
@@ -113,7 +111,7 @@ pub fn damaged_packets(count: usize) -> Part {
 
 /// Random damage, within 16 neighbouring bits, of random built packets.
 pub fn damaged_random_packets(seed: u64, rounds: u64) -> Part {
-    let mut part = Part::new("damage, random packets", "readings and echoes");
+    let mut part = Part::new("readings and echoes");
     let mut random = Random::new(seed);
     for _ in 0..rounds {
         let probe = any_probe(&mut random);
@@ -149,7 +147,7 @@ impl From<Probe> for Values {
             src_port: source.port(),
             dst_port: destination.port(),
             sequence: probe.sequence,
-            send_time: probe.send_time,
+            send_timestamp_ns: probe.send_timestamp_ns,
         }
     }
 }
@@ -163,7 +161,7 @@ fn as_ours(outcome: Outcome<Probe>) -> (u8, Values) {
         src_port: 0,
         dst_port: 0,
         sequence: 0,
-        send_time: 0,
+        send_timestamp_ns: 0,
     };
     match outcome {
         Ok(probe) => (0, probe.into()),
@@ -202,23 +200,28 @@ fn writes(
             number: answer.err().unwrap_or(0),
             bytes: answer.unwrap_or(0),
         };
-        part.case(input, (written, Bytes(out)), (due, Bytes(expected)));
+        part.case(input, (written.told(), Bytes(out)), (due, Bytes(expected)));
     }
 }
 
 fn echoes(part: &mut Part, tpdu: &[u8]) {
-    let due = echo(tpdu);
-    let due = due.as_deref().map_err(|number| *number);
-    writes(part, tpdu, due, |out| ours::echo(tpdu, out));
+    if let Some(due) = due(part, tpdu, echo) {
+        let due = due.as_deref().map_err(|number| *number);
+        writes(part, tpdu, due, |out| ours::echo(tpdu, out));
+    }
 }
 
-/// Both sides must read the damaged packet alike: refuse it, or read the probe that was sent.
+/// Both sides must read the damaged packet alike, and ours must refuse it or read the probe that was
+/// sent, whether it is compared or not.
 fn survives(part: &mut Part, sent: Probe, damaged: &[u8]) {
-    let outcome = decode(damaged);
-    let harmless = outcome.is_err() || outcome == Ok(sent);
-    let answer = (ours::decode(damaged), harmless);
-    part.case(damaged, answer, (as_ours(outcome), true));
-    if outcome.is_ok() || part.cases().is_multiple_of(ECHO_SAMPLE) {
+    let answer = ours::decode(damaged);
+    let is_read = answer.0 == 0;
+    let harmless = !is_read || answer.1 == sent.into();
+    match due(part, damaged, decode) {
+        Some(due) => part.case(damaged, (answer.told(), harmless), (as_ours(due), true)),
+        None => part.case(damaged, harmless, true),
+    }
+    if is_read || part.cases().is_multiple_of(ECHO_SAMPLE) {
         echoes(part, damaged);
     }
 }
@@ -239,7 +242,7 @@ fn some_probes(version: u8) -> [Probe; 5] {
             ),
         },
         sequence: 0x0123_4567_89ab_cdef,
-        send_time: 1_700_000_000_123_456_789,
+        send_timestamp_ns: 1_700_000_000_123_456_789,
     };
     let all = |byte| {
         let port = u16::from_be_bytes([byte; 2]);
@@ -250,7 +253,7 @@ fn some_probes(version: u8) -> [Probe; 5] {
                 _ => Flow::new(([byte; 16], port), ([byte; 16], port)),
             },
             sequence: number,
-            send_time: number,
+            send_timestamp_ns: number,
         }
     };
     [ordinary, steered(ordinary), all(0x00), all(0xff), case]
@@ -266,9 +269,9 @@ fn steered(mut probe: Probe) -> Probe {
         let checksum = word(&build(probe), IPV4_HEADER_CHECKSUM_AT);
         probe.flow.destination = ending(checksum.to_be_bytes());
     }
-    probe.send_time &= !0xffff;
+    probe.send_timestamp_ns &= !0xffff;
     let (_, Word(checksum)) = checksums(&build(probe));
-    probe.send_time |= u64::from(checksum);
+    probe.send_timestamp_ns |= u64::from(checksum);
     probe
 }
 
@@ -280,9 +283,9 @@ fn checksums(tpdu: &[u8]) -> (Option<Word>, Word) {
 
 /// Why a packet was refused, or 0: the number, with the IP version if the number has one.
 fn cause(tpdu: &[u8], number: u8) -> (u8, u8) {
-    match number {
-        1 | 2 => (0, number),
-        _ => (version(tpdu), number),
+    match READING_EITHER.contains(&number) {
+        true => (0, number),
+        false => (version(tpdu), number),
     }
 }
 
@@ -297,10 +300,10 @@ fn counts(seen: &BTreeMap<(u8, u8), u64>) -> String {
     };
     format!(
         "{}; IPv4 {}, read: {}; IPv6 {}, read: {}",
-        counts(0, &[1, 2]),
-        counts(4, &IPV4_ORDER),
+        counts(0, READING_EITHER),
+        counts(4, READING_IPV4),
         count(4, 0),
-        counts(6, &IPV6_ORDER),
+        counts(6, READING_IPV6),
         count(6, 0),
     )
 }

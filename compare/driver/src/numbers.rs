@@ -1,8 +1,12 @@
-//! The numbers of document 01 ("The card in the pouch"), under the names that crates/error gives them, which `.ci/card` compares; and
-//! from the Rust's errors to these.
+//! The numbers of document 01 ("The card in the pouch"), under the names that crates/error gives them;
+//! which of them each of our calls answers; and from the Rust's errors to these numbers. `.ci/card`
+//! holds the constants and each list to the crates.
 
-use std::ops::RangeInclusive;
+use std::collections::BTreeSet;
+
 use testkit_open::DataplaneTestkitError as Error;
+
+use crate::compared::as_the_rust_tells;
 
 pub const TRUNCATED_IP_HEADER: u8 = 1;
 pub const UNSUPPORTED_IP_VERSION: u8 = 2;
@@ -42,21 +46,166 @@ pub const ECHO_REQUEST_TEID_NOT_ZERO: u8 = 35;
 pub const ECHO_REQUEST_MISSING_SEQUENCE: u8 = 36;
 pub const UNSUPPORTED_MESSAGE_TYPE: u8 = 37;
 
-/// The card's numbers.
-pub const CARD: RangeInclusive<u8> = TRUNCATED_IP_HEADER..=UNSUPPORTED_MESSAGE_TYPE;
+/// The card's numbers, in its order.
+pub const CARD: &[u8] = &[
+    TRUNCATED_IP_HEADER,
+    UNSUPPORTED_IP_VERSION,
+    TRUNCATED_IPV4_HEADER,
+    INVALID_IPV4_IHL,
+    INVALID_IPV4_TOTAL_LENGTH,
+    PAYLOAD_IS_NOT_UDP,
+    INVALID_IPV4_HEADER_CHECKSUM,
+    TRUNCATED_IPV6_UDP_PACKET,
+    INVALID_IPV6_PAYLOAD_LENGTH,
+    INVALID_UDP_LENGTH,
+    IPV6_UDP_CHECKSUM_IS_ZERO,
+    INVALID_UDP_CHECKSUM,
+    TRUNCATED_MEASUREMENT_HEADER,
+    MEASUREMENT_MAGIC_MISMATCH,
+    OUTPUT_TOO_SHORT,
+    TARGET_RATE_IS_ZERO,
+    TARGET_RATE_EXCEEDS_RESOLUTION,
+    TOO_MANY_PACKETS,
+    SEQUENCE_OVERFLOW,
+    SEND_TIMESTAMP_OVERFLOW,
+    MALFORMED_OBSERVER,
+    OBSERVER_FULL,
+    SEQUENCE_WAS_NOT_SENT,
+    TIMESTAMP_REVERSED,
+    TRUNCATED_ELEMENT,
+    INVALID_PEER_ADDRESS_LENGTH,
+    UNSUPPORTED_FIXED_LENGTH_ELEMENT,
+    MISSING_TEID_DATA_I,
+    MISSING_PEER_ADDRESS,
+    INVALID_REFLECTOR_CAPACITY,
+    MALFORMED_REFLECTOR_TABLE,
+    INVALID_REFLECTOR_SESSION,
+    REFLECTOR_SESSION_CONFLICT,
+    REFLECTOR_SESSION_CAPACITY_EXCEEDED,
+    ECHO_REQUEST_TEID_NOT_ZERO,
+    ECHO_REQUEST_MISSING_SEQUENCE,
+    UNSUPPORTED_MESSAGE_TYPE,
+];
 
-/// Those of a reader of T-PDUs.
-pub const READING: RangeInclusive<u8> = TRUNCATED_IP_HEADER..=MEASUREMENT_MAGIC_MISMATCH;
+/// What a reader of T-PDUs answers.
+pub const READING: &[u8] = &[
+    TRUNCATED_IP_HEADER,
+    UNSUPPORTED_IP_VERSION,
+    TRUNCATED_IPV4_HEADER,
+    INVALID_IPV4_IHL,
+    INVALID_IPV4_TOTAL_LENGTH,
+    PAYLOAD_IS_NOT_UDP,
+    INVALID_IPV4_HEADER_CHECKSUM,
+    TRUNCATED_IPV6_UDP_PACKET,
+    INVALID_IPV6_PAYLOAD_LENGTH,
+    INVALID_UDP_LENGTH,
+    IPV6_UDP_CHECKSUM_IS_ZERO,
+    INVALID_UDP_CHECKSUM,
+    TRUNCATED_MEASUREMENT_HEADER,
+    MEASUREMENT_MAGIC_MISMATCH,
+];
+
+/// What it judges before it knows the IP version, and for each version, in the order of judging.
+pub const READING_EITHER: &[u8] = &[TRUNCATED_IP_HEADER, UNSUPPORTED_IP_VERSION];
+pub const READING_IPV4: &[u8] = &[
+    TRUNCATED_IPV4_HEADER,
+    INVALID_IPV4_IHL,
+    INVALID_IPV4_TOTAL_LENGTH,
+    PAYLOAD_IS_NOT_UDP,
+    INVALID_IPV4_HEADER_CHECKSUM,
+    INVALID_UDP_LENGTH,
+    INVALID_UDP_CHECKSUM,
+    TRUNCATED_MEASUREMENT_HEADER,
+    MEASUREMENT_MAGIC_MISMATCH,
+];
+pub const READING_IPV6: &[u8] = &[
+    TRUNCATED_IPV6_UDP_PACKET,
+    PAYLOAD_IS_NOT_UDP,
+    INVALID_IPV6_PAYLOAD_LENGTH,
+    IPV6_UDP_CHECKSUM_IS_ZERO,
+    INVALID_UDP_CHECKSUM,
+    INVALID_UDP_LENGTH,
+    TRUNCATED_MEASUREMENT_HEADER,
+    MEASUREMENT_MAGIC_MISMATCH,
+];
+
+/// What judges a plan.
+pub const PLANNING: &[u8] = &[
+    TARGET_RATE_IS_ZERO,
+    TARGET_RATE_EXCEEDS_RESOLUTION,
+    TOO_MANY_PACKETS,
+    SEQUENCE_OVERFLOW,
+    SEND_TIMESTAMP_OVERFLOW,
+];
+
+/// What the run sheet answers by itself.
+pub const OBSERVING: &[u8] = &[
+    MALFORMED_OBSERVER,
+    OBSERVER_FULL,
+    SEQUENCE_WAS_NOT_SENT,
+    TIMESTAMP_REVERSED,
+];
+
+/// What the walk over elements answers.
+pub const WALKING: &[u8] = &[
+    TRUNCATED_ELEMENT,
+    INVALID_PEER_ADDRESS_LENGTH,
+    UNSUPPORTED_FIXED_LENGTH_ELEMENT,
+    MISSING_TEID_DATA_I,
+    MISSING_PEER_ADDRESS,
+];
+
+/// What the session table answers.
+pub const REGISTERING: &[u8] = &[
+    INVALID_REFLECTOR_CAPACITY,
+    MALFORMED_REFLECTOR_TABLE,
+    INVALID_REFLECTOR_SESSION,
+    REFLECTOR_SESSION_CONFLICT,
+    REFLECTOR_SESSION_CAPACITY_EXCEEDED,
+];
+
+/// What the reflector answers a message by itself.
+pub const HANDLING: &[u8] = &[
+    OUTPUT_TOO_SHORT,
+    ECHO_REQUEST_TEID_NOT_ZERO,
+    ECHO_REQUEST_MISSING_SEQUENCE,
+    UNSUPPORTED_MESSAGE_TYPE,
+];
+
+/// The numbers for what a caller lends and sets up, which have parts of their own.
+const LENT: &[u8] = &[
+    OUTPUT_TOO_SHORT,
+    MALFORMED_OBSERVER,
+    INVALID_REFLECTOR_CAPACITY,
+    MALFORMED_REFLECTOR_TABLE,
+];
+
+/// 0 and the numbers of these lists: what calls answer that are lent what is in order.
+pub fn answers(lists: &[&[u8]]) -> Vec<u8> {
+    let mut numbers = lists.concat();
+    numbers.retain(|number| !LENT.contains(number));
+    numbers.push(0);
+    numbers
+}
 
 /// The numbers for causes at which the Rust refuses nothing: output too short, count above
 /// 2,048, run sheet malformed, run sheet full, session table malformed.
-pub const NOT_IN_THE_RUST: [u8; 5] = [
+const NOT_IN_THE_RUST: &[u8] = &[
     OUTPUT_TOO_SHORT,
     TOO_MANY_PACKETS,
     MALFORMED_OBSERVER,
     OBSERVER_FULL,
     MALFORMED_REFLECTOR_TABLE,
 ];
+
+/// The numbers of the Rust's refusals.
+pub fn of_the_rust() -> BTreeSet<u8> {
+    let numbers = CARD.iter().copied();
+    numbers
+        .filter(|number| !NOT_IN_THE_RUST.contains(number))
+        .map(as_the_rust_tells)
+        .collect()
+}
 
 /// The number of an error: one for each, though several errors may share it.
 ///

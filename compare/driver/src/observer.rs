@@ -2,11 +2,11 @@
 //! sheets, which the Rust cannot have.
 
 use std::collections::BTreeMap;
-use std::iter;
 
 use testkit_open::evidence::PacketContinuityBudget;
 use testkit_open::traffic::GtpuReturnDatagramOutcome;
 
+use crate::compared::{compared, leave_out, Answer};
 use crate::gtpu::any_elements;
 use crate::numbers::*;
 use crate::ours_traffic::{Noted, Report, RunSheet};
@@ -26,7 +26,7 @@ const G_PDU: u8 = 255;
 pub(crate) enum Call {
     Sent {
         sequence: u64,
-        send_time: u64,
+        send_timestamp_ns: u64,
     },
     Tpdu {
         time: u64,
@@ -41,7 +41,7 @@ pub(crate) enum Call {
 
 /// Runs on fresh sheets, of few rows and of 2,048. Each number of a run must have been due.
 pub fn runs(seed: u64, rounds: u64) -> Part {
-    let mut part = Part::new("run sheet, runs", "calls and reports");
+    let mut part = Part::new("calls and reports");
     let mut seen = Seen::default();
     let mut random = Random::new(seed);
     for round in 0..rounds / 8 {
@@ -53,14 +53,14 @@ pub fn runs(seed: u64, rounds: u64) -> Part {
             each_type(&mut part, &mut seen, &mut random, &mut pair);
         }
     }
-    seen.require(&mut part, due());
+    seen.require(&mut part, every_number());
     part
 }
 
 /// Runs from any state: counters at or near their top, latencies of any size, and on rows that
 /// have not returned a latency that nobody may look at.
 pub fn states(seed: u64, rounds: u64) -> Part {
-    let mut part = Part::new("run sheet, any state", "calls and reports");
+    let mut part = Part::new("calls and reports");
     let mut seen = Seen::default();
     let mut random = Random::new(seed);
     for round in 0..rounds / 10 {
@@ -72,7 +72,7 @@ pub fn states(seed: u64, rounds: u64) -> Part {
         pair.reports(&mut part, &mut random);
         run(&mut part, &mut seen, &mut random, &mut pair, 20);
     }
-    seen.require(&mut part, due());
+    seen.require(&mut part, every_number());
     part
 }
 
@@ -84,13 +84,9 @@ pub(crate) fn any_rows(random: &mut Random, round: u64) -> usize {
     }
 }
 
-/// The numbers that the calls of runs on well-formed sheets answer.
-fn due() -> impl Iterator<Item = u8> {
-    iter::once(0)
-        .chain(READING)
-        .chain([OBSERVER_FULL])
-        .chain(SEQUENCE_WAS_NOT_SENT..=MISSING_PEER_ADDRESS)
-        .chain([UNSUPPORTED_MESSAGE_TYPE])
+/// What the calls of runs on well-formed sheets answer.
+fn every_number() -> Vec<u8> {
+    answers(&[READING, OBSERVING, WALKING, &[UNSUPPORTED_MESSAGE_TYPE]])
 }
 
 /// A sheet that was spoiled in one of four ways, and what it held before; every 128th time of each way
@@ -108,7 +104,7 @@ pub(crate) fn malformed_sheet(random: &mut Random, round: u64) -> (Sheet, RunShe
 
 /// Malformed sheets: every call refuses by 21 and leaves all, before it looks at anything else.
 pub fn malformed(seed: u64, rounds: u64) -> Part {
-    let mut part = Part::new("run sheet, malformed", "calls and reports");
+    let mut part = Part::new("calls and reports");
     let mut random = Random::new(seed);
     for round in 0..rounds / 10 {
         let (contents, sheet) = malformed_sheet(&mut random, round);
@@ -145,7 +141,7 @@ pub fn malformed(seed: u64, rounds: u64) -> Part {
 }
 
 impl Call {
-    /// What is printed of it.
+    /// What is printed of it where the two sides differ.
     fn input(&self) -> &[u8] {
         match self {
             Call::Sent { .. } => &[],
@@ -154,12 +150,25 @@ impl Call {
         }
     }
 
+    /// The T-PDU that it has to read, if it has one.
+    pub(crate) fn tpdu(&self) -> Option<&[u8]> {
+        match self {
+            Call::Tpdu { tpdu, .. } => Some(tpdu),
+            Call::Message {
+                message_type: G_PDU,
+                payload,
+                ..
+            } => Some(payload),
+            _ => None,
+        }
+    }
+
     fn on_ours(&self, sheet: &mut RunSheet) -> Noted {
         match self {
             Call::Sent {
                 sequence,
-                send_time,
-            } => sheet.record_sent(*sequence, *send_time),
+                send_timestamp_ns,
+            } => sheet.record_sent(*sequence, *send_timestamp_ns),
             Call::Tpdu { time, tpdu } => sheet.record_received_tpdu(*time, tpdu),
             Call::Message {
                 time,
@@ -174,9 +183,9 @@ impl Call {
         let outcome = match self {
             Call::Sent {
                 sequence,
-                send_time,
+                send_timestamp_ns,
             } => {
-                observer.record_sent(*sequence, *send_time);
+                observer.record_sent(*sequence, *send_timestamp_ns);
                 return Noted::default();
             }
             Call::Tpdu { time, tpdu } => {
@@ -272,7 +281,7 @@ impl Pair {
     }
 
     /// Makes a call on the Rust's observer: what ours has to answer.
-    pub(crate) fn due_answer(&mut self, seen: &mut Seen, call: &Call) -> Noted {
+    pub(crate) fn due_answer(&mut self, call: &Call) -> Noted {
         let due_answer = if self.full_for(call) {
             Noted {
                 number: OBSERVER_FULL,
@@ -282,19 +291,36 @@ impl Pair {
             call.on_rust(&mut self.rust)
         };
         self.contents = self.rust.sheet();
-        seen.add(due_answer.number);
         due_answer
     }
 
     /// Makes a call on both: the answers, the counts and every cell must be equal afterwards.
     fn call(&mut self, part: &mut Part, seen: &mut Seen, call: &Call) {
-        let due_answer = self.due_answer(seen, call);
         let mut ours = self.ours.clone();
         let answer = call.on_ours(&mut ours);
+        seen.add(answer.number);
+        if let Some(tpdu) = call.tpdu().filter(|tpdu| !compared(tpdu)) {
+            self.leaves_out(part, tpdu, answer, &ours);
+            return;
+        }
+        let due_answer = self.due_answer(call);
         let due = self.due();
-        let answer = (answer, difference(&ours, &due));
+        let answer = (answer.told(), difference(&ours, &due));
         part.case(call.input(), answer, (due_answer, None));
         self.ours = due;
+    }
+
+    /// A T-PDU that is not compared, which left our sheet like this: the Rust is not given it, and
+    /// both go on from where they were.
+    fn leaves_out(&self, part: &mut Part, tpdu: &[u8], answer: Noted, ours: &RunSheet) {
+        if let Some(number) = leave_out(part, tpdu) {
+            let answer = (answer.told(), difference(ours, &self.ours));
+            let due = Noted {
+                number,
+                ..Noted::default()
+            };
+            part.case(tpdu, answer, (due, None));
+        }
     }
 
     /// Reports, and the verdict on each: judged by the figures of a report that was made for another
@@ -316,7 +342,7 @@ impl Pair {
     }
 }
 
-/// As many random calls, with reports now and then.
+/// This many random calls, with reports now and then.
 fn run(part: &mut Part, seen: &mut Seen, random: &mut Random, pair: &mut Pair, calls: usize) {
     let rows = capacity(&pair.ours);
     let base = match random.below(4) {
@@ -341,10 +367,10 @@ fn fill(part: &mut Part, seen: &mut Seen, random: &mut Random, pair: &mut Pair) 
         .collect();
     sequences.extend(pair.contents.rows.last().map(|row| row.sequence));
     for sequence in sequences {
-        let send_time = random.number();
+        let send_timestamp_ns = random.number();
         let call = Call::Sent {
             sequence,
-            send_time,
+            send_timestamp_ns,
         };
         pair.call(part, seen, &call);
     }
@@ -390,12 +416,12 @@ pub(crate) fn any_call(random: &mut Random, rows: &[Row], base: u64, capacity: u
                     1..4 => any_sequence,
                     _ => next,
                 },
-                send_time: time_near(random, last.map_or(0, |row| row.send_time)),
+                send_timestamp_ns: time_near(random, last.map_or(0, |row| row.send_timestamp_ns)),
             }
         }
         6 => Call::Sent {
             sequence: row.map_or(any_sequence, |row| row.sequence),
-            send_time: time_near(random, row.map_or(0, |row| row.send_time)),
+            send_timestamp_ns: time_near(random, row.map_or(0, |row| row.send_timestamp_ns)),
         },
         7..13 => {
             let mut probe = any_probe(random);
@@ -412,7 +438,7 @@ pub(crate) fn any_call(random: &mut Random, rows: &[Row], base: u64, capacity: u
             if random.below(4) == 0 {
                 spoil_tpdu(random, &mut tpdu);
             }
-            let time = time_near(random, row.map_or(0, |row| row.send_time));
+            let time = time_near(random, row.map_or(0, |row| row.send_timestamp_ns));
             if random.below(2) == 0 {
                 Call::Tpdu { time, tpdu }
             } else {
@@ -493,7 +519,7 @@ pub(crate) fn any_contents(random: &mut Random, rows: usize) -> Sheet {
         let returned = random.below(4) < returning;
         Row {
             sequence,
-            send_time: number(random),
+            send_timestamp_ns: number(random),
             latency: if returned { number(random) } else { 0 },
             returned,
         }
@@ -514,7 +540,7 @@ fn spoil(random: &mut Random, sheet: &mut RunSheet, way: u64) {
         0 if used == MOST_ROWS => {
             // A row more than there may be, all in order.
             sheet.sequences = (0..=used as u64).collect();
-            sheet.send_times.resize(used + 1, 0);
+            sheet.send_timestamps.resize(used + 1, 0);
             sheet.latencies.resize(used + 1, 0);
             sheet.marks = vec![0; used + 1];
             sheet.counts.used = used + 1;

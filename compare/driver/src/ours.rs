@@ -1,4 +1,4 @@
-//! Our library, as C has it, and a safe function for each of its calls on checksums and packets.
+//! Our library, as C declares it, and a safe function for each of its calls on checksums and packets.
 //! The unsafe code of the comparison is here, in `ours_traffic.rs` and in `ours_reflector.rs`.
 
 unsafe extern "C" {
@@ -54,7 +54,7 @@ pub struct Values {
     pub src_port: u16,
     pub dst_port: u16,
     pub sequence: u64,
-    pub send_time: u64,
+    pub send_timestamp_ns: u64,
 }
 
 /// What a call is lent to read. With the feature `exact` it is a copy on the heap that ends where
@@ -102,7 +102,7 @@ pub fn build(values: &Values, out: &mut [u8]) -> Written {
             values.src_port,
             values.dst_port,
             values.sequence,
-            values.send_time,
+            values.send_timestamp_ns,
             out.as_mut_ptr(),
             out.len(),
         )
@@ -132,7 +132,7 @@ pub fn decode(tpdu: &[u8]) -> (u8, Values) {
         src_port: read.src_port,
         dst_port: read.dst_port,
         sequence: read.sequence,
-        send_time: read.send_timestamp_ns,
+        send_timestamp_ns: read.send_timestamp_ns,
     };
     (read.number, values)
 }

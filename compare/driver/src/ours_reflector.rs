@@ -1,4 +1,4 @@
-//! Our reflector, as C has it, and a safe function for each of its calls.
+//! Our reflector, as C declares it, and a safe function for each of its calls.
 
 use crate::ours::lent;
 
@@ -52,7 +52,7 @@ pub struct Session {
 }
 
 /// A session in bytes, the numbers big-endian: the local TEID, the peer's, and the peer's version,
-/// address and port. (Not as C has it, which leaves gaps.)
+/// address and port. (C lays it out with gaps.)
 pub const SESSION_BYTES: usize = 27;
 pub const LOCAL_TEID_AT: usize = 0;
 pub const PEER_TEID_AT: usize = 4;
@@ -144,7 +144,8 @@ pub struct Message {
 pub struct Handled {
     pub number: u8,
     pub action: u8,
-    pub reason: u8,
+    pub noop_reason: u8,
+    pub send_reason: u8,
     pub bytes: usize,
     pub destination: Address,
     pub message: Message,

@@ -1,5 +1,5 @@
-//! Our generator, run sheet, report and element walk, as C has them, and a safe function for each
-//! of these calls.
+//! Our generator, run sheet, report and element walk, as C declares them, and a safe function for
+//! each of these calls.
 
 use testkit_open::evidence::PacketContinuityBudget;
 
@@ -226,7 +226,7 @@ pub struct Noted {
 #[derive(Debug, Clone, PartialEq, Eq)]
 pub struct RunSheet {
     pub sequences: Vec<u64>,
-    pub send_times: Vec<u64>,
+    pub send_timestamps: Vec<u64>,
     pub latencies: Vec<u64>,
     pub marks: Vec<u8>,
     pub counts: Counts,
@@ -260,7 +260,7 @@ impl Engine {
                 Plan {
                     packet_count,
                     target_rate_pps,
-                    first_send_timestamp_ns: first.send_time,
+                    first_send_timestamp_ns: first.send_timestamp_ns,
                 },
                 &mut self.next_sequence,
                 out.as_mut_ptr(),
@@ -283,8 +283,8 @@ macro_rules! on_sheet {
         $call(
             $sheet.sequences.as_mut_ptr(),
             $sheet.sequences.len(),
-            $sheet.send_times.as_mut_ptr(),
-            $sheet.send_times.len(),
+            $sheet.send_timestamps.as_mut_ptr(),
+            $sheet.send_timestamps.len(),
             $sheet.latencies.as_mut_ptr(),
             $sheet.latencies.len(),
             $sheet.marks.as_mut_ptr(),
@@ -304,21 +304,21 @@ impl Report {
 }
 
 impl RunSheet {
-    pub fn record_sent(&mut self, sequence: u64, send_time: u64) -> Noted {
+    pub fn record_sent(&mut self, sequence: u64, send_timestamp_ns: u64) -> Noted {
         // SAFETY: each column is lent with its length for as long as the call runs, and to it
         // alone.
-        let recorded = unsafe { on_sheet!(testkit_record_sent, self, sequence, send_time) };
+        let recorded = unsafe { on_sheet!(testkit_record_sent, self, sequence, send_timestamp_ns) };
         self.recorded(recorded)
     }
 
-    pub fn record_received_tpdu(&mut self, return_time: u64, tpdu: &[u8]) -> Noted {
+    pub fn record_received_tpdu(&mut self, return_timestamp_ns: u64, tpdu: &[u8]) -> Noted {
         let tpdu = lent(tpdu);
         // SAFETY: as in `record_sent`; the call reads `length` bytes from `tpdu`.
         let recorded = unsafe {
             on_sheet!(
                 testkit_record_received_tpdu,
                 self,
-                return_time,
+                return_timestamp_ns,
                 tpdu.as_ptr(),
                 tpdu.len()
             )
@@ -331,25 +331,25 @@ impl RunSheet {
         &mut self,
         packet_count: u64,
         target_rate_pps: u64,
-        first_send_time: u64,
+        first_send_timestamp_ns: u64,
         next_sequence: u64,
     ) -> u8 {
         let plan = Plan {
             packet_count,
             target_rate_pps,
-            first_send_timestamp_ns: first_send_time,
+            first_send_timestamp_ns,
         };
         // SAFETY: as in `record_sent`.
         let recorded = unsafe { on_sheet!(testkit_record_sent_plan, self, plan, next_sequence) };
         self.recorded(recorded).number
     }
 
-    /// Takes a list of T-PDUs that came back, end to end in `tpdus`: how many they were, and the
-    /// number of a refusal of the whole list or 0. What each reads as and its number are written to
-    /// the last two columns.
+    /// Takes a list of T-PDUs that came back, end to end in `tpdus`: how many they were, and 0 or the
+    /// number of a refusal of the whole list. The sequence that each has and its number are written
+    /// to the last two columns.
     pub fn record_received_tpdus(
         &mut self,
-        return_times: &[u64],
+        return_timestamps: &[u64],
         lengths: &[usize],
         tpdus: &[u8],
         returned: &mut [u64],
@@ -361,8 +361,8 @@ impl RunSheet {
             on_sheet!(
                 testkit_record_received_tpdus,
                 self,
-                return_times.as_ptr(),
-                return_times.len(),
+                return_timestamps.as_ptr(),
+                return_timestamps.len(),
                 lengths.as_ptr(),
                 lengths.len(),
                 tpdus.as_ptr(),
@@ -379,7 +379,7 @@ impl RunSheet {
 
     pub fn record_return_gtpu_datagram(
         &mut self,
-        return_time: u64,
+        return_timestamp_ns: u64,
         message_type: u8,
         payload: &[u8],
     ) -> Noted {
@@ -389,7 +389,7 @@ impl RunSheet {
             on_sheet!(
                 testkit_record_return_gtpu_datagram,
                 self,
-                return_time,
+                return_timestamp_ns,
                 message_type,
                 payload.as_ptr(),
                 payload.len()
@@ -414,8 +414,8 @@ impl RunSheet {
             testkit_report(
                 self.sequences.as_ptr(),
                 self.sequences.len(),
-                self.send_times.as_ptr(),
-                self.send_times.len(),
+                self.send_timestamps.as_ptr(),
+                self.send_timestamps.len(),
                 self.latencies.as_ptr(),
                 self.latencies.len(),
                 self.marks.as_ptr(),

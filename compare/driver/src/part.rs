@@ -6,11 +6,12 @@ use std::fmt;
 const SHOWN: usize = 96;
 
 pub struct Part {
-    name: &'static str,
     /// What a case is called, in the plural.
     unit: &'static str,
     cases: u64,
     differences: u64,
+    /// How many T-PDUs were not compared with the Rust.
+    left_out: u64,
     /// What else is to be printed.
     note: String,
     /// Of all differences the one with the shortest input, the first of several: its length
@@ -19,12 +20,12 @@ pub struct Part {
 }
 
 impl Part {
-    pub fn new(name: &'static str, unit: &'static str) -> Self {
+    pub fn new(unit: &'static str) -> Self {
         Self {
-            name,
             unit,
             cases: 0,
             differences: 0,
+            left_out: 0,
             note: String::new(),
             shortest: None,
         }
@@ -47,6 +48,11 @@ impl Part {
         }
     }
 
+    /// Counts a T-PDU that is not compared with the Rust (compared.rs).
+    pub fn leave_out(&mut self) {
+        self.left_out += 1;
+    }
+
     /// Prints this below the part's line.
     pub fn note(&mut self, note: String) {
         self.note = note;
@@ -60,6 +66,10 @@ impl Part {
         self.differences
     }
 
+    pub fn left_out(&self) -> u64 {
+        self.left_out
+    }
+
     /// Whether the sides differed. A part with no case at all shows nothing, so it fails too.
     pub fn failed(&self) -> bool {
         self.differences > 0 || self.cases == 0
@@ -69,11 +79,10 @@ impl Part {
 impl fmt::Display for Part {
     fn fmt(&self, f: &mut fmt::Formatter<'_>) -> fmt::Result {
         let (cases, differences) = (grouped(self.cases), grouped(self.differences));
-        write!(
-            f,
-            "{}: {cases} {}, {differences} differences",
-            self.name, self.unit
-        )?;
+        write!(f, "{cases} {}, {differences} differences", self.unit)?;
+        if self.left_out > 0 {
+            write!(f, ", {} left out", grouped(self.left_out))?;
+        }
         if !self.note.is_empty() {
             write!(f, "\n  {}", self.note)?;
         }

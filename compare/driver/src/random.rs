@@ -17,8 +17,8 @@ impl Random {
         mixed ^ (mixed >> 31)
     }
 
-    /// A number of so many bits, over the whole range; every fourth is 0, 1 or one of the two at the
-    /// top, or has one byte alone that is not 0.
+    /// A number of `bits` bits, over the whole range; every fourth is 0, 1 or one of the two at the
+    /// top, or has a single byte that is not 0.
     fn of_bits(&mut self, bits: u32) -> u64 {
         let most = u64::MAX >> (u64::BITS - bits);
         match self.below(8) {

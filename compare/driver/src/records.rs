@@ -9,7 +9,7 @@ pub const ROWS: usize = 6;
 /// The longest packet, payload and element list of the sample.
 pub const MOST_BYTES: usize = 160;
 
-/// What a drawn input gave: the number, or 0; a further distinction; and the record's rest.
+/// What a drawn input gave: the number, or 0; which variety of that outcome; and the rest of the record.
 pub type Drawn = (u8, u8, Vec<u8>);
 
 /// A length in two bytes.

@@ -1,10 +1,10 @@
 //! Our reflector against the Rust's: whole runs of registering, removal and messages on both
-//! sides, the table and the state compared after each call; and the refusals that the Rust has not.
-
-use std::iter;
+//! sides, the table and the state compared after each call; and the refusals that the Rust does not
+//! have.
 
 use testkit_open::reflector::{OpenReflector, ReflectorPolicy};
 
+use crate::compared::{compared, leave_out, Answer};
 use crate::numbers::*;
 use crate::ours_reflector::{
     Address, Reflector, Registered, Removed, Session, State, LOCAL_TEID_AT, PEER_TEID_AT, PORT_AT,
@@ -18,7 +18,7 @@ use crate::reflector_due::{
 };
 use crate::reflector_inputs::{
     any_address, any_config, any_header, any_message, any_policy, any_registered, any_session,
-    any_source, any_state, any_teid, near_copy, ECHO_REQUEST, G_PDU, PLACES,
+    any_source, any_state, any_teid, near_copy, ECHO, ECHO_REQUEST, G_PDU, PLACES,
 };
 use crate::rust_side::gtpu::Message;
 use crate::rust_side::measurement::build;
@@ -36,7 +36,7 @@ pub const MOST_SESSIONS: usize = 4_096;
 const DIRT: u8 = 0xa5;
 
 /// The policies: echo, sink and count, route.
-const POLICIES: [u8; 3] = [0, 1, 2];
+const POLICIES: [u8; 3] = [ECHO, 1, 2];
 
 /// A part under way, and the numbers that were due in it.
 struct Comparison {
@@ -46,9 +46,9 @@ struct Comparison {
 }
 
 impl Comparison {
-    fn new(name: &'static str, unit: &'static str, seed: u64) -> Self {
+    fn new(unit: &'static str, seed: u64) -> Self {
         Self {
-            part: Part::new(name, unit),
+            part: Part::new(unit),
             seen: Seen::default(),
             random: Random::new(seed),
         }
@@ -70,7 +70,7 @@ struct Pair {
 /// Runs from fresh tables and from any state, under each policy. Each number of a run must have
 /// been due.
 pub fn runs(seed: u64, rounds: u64) -> Part {
-    let mut run = Comparison::new("reflector, runs", "calls", seed);
+    let mut run = Comparison::new("calls", seed);
     each_damage(&mut run);
     for round in 0..rounds / 8 {
         let most = match round % 256 {
@@ -90,17 +90,13 @@ pub fn runs(seed: u64, rounds: u64) -> Part {
             each_type(&mut run, &mut pair);
         }
     }
-    run.done(
-        iter::once(0)
-            .chain(READING)
-            .chain(INVALID_REFLECTOR_SESSION..=UNSUPPORTED_MESSAGE_TYPE),
-    )
+    run.done(answers(&[READING, REGISTERING, HANDLING]))
 }
 
 /// Sessions, addresses and TEIDs that differ from a registered one in one place, each place in turn:
 /// registered, removed, and as what a message has and comes from.
 pub fn near_copies(seed: u64, rounds: u64) -> Part {
-    let mut run = Comparison::new("reflector, near copies", "calls", seed);
+    let mut run = Comparison::new("calls", seed);
     for round in 0..3.max(rounds / 64) {
         for version in [4, 6] {
             let mut pair = Pair::new(&mut run.random, 2, POLICIES[round as usize % 3]);
@@ -109,7 +105,13 @@ pub fn near_copies(seed: u64, rounds: u64) -> Part {
             each_zero(&mut run, &mut pair, known);
         }
     }
-    run.done([0, 32, 33, 35, 36])
+    run.done([
+        0,
+        INVALID_REFLECTOR_SESSION,
+        REFLECTOR_SESSION_CONFLICT,
+        ECHO_REQUEST_TEID_NOT_ZERO,
+        ECHO_REQUEST_MISSING_SEQUENCE,
+    ])
 }
 
 /// A near copy in each place, before it is registered, beside the session, and in its stead.
@@ -174,7 +176,7 @@ fn each_zero(run: &mut Comparison, pair: &mut Pair, known: Session) {
 /// Tables of 4,096 sessions, under each policy: filled, asked for when they are full, a row removed
 /// and registered again at the first, a middle and the last place.
 pub fn full_tables(seed: u64) -> Part {
-    let mut run = Comparison::new("reflector, full tables", "calls", seed);
+    let mut run = Comparison::new("calls", seed);
     for policy in POLICIES {
         let mut pair = Pair::new(&mut run.random, MOST_SESSIONS, policy);
         while pair.ours.used < MOST_SESSIONS {
@@ -187,12 +189,17 @@ pub fn full_tables(seed: u64) -> Part {
             pair.loses(&mut run, row);
         }
     }
-    run.done([0, 32, 33, 34])
+    run.done([
+        0,
+        INVALID_REFLECTOR_SESSION,
+        REFLECTOR_SESSION_CONFLICT,
+        REFLECTOR_SESSION_CAPACITY_EXCEEDED,
+    ])
 }
 
 /// Every error sequence from fresh, by messages of an unknown TEID, until after 65,535 comes 1.
 pub fn error_sequences(seed: u64) -> Part {
-    let mut run = Comparison::new("reflector, error sequence", "messages", seed);
+    let mut run = Comparison::new("messages", seed);
     let policy = any_policy(&mut run.random);
     let mut pair = Pair::new(&mut run.random, 1, policy);
     for _ in 0..=u16::MAX {
@@ -213,7 +220,7 @@ pub fn error_sequences(seed: u64) -> Part {
 /// The refusals by 30, 31 and 15, which change nothing. The Rust refuses by 30 too, when a
 /// reflector is made.
 pub fn refused(seed: u64, rounds: u64) -> Part {
-    let mut run = Comparison::new("reflector, refused tables and outputs", "calls", seed);
+    let mut run = Comparison::new("calls", seed);
     for round in 0..rounds / 16 {
         let (mut ours, number) = any_refused(&mut run.random, round);
         let random = &mut run.random;
@@ -292,7 +299,8 @@ fn any_refused(random: &mut Random, round: u64) -> (Reflector, u8) {
 }
 
 impl Pair {
-    /// Fresh sides of so many sessions. Our table has rows to spare, all dirty.
+    /// Both sides, fresh, with room for `max_sessions`. Our table has up to two rows more, and anything
+    /// in all of them.
     fn new(random: &mut Random, max_sessions: usize, policy: u8) -> Self {
         let config = any_config(random, max_sessions, policy);
         let rust = rust_reflector(&config).expect("a maximum of 1 to 4,096");
@@ -318,8 +326,8 @@ impl Pair {
         &self.ours.sessions[..self.ours.used]
     }
 
-    /// Where our state or our used rows are not the Rust's, or some row, used or not, is not the one
-    /// of these.
+    /// Where our state or our used rows are not the Rust's, or some row, used or not, is not that of
+    /// `rows`.
     fn difference(&self, rows: &[Session]) -> Option<String> {
         let due = self.rust.state();
         let (ours, state) = (&self.ours, our_state(&due));
@@ -386,9 +394,9 @@ impl Pair {
         if due.added {
             rows[used] = session;
         }
-        run.seen.add(due.number);
         let answer = self.ours.register_session(session);
-        let answer = (answer, self.difference(&rows));
+        run.seen.add(answer.number);
+        let answer = (answer.told(), self.difference(&rows));
         run.part.case(&session.to_bytes(), answer, (due, None));
         self.go_on(rows, due.used);
     }
@@ -418,8 +426,8 @@ impl Pair {
         if let Some(place) = place {
             rows[place] = rows[used - 1];
         }
-        run.seen.add(0);
         let answer = self.ours.remove_session(local_teid);
+        run.seen.add(answer.number);
         let answer = (answer, session.map(rust_session), self.difference(&rows));
         let input = local_teid.to_be_bytes();
         run.part.case(&input, answer, (due, removed, None));
@@ -431,24 +439,55 @@ impl Pair {
         used.position(|session| session.local_teid == local_teid)
     }
 
+    /// Whether this message's payload is read: a G-PDU that is echoed.
+    fn reads(&self, message: &Message) -> bool {
+        let is_echo = self.ours.config.policy == ECHO;
+        is_echo && message.message_type == G_PDU && self.place_of(message.teid).is_some()
+    }
+
     fn handles(&mut self, run: &mut Comparison, source: Address, message: &Message) {
+        if self.reads(message) && !compared(&message.payload) {
+            self.leaves_out(run, source, message);
+            return;
+        }
         let rows = self.ours.sessions.clone();
         let answer = self.rust.handle_datagram(socket_addr(source), message);
         let state = our_state(&self.rust.state());
         let room = LEAST_OUTPUT + run.random.below(9);
         let mut expected = vec![DIRT; room];
         let due = handled(&answer, message, state, &mut expected);
-        run.seen.add(due.number);
 
         let mut out = vec![DIRT; room];
         let header = any_header(&mut run.random, message);
         let ours = &mut self.ours;
         let mut answer = ours.handle_datagram(source, header, &message.payload, &mut out);
+        run.seen.add(answer.number);
         answer.destination = plain(answer.destination);
-        let answer = (answer, out, self.difference(&rows));
+        let answer = (answer.told(), out, self.difference(&rows));
         run.part
             .case(&message.payload, answer, (due, expected, None));
         self.go_on(rows, self.ours.used);
+    }
+
+    /// A message whose payload is read and is not compared: the Rust is not given it, and ours goes
+    /// back to where it was. Of a refusal, only the received count is left.
+    fn leaves_out(&mut self, run: &mut Comparison, source: Address, message: &Message) {
+        let before = self.ours.clone();
+        let mut out = vec![DIRT; LEAST_OUTPUT];
+        let header = any_header(&mut run.random, message);
+        let ours = &mut self.ours;
+        let answer = ours.handle_datagram(source, header, &message.payload, &mut out);
+        run.seen.add(answer.number);
+        if let Some(number) = leave_out(&mut run.part, &message.payload) {
+            let mut due = before.clone();
+            due.state.gpdu_received = due.state.gpdu_received.saturating_add(1);
+            let answer = (answer.told(), out, &self.ours);
+            let refused = not_sent(number, 0, 0, due.state);
+            let untouched = vec![DIRT; LEAST_OUTPUT];
+            run.part
+                .case(&message.payload, answer, (refused, untouched, &due));
+        }
+        self.ours = before;
     }
 
     /// A G-PDU with a built packet.
@@ -535,7 +574,7 @@ fn each_type(run: &mut Comparison, pair: &mut Pair) {
 /// Packets for the one session of an echo, of both versions: cut at every length, with every bit
 /// turned, the checksums made right and not, and with a short UDP length and a UDP checksum of 0.
 fn each_damage(run: &mut Comparison) {
-    let mut pair = Pair::new(&mut run.random, 1, POLICIES[0]);
+    let mut pair = Pair::new(&mut run.random, 1, ECHO);
     let known = pair.registers_one(run, 4);
     for version in [4, 6] {
         let packet = build(any_probe_of(&mut run.random, version));

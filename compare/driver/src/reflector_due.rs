@@ -1,4 +1,5 @@
-//! What is due from our reflector where the Rust's answers this, and ours in the Rust's types.
+//! What our reflector has to answer where the Rust's answers this, in the numbers that are compared
+//! (compared.rs); and our values in the Rust's types.
 
 use std::net::{IpAddr, SocketAddr};
 
@@ -108,7 +109,8 @@ pub fn handled(
     Handled {
         number: 0,
         action: 2,
-        reason,
+        noop_reason: 0,
+        send_reason: reason,
         bytes,
         destination: our_address(*destination),
         message: Header {
@@ -122,11 +124,11 @@ pub fn handled(
 }
 
 /// An answer with nothing to send: version 4 and zeros for the message.
-pub fn not_sent(number: u8, action: u8, reason: u8, state: State) -> Handled {
+pub fn not_sent(number: u8, action: u8, noop_reason: u8, state: State) -> Handled {
     Handled {
         number,
         action,
-        reason,
+        noop_reason,
         destination: Address {
             version: 4,
             ..Address::default()

@@ -14,7 +14,7 @@ use crate::wild::{any_packet, any_probe};
 pub const G_PDU: u8 = 255;
 pub const ECHO_REQUEST: u8 = 1;
 
-/// The most of a payload.
+/// The longest payload.
 const MOST_PAYLOAD: usize = 65_535;
 
 /// The place of a near copy that differs in bytes which do not count: those past an IPv4 address, and
@@ -23,6 +23,9 @@ pub const UNCOUNTED: usize = SESSION_BYTES;
 
 /// The places in which a near copy may differ: a byte of the session, or `UNCOUNTED`.
 pub const PLACES: usize = SESSION_BYTES + 1;
+
+/// The policy under which a G-PDU is read.
+pub const ECHO: u8 = 0;
 
 /// Echo twice as often as the others; any number but 0 and 1 is a route.
 pub fn any_policy(random: &mut Random) -> u8 {
@@ -94,7 +97,7 @@ pub fn near_copy(random: &mut Random, session: Session, place: usize) -> Session
     Session::from_bytes(bytes)
 }
 
-/// One of these sessions: every second time the last, which was registered last; none of none.
+/// One of these sessions, if there are any: every second time the last, which was registered last.
 fn one_of(random: &mut Random, used: &[Session]) -> Option<Session> {
     match random.below(2) {
         0 => used.last().copied(),

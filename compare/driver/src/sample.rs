@@ -2,12 +2,12 @@
 //! is in them. Nothing here, or in `sample_reflector.rs`, calls our library.
 
 use std::collections::{BTreeMap, BTreeSet};
-use std::iter;
 
 use testkit_open::traffic::TrafficPlan;
 
+use crate::compared::compared;
 use crate::gtpu::any_elements;
-use crate::numbers::{CARD, NOT_IN_THE_RUST};
+use crate::numbers::of_the_rust;
 use crate::observer::{any_call, any_contents, Call};
 use crate::ours::{Values, DIRTY_ADDRESS};
 use crate::ours_traffic::{Counts, Noted, Report, RunSheet};
@@ -77,11 +77,10 @@ pub fn sample(seed: u64, first: u8) -> Sample {
     sample.draw(REMOVE_SESSION, 10, 10, draw_remove);
     sample.draw(HANDLE_DATAGRAM, 4, 6, draw_handle);
     if first == 0 {
-        let due = iter::once(0)
-            .chain(CARD)
-            .filter(|number| !NOT_IN_THE_RUST.contains(number));
+        let mut due = of_the_rust();
+        due.insert(0);
         let numbers: BTreeSet<u8> = sample.seen.keys().map(|&(_, number, _)| number).collect();
-        assert_eq!(numbers, due.collect(), "the numbers of the sample");
+        assert_eq!(numbers, due, "the numbers of the sample");
     }
     sample
 }
@@ -135,7 +134,7 @@ fn flow_bytes(values: &Values) -> Vec<u8> {
 fn probe_bytes(values: &Values) -> Vec<u8> {
     let mut bytes = flow_bytes(values);
     bytes.extend(values.sequence.to_be_bytes());
-    bytes.extend(values.send_time.to_be_bytes());
+    bytes.extend(values.send_timestamp_ns.to_be_bytes());
     bytes
 }
 
@@ -174,13 +173,13 @@ fn draw_build(random: &mut Random) -> Option<Drawn> {
     Some((0, values.version, rest))
 }
 
-/// A short packet, often cut.
+/// A short packet that is compared, often cut.
 fn short_packet(random: &mut Random) -> Option<Vec<u8>> {
     let mut packet = any_packet(random);
     if random.below(4) == 0 {
         packet.truncate(random.below(packet.len() + 1));
     }
-    (packet.len() <= MOST_BYTES).then_some(packet)
+    (packet.len() <= MOST_BYTES && compared(&packet)).then_some(packet)
 }
 
 fn draw_decode(random: &mut Random) -> Option<Drawn> {
@@ -203,7 +202,7 @@ fn no_values() -> Values {
         src_port: 0,
         dst_port: 0,
         sequence: 0,
-        send_time: 0,
+        send_timestamp_ns: 0,
     }
 }
 
@@ -232,7 +231,7 @@ fn draw_generate(random: &mut Random) -> Option<Drawn> {
         },
         first_send_timestamp_ns: match random.below(3) {
             0 => u64::MAX - random.length(1 << 32) as u64,
-            _ => probe.send_time,
+            _ => probe.send_timestamp_ns,
         },
     };
     if random.below(3) == 0 {
@@ -266,7 +265,7 @@ fn any_sheet(random: &mut Random, contents: &Sheet) -> (RunSheet, [u8; 4]) {
     let mut column = || -> Vec<u64> { (0..ROWS).map(|_| random.number()).collect() };
     let dirty = RunSheet {
         sequences: column(),
-        send_times: column(),
+        send_timestamps: column(),
         latencies: column(),
         marks: column().into_iter().map(|cell| cell as u8).collect(),
         counts: Counts::default(),
@@ -287,7 +286,7 @@ fn counts_bytes(counts: &Counts) -> Vec<u8> {
 /// Counts and columns: 175 bytes.
 fn sheet_bytes(sheet: &RunSheet) -> Vec<u8> {
     let mut bytes = counts_bytes(&sheet.counts);
-    for column in [&sheet.sequences, &sheet.send_times, &sheet.latencies] {
+    for column in [&sheet.sequences, &sheet.send_timestamps, &sheet.latencies] {
         bytes.extend(column.iter().flat_map(|cell| cell.to_be_bytes()));
     }
     bytes.extend(&sheet.marks);
@@ -299,8 +298,8 @@ fn call_parts(call: &Call) -> (u8, [u64; 2], &[u8]) {
     match call {
         Call::Sent {
             sequence,
-            send_time,
-        } => (RECORD_SENT, [*sequence, *send_time], &[]),
+            send_timestamp_ns,
+        } => (RECORD_SENT, [*sequence, *send_timestamp_ns], &[]),
         Call::Tpdu { time, tpdu } => (RECORD_RECEIVED_TPDU, [*time, 0], tpdu),
         Call::Message {
             time,
@@ -322,6 +321,9 @@ fn draw_call(random: &mut Random, kind: u8) -> Option<Drawn> {
     let call = any_call(random, &contents.rows, base, ROWS);
     let (call_kind, numbers, payload) = call_parts(&call);
     if call_kind != kind || payload.len() > MOST_BYTES {
+        return None;
+    }
+    if call.tpdu().is_some_and(|tpdu| !compared(tpdu)) {
         return None;
     }
     let room = lent.map(usize::from).into_iter().min()?;

@@ -3,6 +3,7 @@
 
 use testkit_open::reflector::OpenReflector;
 
+use crate::compared::compared;
 use crate::numbers::ECHO_REQUEST_TEID_NOT_ZERO;
 use crate::ours_reflector::{Address, Config, Handled, Message as Header, Session, State};
 use crate::random::Random;
@@ -11,7 +12,7 @@ use crate::reflector::{LEAST_OUTPUT, MOST_SESSIONS};
 use crate::reflector_due::{handled, our_state, rust_reflector, rust_session, socket_addr};
 use crate::reflector_inputs::{
     any_config, any_header, any_message, any_policy, any_registered, any_session, any_source,
-    any_state, any_teid,
+    any_state, any_teid, ECHO, G_PDU,
 };
 use crate::rust_side::reflector::Reflector;
 use crate::rust_side::Outcome;
@@ -184,9 +185,14 @@ fn message_bytes(message: &Header) -> Vec<u8> {
     bytes
 }
 
+/// The reason of what is done: the other one is 0.
+fn reason(handled: &Handled) -> u8 {
+    handled.noop_reason.max(handled.send_reason)
+}
+
 /// What is answered (31 bytes), and the state afterwards (50).
 fn handled_bytes(handled: &Handled) -> Vec<u8> {
-    let mut bytes = vec![handled.action, handled.reason];
+    let mut bytes = vec![handled.action, reason(handled)];
     bytes.extend(word(handled.bytes));
     bytes.extend(address_bytes(&handled.destination));
     bytes.extend(message_bytes(&handled.message));
@@ -199,7 +205,8 @@ fn handled_bytes(handled: &Handled) -> Vec<u8> {
 pub fn draw_handle(random: &mut Random) -> Option<Drawn> {
     let mut table = Table::any(random);
     let message = any_message(random, table.used());
-    if message.payload.len() > MOST_BYTES {
+    let is_echoed = message.message_type == G_PDU && table.config.policy == ECHO;
+    if message.payload.len() > MOST_BYTES || is_echoed && !compared(&message.payload) {
         return None;
     }
     let source = any_source(random, table.used());
@@ -222,7 +229,7 @@ pub fn draw_handle(random: &mut Random) -> Option<Drawn> {
     rest.extend(word(out.len()));
     rest.extend(out);
     rest.extend(message.payload);
-    let done = due.action * 8 + due.reason;
+    let done = due.action * 8 + reason(&due);
     let variety = match due.number {
         ECHO_REQUEST_TEID_NOT_ZERO => lone_byte(message.teid),
         _ => done * 6 + table.config.policy.min(2) * 2 + u8::from(due.destination.version == 4),

@@ -18,11 +18,11 @@ pub fn fresh(random: &mut Random, capacity: usize) -> RunSheet {
     if capacity < MOST_ROWS {
         lengths[random.below(4)] = capacity;
     }
-    let [sequences, send_times, latencies, marks] = lengths;
+    let [sequences, send_timestamps, latencies, marks] = lengths;
     let mut column = |length| (0..length).map(|_| random.number()).collect::<Vec<_>>();
     RunSheet {
         sequences: column(sequences),
-        send_times: column(send_times),
+        send_timestamps: column(send_timestamps),
         latencies: column(latencies),
         marks: column(marks).into_iter().map(|cell| cell as u8).collect(),
         counts: Counts::default(),
@@ -34,7 +34,7 @@ pub fn capacity(sheet: &RunSheet) -> usize {
     sheet
         .sequences
         .len()
-        .min(sheet.send_times.len())
+        .min(sheet.send_timestamps.len())
         .min(sheet.latencies.len())
         .min(sheet.marks.len())
         .min(MOST_ROWS)
@@ -45,7 +45,7 @@ pub fn holding(sheet: &RunSheet, contents: &Sheet) -> RunSheet {
     let mut due = sheet.clone();
     for (at, row) in contents.rows.iter().enumerate() {
         due.sequences[at] = row.sequence;
-        due.send_times[at] = row.send_time;
+        due.send_timestamps[at] = row.send_timestamp_ns;
         due.latencies[at] = row.latency;
         due.marks[at] = u8::from(row.returned);
     }
@@ -71,7 +71,7 @@ pub fn difference(sheet: &RunSheet, due: &RunSheet) -> Option<String> {
         return Some(format!("{:?} instead of {:?}", sheet.counts, due.counts));
     }
     column("sequence", &sheet.sequences, &due.sequences)
-        .or_else(|| column("send time", &sheet.send_times, &due.send_times))
+        .or_else(|| column("send time", &sheet.send_timestamps, &due.send_timestamps))
         .or_else(|| column("latency", &sheet.latencies, &due.latencies))
         .or_else(|| column("mark", &sheet.marks, &due.marks))
 }
@@ -88,7 +88,7 @@ pub fn questions(
 ) -> Vec<Question> {
     let mut ends = vec![0, u64::MAX, random.number()];
     if let Some(row) = contents.rows.last() {
-        let time = row.send_time;
+        let time = row.send_timestamp_ns;
         ends.extend([time.wrapping_sub(1), time, time.saturating_add(1_000)]);
     }
     let start = random.number();

@@ -12,7 +12,7 @@ use opc_proto_gtpu::to_datagram;
 use crate::ours_reflector::{Address, Config, Message, Reflector, Session, State};
 use crate::speed_traffic::{take_turns, Timing};
 
-/// A call is too short to be timed alone; it is made so often in a round.
+/// How often a call is made in a round: alone it is too short to be timed.
 const REPEATS: usize = 256;
 
 pub fn speed() -> Vec<Timing> {

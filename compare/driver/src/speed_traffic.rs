@@ -22,7 +22,7 @@ use crate::sheets::MOST_ROWS;
 
 const ROUNDS: usize = 201;
 
-/// Calls that are too short to be timed alone are made so often in a round.
+/// How often a call is made in a round that is too short to be timed alone.
 const REPEATS: usize = 4_096;
 
 /// What is timed, and the nanoseconds that ours and the Rust's take for it.
@@ -188,7 +188,7 @@ fn packets(count: usize) -> Vec<GeneratedPacket> {
 fn sheet(rows: usize) -> RunSheet {
     RunSheet {
         sequences: vec![0; rows],
-        send_times: vec![0; rows],
+        send_timestamps: vec![0; rows],
         latencies: vec![0; rows],
         marks: vec![0; rows],
         counts: Counts::default(),

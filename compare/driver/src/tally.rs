@@ -6,7 +6,9 @@
 
 use testkit_open::evidence::PacketContinuityBudget;
 
+use crate::compared::due;
 use crate::damage::{excluded, turn, window_starts};
+use crate::numbers::TIMESTAMP_REVERSED;
 use crate::ours::{self, Values};
 use crate::ours_traffic::{self, Report, RunSheet};
 use crate::packet::{part_at, word};
@@ -25,9 +27,9 @@ struct Tally(Sheet);
 impl Tally {
     /// Takes the packets, each with its sequence and send time.
     fn new(packets: impl Iterator<Item = (u64, u64)>) -> Self {
-        let row = |(sequence, send_time)| Row {
+        let row = |(sequence, send_timestamp_ns)| Row {
             sequence,
-            send_time,
+            send_timestamp_ns,
             latency: 0,
             returned: false,
         };
@@ -37,12 +39,12 @@ impl Tally {
         })
     }
 
-    /// Takes a return: its packet, by place in the plan, its time and the bytes that arrived. Of
-    /// the reader, only whether it refuses is asked.
-    fn take(&mut self, packet: usize, time: u64, arrived: &[u8]) {
+    /// Takes a return: its packet, by place in the plan, its time, and whether a reader refuses the
+    /// bytes that arrived.
+    fn take(&mut self, packet: usize, time: u64, is_refused: bool) {
         let sheet = &mut self.0;
         let row = sheet.rows[packet];
-        if decode(arrived).is_err() || time < row.send_time {
+        if is_refused || time < row.send_timestamp_ns {
             return;
         }
         if row.returned {
@@ -54,7 +56,7 @@ impl Tally {
             sheet.out_of_order = sheet.out_of_order.saturating_add(1);
         }
         sheet.rows[packet].returned = true;
-        sheet.rows[packet].latency = time - row.send_time;
+        sheet.rows[packet].latency = time - row.send_timestamp_ns;
     }
 
     /// Leaf 7 on the tally.
@@ -119,9 +121,9 @@ fn longest(rows: &[Row], window_end: u64) -> (u64, u64) {
         let run = rows[first..].iter().take_while(|row| !row.returned).count();
         let end = rows
             .get(first + run)
-            .map_or(window_end, |row| row.send_time);
+            .map_or(window_end, |row| row.send_timestamp_ns);
         count = count.max(run as u64);
-        duration = duration.max(end.saturating_sub(rows[first].send_time));
+        duration = duration.max(end.saturating_sub(rows[first].send_timestamp_ns));
     }
     (count, duration)
 }
@@ -166,7 +168,7 @@ struct Met {
 /// Lists of returns on random accepted plans: after each return our sheet must be the tally's, and
 /// in the end the reports, and a second sheet, from which damage is kept away.
 pub fn tallies(seed: u64, rounds: u64) -> Part {
-    let mut part = Part::new("tally", "returns, sheets and reports");
+    let mut part = Part::new("returns, sheets and reports");
     let mut random = Random::new(seed);
     let mut met = Met::default();
     for round in 0..rounds {
@@ -218,8 +220,8 @@ fn any_packets(random: &mut Random, most: usize) -> Option<Vec<(u64, u64, Vec<u8
             .map(|index| {
                 let at = index as usize * size;
                 let tpdu = out[at..at + size].to_vec();
-                let send_time = first.send_time + index * interval;
-                (first.sequence + index, send_time, tpdu)
+                let send_timestamp_ns = first.send_timestamp_ns + index * interval;
+                (first.sequence + index, send_timestamp_ns, tpdu)
             })
             .collect()
     })
@@ -239,12 +241,12 @@ fn list(part: &mut Part, random: &mut Random, met: &mut Met, packets: &[(u64, u6
     for each in &returns {
         let before = sheet.clone();
         let number = each.on(&mut sheet);
-        tally.take(each.packet, each.time, &each.arrived);
+        tally.take(each.packet, each.time, is_refused(part, &each.arrived));
         let due = holding(&before, &tally.0);
         part.case(&each.arrived, difference(&sheet, &due), None);
 
         met.returns += 1;
-        met.too_early += u64::from(number == 24);
+        met.too_early += u64::from(number == TIMESTAMP_REVERSED);
         met.damaged_refused += u64::from(each.damaged && number != 0);
         met.damaged_taken += u64::from(each.damaged && number == 0);
         if number == 0 || !each.damaged {
@@ -269,12 +271,20 @@ fn list(part: &mut Part, random: &mut Random, met: &mut Met, packets: &[(u64, u6
     }
 }
 
+/// Whether the Rust's reader refuses these bytes; ours, where they are not compared.
+fn is_refused(part: &mut Part, arrived: &[u8]) -> bool {
+    match due(part, arrived, decode) {
+        Some(due) => due.is_err(),
+        None => ours::decode(arrived).0 != 0,
+    }
+}
+
 /// A fresh sheet of ours with all packets entered as sent, none refused.
 fn entered(part: &mut Part, random: &mut Random, packets: &[(u64, u64, Vec<u8>)]) -> RunSheet {
     let room = (packets.len() + random.length(8)).min(MOST_ROWS);
     let mut sheet = fresh(random, room);
-    for (sequence, send_time, tpdu) in packets {
-        let noted = sheet.record_sent(*sequence, *send_time);
+    for (sequence, send_timestamp_ns, tpdu) in packets {
+        let noted = sheet.record_sent(*sequence, *send_timestamp_ns);
         part.case(tpdu, noted.number, 0);
     }
     sheet
@@ -291,7 +301,7 @@ fn any_return(
         0 => random.below(packets.len()),
         _ => step % packets.len(),
     };
-    let (_, send_time, tpdu) = &packets[packet];
+    let (_, send_timestamp_ns, tpdu) = &packets[packet];
     let (mut arrived, mut whole) = (tpdu.clone(), tpdu.clone());
     let mut damaged = false;
     for leg in 0..=random.below(4) {
@@ -309,9 +319,9 @@ fn any_return(
     }
     let time = match random.below(8) {
         0 => random.number(),
-        1 => send_time.saturating_sub(1),
+        1 => send_timestamp_ns.saturating_sub(1),
         2 => [0, u64::MAX][random.below(2)],
-        _ => send_time.saturating_add(random.length(1 << 20) as u64),
+        _ => send_timestamp_ns.saturating_add(random.length(1 << 20) as u64),
     };
     Some(Return {
         packet,

@@ -3,6 +3,7 @@
 
 use testkit_open::traffic::{GeneratedPacket, TrafficPlan};
 
+use crate::compared::Answer;
 use crate::numbers::*;
 use crate::ours::{Values, Written};
 use crate::ours_traffic;
@@ -21,24 +22,13 @@ pub const MOST_PACKETS: u64 = 2_048;
 const DIRT: u8 = 0xa5;
 const BEYOND: usize = 8;
 
-/// The generator's numbers.
-const EVERY_NUMBER: [u8; 7] = [
-    0,
-    OUTPUT_TOO_SHORT,
-    TARGET_RATE_IS_ZERO,
-    TARGET_RATE_EXCEEDS_RESOLUTION,
-    TOO_MANY_PACKETS,
-    SEQUENCE_OVERFLOW,
-    SEND_TIMESTAMP_OVERFLOW,
-];
-
 /// How many plans follow each other on one engine.
 const PLANS_OF_A_RUN: u64 = 12;
 
 /// Plans at the boundaries of count, rate, sequence and time, and random plans. Every number of
 /// the generator must have been due.
 pub fn generating(seed: u64, rounds: u64) -> Part {
-    let mut part = Part::new("generator", "calls");
+    let mut part = Part::new("calls");
     let mut seen = Seen::default();
     let mut random = Random::new(seed);
     for version in [4, 6] {
@@ -46,10 +36,12 @@ pub fn generating(seed: u64, rounds: u64) -> Part {
             for rate in [0, 1, 3, 1_000_000_000, 1_000_000_001, u64::MAX] {
                 let first = any_probe_of(&mut random, version);
                 for sequence in near_top(&mut random, count, 1) {
-                    for send_time in near_top(&mut random, count, interval(rate).unwrap_or(1)) {
+                    for send_timestamp_ns in
+                        near_top(&mut random, count, interval(rate).unwrap_or(1))
+                    {
                         let first = Probe {
                             sequence,
-                            send_time,
+                            send_timestamp_ns,
                             ..first
                         };
                         generates(&mut part, &mut seen, &mut random, first, count, rate);
@@ -67,20 +59,25 @@ pub fn generating(seed: u64, rounds: u64) -> Part {
         }
         generates(&mut part, &mut seen, &mut random, first, count, rate);
     }
-    seen.require(&mut part, EVERY_NUMBER);
+    seen.require(&mut part, every_number());
     part
 }
 
 /// Runs of plans, each run on one engine. Every number of the generator must have been due.
 pub fn runs(seed: u64, rounds: u64) -> Part {
-    let mut part = Part::new("runs of plans on one engine", "calls");
+    let mut part = Part::new("calls");
     let mut seen = Seen::default();
     let mut random = Random::new(seed);
     for _ in 0..rounds / (4 * PLANS_OF_A_RUN) {
         run(&mut part, &mut seen, &mut random);
     }
-    seen.require(&mut part, EVERY_NUMBER);
+    seen.require(&mut part, every_number());
     part
+}
+
+/// What the generator answers.
+fn every_number() -> Vec<u8> {
+    [&[0, OUTPUT_TOO_SHORT], PLANNING].concat()
 }
 
 /// What the first packet of a plan says, the plan's count and its rate. Often the sequence or the
@@ -97,7 +94,7 @@ pub fn any_plan(random: &mut Random) -> (Probe, u64, u64) {
         first.sequence = below_top(random, 1);
     }
     if random.below(4) == 0 {
-        first.send_time = below_top(random, 1_000_000_000 / rate);
+        first.send_timestamp_ns = below_top(random, 1_000_000_000 / rate);
     }
     (first, count, rate)
 }
@@ -228,14 +225,14 @@ fn generates_on(
             (0, bytes.len(), due.next_sequence)
         }
     };
-    seen.add(number);
+    seen.add(written.number);
     let size = if first.version == 4 { 52 } else { 72 };
     let both = out.chunks(size).zip(expected.chunks(size));
     let wrong_packet = both.into_iter().position(|(ours, due)| ours != due);
-    let plan = [before, count, rate, first.send_time].map(u64::to_be_bytes);
+    let plan = [before, count, rate, first.send_timestamp_ns].map(u64::to_be_bytes);
     part.case(
         plan.as_flattened(),
-        (written, ours.next_sequence, wrong_packet),
+        (written.told(), ours.next_sequence, wrong_packet),
         (Written { number, bytes }, next_sequence, None),
     );
 }
@@ -261,7 +258,7 @@ pub fn due_packets(
         // A rate is judged before a count, which the Rust does not limit.
         packet_count: count.min(MOST_PACKETS),
         target_rate_pps: rate,
-        first_send_timestamp_ns: first.send_time,
+        first_send_timestamp_ns: first.send_timestamp_ns,
     };
     engine.generate(first.flow, plan)
 }

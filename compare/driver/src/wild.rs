@@ -13,7 +13,7 @@ const UDP_HEADER: usize = 8;
 /// The longest that a length field can say.
 const MOST: usize = 65_535;
 
-/// What a right packet may have that a built one has not.
+/// What a right packet may have that a built one does not have.
 #[derive(Default)]
 struct Extra {
     /// IPv4 options, in words of 4 bytes.
@@ -72,7 +72,7 @@ pub fn any_probe_of(random: &mut Random, version: u8) -> Probe {
     Probe {
         flow,
         sequence: number() as u64,
-        send_time: number() as u64,
+        send_timestamp_ns: number() as u64,
     }
 }
 

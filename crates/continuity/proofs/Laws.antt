@@ -9,9 +9,9 @@ use lib.Dec.{eqb}
 use borrow.Author.Tests.{eq-eqb, ne-eqb, eqb-true}
 use Rattle.error.specs.Number.{malformedObserver, unsupportedMessageType}
 use Rattle.error.specs.Outcome.{Outcome, refused, gives}
-use Rattle.measurement.specs.Read.{readOf}
 use Rattle.measurement.specs.declared.DecodedTpdu.{DecodedTpdu}
-use Rattle.measurement.proofs.Accept.{read-by-zero}
+use Rattle.measurement_reading.specs.Read.{readOf}
+use Rattle.measurement_reading.proofs.Accept.{read-by-zero}
 use Rattle.measurement_decode.specs.Numbers.{tpduNumbers}
 use Rattle.measurement_decode.specs.declared.TpduNumbers.{TpduNumbers}
 use Rattle.gtpu.specs.Element.{elementsOf}

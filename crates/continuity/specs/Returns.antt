@@ -3,7 +3,7 @@
 use Prim.Native.Nat.{ℕ}
 use mathlib.Core.List.{List}
 use Rattle.error.specs.Outcome.{Outcome, refused, gives}
-use Rattle.measurement.specs.Read.{readOf}
+use Rattle.measurement_reading.specs.Read.{readOf}
 use Rattle.gtpu.specs.Element.{elementsOf}
 use Rattle.observer.specs.Observer.{Observer}
 use Rattle.observer.specs.Judge.{judged, Step, afterReading}

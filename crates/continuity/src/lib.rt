@@ -2,6 +2,7 @@
 // an observer is defined in specs/Returns.antt, and its contract is that one equation: answer, counts and every column at exit, on
 // refusals too.
 use gtpu::ElementsChecked;
+use gtpu::GtpuMessage;
 use observer::ObserverCounts;
 use observer::Recorded;
 use observer::Recording;
@@ -203,8 +204,9 @@ fn leave_unchanged(
     }
 }
 
-// Records a GTP-U message that came back, after its header is parsed. Its TEID and sequence are no parameters: the observer does not look at
-// them. Refuses by 21; 255 then as `record_received_tpdu` does, 26 as the walk over its elements does, and unknown types by 37.
+// Records a GTP-U message that came back, after its header is parsed. The observer looks at its type alone, not at its
+// TEID or sequence. Refuses by 21; 255 then as `record_received_tpdu` does, 26 as the walk over its elements does, and
+// unknown types by 37.
 pub fn record_return_gtpu_datagram(
     sequences: &[u64],
     send_timestamps: &[u64],
@@ -212,13 +214,14 @@ pub fn record_return_gtpu_datagram(
     marks: &mut [u8],
     counts: ObserverCounts,
     return_timestamp_ns: u64,
-    message_type: u8,
+    message: GtpuMessage,
     payload: &[u8],
 ) -> MessageRecorded
     ensures { λ r. ⌜ messageLeaves r sequences «send_timestamps» latencies marks
         ≡ recordReturnMessage (lent sequences «send_timestamps» latencies marks counts)
-        «return_timestamp_ns» «message_type» (now (payload .entry)) ⌝ }
+        «return_timestamp_ns» (message .«message_type») (now (payload .entry)) ⌝ }
 {
+    let message_type = message.message_type;
     match message_type {
         gtpu::GTPU_MSG_GPDU => {
             let step = record_received_tpdu(

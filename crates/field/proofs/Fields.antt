@@ -9,7 +9,7 @@ use mathlib.Core.Bool.{true}
 use borrow.Author.Tests.{eq-eqb}
 use lib.ListN.{length, take, drop, getD}
 use lib.Seq.{drop-cons, getD-take, getD-drop, take-at, take-all}
-use Rattle.field.specs.Field.{Bytes, sameBytes, bigEndian, number, bytesAt, field}
+use Rattle.field.specs.Field.{Bytes, sameBytes, bigEndian, valueOf, bytesAt, field}
 
 -- bytes
 pub bytes-take : (n : ℕ) (l : List ℕ) → Bytes l → Bytes (take n l)
@@ -57,14 +57,14 @@ length-bytesAt zero at l = refl
 length-bytesAt (suc width) at l = ap suc (length-bytesAt width (suc at) l)
 
 -- what the field holds, and what lies above it
-with-above : (width x : ℕ) → number (bigEndian width x) + 256 ^ width * (x / 256 ^ width) ≡ x
+with-above : (width x : ℕ) → valueOf (bigEndian width x) + 256 ^ width * (x / 256 ^ width) ≡ x
 with-above zero x = rw div-one (omega arith)
 with-above (suc width) x =
     let m = 256 ^ width in
     let q = x / m in
     let d : x / 256 ^ suc width ≡ q / 256 = ap (λ (k : ℕ). x / k) (pow-suc 256 width) ∙ sym (div-div-eq-div-mul x m 256) in
     let e : q % 256 + 256 * (q / 256) ≡ q = omega arith in
-    step (number (bigEndian width x)) (q % 256) (q / 256) m (256 ^ length (bigEndian width x)) (256 ^ suc width) (x / 256 ^ suc width) q x
+    step (valueOf (bigEndian width x)) (q % 256) (q / 256) m (256 ^ length (bigEndian width x)) (256 ^ suc width) (x / 256 ^ suc width) q x
     (ap (λ (k : ℕ). 256 ^ k) (length-big-endian width x)) (pow-suc 256 width) d e (with-above width x)
   where
     step : (a r h m l k c q x : ℕ) → l ≡ m → k ≡ m * 256 → c ≡ h → r + 256 * h ≡ q → a + m * q ≡ x → r * l + a + k * c ≡ x
@@ -73,16 +73,16 @@ with-above (suc width) x =
         ∙ omega (arith, ap (λ (n : ℕ). m * n) eq)
 
 -- a number that fits its field is read back
-pub number-big-endian : (width x : ℕ) → x < 256 ^ width → number (bigEndian width x) ≡ x
-number-big-endian width x h = omega (arith, with-above width x, ap (λ (k : ℕ). 256 ^ width * k) (div-eq-of-lt h))
+pub value-big-endian : (width x : ℕ) → x < 256 ^ width → valueOf (bigEndian width x) ≡ x
+value-big-endian width x h = omega (arith, with-above width x, ap (λ (k : ℕ). 256 ^ width * k) (div-eq-of-lt h))
 
 -- bytes hold a number that fits
-pub number-below : (l : List ℕ) → Bytes l → number l < 256 ^ length l
-number-below [] h = omega arith
-number-below (b ∷ l) h =
+pub value-below : (l : List ℕ) → Bytes l → valueOf l < 256 ^ length l
+value-below [] h = omega arith
+value-below (b ∷ l) h =
     let m = 256 ^ length l in
     let f : 255 ≡ b + (255 - b) = omega (arith, h .0) in
-    omega (arith, number-below l (h .1), pow-suc 256 (length l), ap (λ (n : ℕ). n * m) f)
+    omega (arith, value-below l (h .1), pow-suc 256 (length l), ap (λ (n : ℕ). n * m) f)
 
 apart : (b c m r s : ℕ) → b < c → r < m → b * m + r ≡ c * m + s → ⊥
 apart b c m r s h k e =
@@ -91,28 +91,28 @@ apart b c m r s h k e =
     omega (arith, ap (λ (n : ℕ). n * m) f)
 
 -- equal numbers, equal bytes, at one width
-pub number-injective : (x y : List ℕ) → Bytes x → Bytes y → length x ≡ length y → number x ≡ number y → x ≡ y
-number-injective [] [] p q h e = refl
-number-injective [] (b ∷ y) p q h e = absurd (omega arith)
-number-injective (a ∷ x) [] p q h e = absurd (omega arith)
-number-injective (a ∷ x) (b ∷ y) p q h e =
+pub value-injective : (x y : List ℕ) → Bytes x → Bytes y → length x ≡ length y → valueOf x ≡ valueOf y → x ≡ y
+value-injective [] [] p q h e = refl
+value-injective [] (b ∷ y) p q h e = absurd (omega arith)
+value-injective (a ∷ x) [] p q h e = absurd (omega arith)
+value-injective (a ∷ x) (b ∷ y) p q h e =
     let k : length x ≡ length y = omega arith in
     let m = 256 ^ length x in
-    let lx = number-below x (p .1) in
-    let ly : number y < m = rw (← k) at (number-below y (q .1)) in
-    let e' : a * m + number x ≡ b * m + number y = rw (← k) at e in
-    let s = same a b m (number x) (number y) lx ly e' in
-    ap₂ (λ (c : ℕ) (z : List ℕ). c ∷ z) s (number-injective x y (p .1) (q .1) k (omega (arith, ap (λ (n : ℕ). n * m) s)))
+    let lx = value-below x (p .1) in
+    let ly : valueOf y < m = rw (← k) at (value-below y (q .1)) in
+    let e' : a * m + valueOf x ≡ b * m + valueOf y = rw (← k) at e in
+    let s = same a b m (valueOf x) (valueOf y) lx ly e' in
+    ap₂ (λ (c : ℕ) (z : List ℕ). c ∷ z) s (value-injective x y (p .1) (q .1) k (omega (arith, ap (λ (n : ℕ). n * m) s)))
   where
     same : (a b m r s : ℕ) → r < m → s < m → a * m + r ≡ b * m + s → a ≡ b
     same a b m r s h k e =
         elim (decLt a b) [ yes l ↦ absurd (apart a b m r s l h e) | no l ↦ elim (decLt b a) [ yes g ↦ absurd (apart b a m s r g k (sym e)) | no g ↦ omega arith ] ]
 
 -- bytes that were read are written back
-pub big-endian-number : (l : List ℕ) → Bytes l → bigEndian (length l) (number l) ≡ l
-big-endian-number l h =
-    number-injective (bigEndian (length l) (number l)) l (bytes-big-endian (length l) (number l)) h (length-big-endian (length l) (number l))
-    (number-big-endian (length l) (number l) (number-below l h))
+pub big-endian-value : (l : List ℕ) → Bytes l → bigEndian (length l) (valueOf l) ≡ l
+big-endian-value l h =
+    value-injective (bigEndian (length l) (valueOf l)) l (bytes-big-endian (length l) (valueOf l)) h (length-big-endian (length l) (valueOf l))
+    (value-big-endian (length l) (valueOf l) (value-below l h))
 
 -- a field of what is left behind a place, of what stands in front of one, and of bytes that agree
 pub bytesAt-drop : (width at j : ℕ) (l : List ℕ) → bytesAt width (at + j) l ≡ bytesAt width j (drop at l)

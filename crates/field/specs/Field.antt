@@ -23,15 +23,16 @@ bigEndian zero x = []
 bigEndian (suc width) x = x / 256 ^ width % 256 ∷ bigEndian width x
 
 -- The number that bytes hold, the most significant first.
-abbrev pub number : List ℕ → ℕ
-number [] = 0
-number (b ∷ l) = b * 256 ^ length l + number l
+abbrev pub valueOf : List ℕ → ℕ
+valueOf [] = 0
+valueOf (b ∷ l) = b * 256 ^ length l + valueOf l
 
--- `width` bytes from a place on. Past the end they read 0; no definition of a packet looks there before its length is judged.
+-- `width` bytes from a place on. Past the end they read 0; no definition of a packet looks there before its length is
+-- judged.
 abbrev pub bytesAt : ℕ → ℕ → List ℕ → List ℕ
 bytesAt zero at l = []
 bytesAt (suc width) at l = getD l at 0 ∷ bytesAt width (suc at) l
 
 -- The number in the field of `width` bytes at a place.
 abbrev pub field : ℕ → ℕ → List ℕ → ℕ
-field width at l = number (bytesAt width at l)
+field width at l = valueOf (bytesAt width at l)

@@ -1,8 +1,2 @@
--- The laws of T-PDUs.
+-- The laws of the pseudo-header.
 pub mod Pseudo
-pub mod Rows
-pub mod Accept
-pub mod Damaged
-pub mod Built
-pub mod Leg
-pub mod Claims

@@ -9,7 +9,8 @@ use Rattle.field.proofs.Fields.{length-bytesAt}
 use Rattle.checksum.specs.Sum.{sumOf, foldOf}
 use Rattle.checksum.proofs.Sums.{sum-append}
 use Rattle.checksum.proofs.Carries.{fold-words}
-use Rattle.measurement.specs.Packet.{addressLength, address, pseudoHeader}
+use Rattle.measurement.specs.Flow.{addressLength, address}
+use Rattle.measurement.specs.Pseudo.{pseudoHeader}
 use Rattle.measurement.specs.declared.IpVersion.{IpVersion}
 use Rattle.measurement.specs.declared.IpVersion.the-variants.{V4, V6}
 

@@ -1,7 +1,6 @@
--- Measurement T-PDUs: what is built, read and echoed, and what is claimed of it.
+-- Measurement T-PDUs: what building and reading share, and what the calls answer.
 pub mod Layout
-pub mod Packet
-pub mod Read
-pub mod Echo
+pub mod Flow
+pub mod Pseudo
+pub mod Probe
 pub mod Answer
-pub mod Claims

@@ -1,12 +1,12 @@
-// Measurement T-PDUs (leaves 3 and 4; the Rust's measurement.rs): the types, and what both directions share. What building, reading and
-// echoing give is defined in specs/, and proved there to fit together (specs/Claims.antt); the calls are in the crates
-// measurement_build, measurement_decode and measurement_echo.
+// Measurement T-PDUs (leaves 3 and 4; the Rust's measurement.rs): the types, and what building and reading share.
+// What they give is defined in measurement_packet and measurement_reading; that the two fit together is proved in
+// measurement_damage. The calls are in measurement_build, measurement_decode and measurement_echo.
 ghost use mathlib.Core.Path.{_≡_};
 ghost use Prim.Native.Nat.{ℕ, _+_, _^_, _<_};
 ghost use Rattle.checksum.specs.Sum.{sumOf, foldOf};
-ghost use Rattle.measurement.specs.Packet.{versionNumbered, versionNumber, address, pseudoHeader, probe};
-ghost use Rattle.measurement.specs.Echo.{reversedOf};
-ghost use Rattle.measurement.specs.Claims.{ReadsBack, EchoIsReversed, EchoOfEcho, ChecksumsVerify, DamageFound, SentIsRead, LegsChained};
+ghost use Rattle.measurement.specs.Flow.{versionNumbered, versionNumber, address, reversedOf};
+ghost use Rattle.measurement.specs.Pseudo.{pseudoHeader};
+ghost use Rattle.measurement.specs.Probe.{probe};
 
 pub mod layout; // layout.rt: where each field stands
 
@@ -135,7 +135,7 @@ pub enum Written {
     Refused(u8),
 }
 
-// A number that folds, in any sum, as the words of the address do: four bytes at once.
+// A number that, added to any sum, folds to the same as the words of the address. Four bytes are added at once.
 fn address_sum(version: IpVersion, bytes: [u8; 16]) -> u64
     ensures { λ r. ⌜ ((n : ℕ) → foldOf (n + r) ≡ foldOf (n + sumOf (address version bytes))) × (r < 2 ^ 34) ⌝ }
 {
@@ -151,36 +151,10 @@ fn address_sum(version: IpVersion, bytes: [u8; 16]) -> u64
     }
 }
 
-// A number that folds, in any sum, as the words of the pseudo-header of a UDP checksum do: RFC 768; RFC 8200, section 8.1.
+// A number that, added to any sum, folds to the same as the words of a UDP checksum's pseudo-header: RFC 768; RFC 8200,
+// section 8.1.
 pub fn pseudo_header_words(version: IpVersion, src: [u8; 16], dst: [u8; 16], udp_length: u16) -> u64
     ensures { λ r. ⌜ ((n : ℕ) → foldOf (n + r) ≡ foldOf (n + sumOf (pseudoHeader version (address version src) (address version dst) «udp_length»))) × (r < 2 ^ 36) ⌝ }
 {
     17 + (udp_length as u64) + address_sum(version, src) + address_sum(version, dst)
 }
-
-// What is proved of the definitions (specs/Claims.antt), on the contracts of functions that do nothing.
-
-// A built packet reads back to its flow, sequence and time.
-pub fn built_packet_reads_back()
-    ensures { λ _. ⌜ ReadsBack ⌝ }
-{}
-
-// Its echo is the build of the reversed flow, and the echo of its echo is the first packet.
-pub fn echo_is_reversed()
-    ensures { λ _. ⌜ EchoIsReversed × EchoOfEcho ⌝ }
-{}
-
-// The checksums of a built packet are right by the RFCs.
-pub fn checksums_verify()
-    ensures { λ _. ⌜ ChecksumsVerify ⌝ }
-{}
-
-// Demand 3, first sentence; and a T-PDU of which no bit turned is read as what its leg began with.
-pub fn damage_is_found()
-    ensures { λ _. ⌜ DamageFound × SentIsRead ⌝ }
-{}
-
-// Over any number of echoes, each leg damaged: what arrives is the undamaged T-PDU, echoed as often, with one span turned.
-pub fn legs_are_chained()
-    ensures { λ _. ⌜ LegsChained ⌝ }
-{}

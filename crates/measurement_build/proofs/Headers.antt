@@ -10,7 +10,8 @@ use Rattle.field.specs.Field.{bytesAt}
 use Rattle.field.proofs.Fields.{whole-bytes}
 use Rattle.field.proofs.Parts.{grown}
 use Rattle.checksum.specs.Sum.{sumOf, foldOf}
-use Rattle.measurement.specs.Packet.{ipv4Header, ipv6, nonzero, udpSegment, probe, measurementMagic}
+use Rattle.measurement.specs.Probe.{probe, measurementMagic}
+use Rattle.measurement_packet.specs.Packet.{ipv4Header, ipv6, nonzero, udpSegment}
 use Rattle.measurement.proofs.Pseudo.{Folds}
 use Rattle.measurement_build.specs.Segment.{segmentOver}
 

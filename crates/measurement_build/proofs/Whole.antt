@@ -11,13 +11,15 @@ use Rattle.field.proofs.Fields.{length-bytesAt}
 use Rattle.field.proofs.Parts.{laid}
 use Rattle.checksum.specs.Sum.{sumOf, foldOf, checksumOf}
 use Rattle.checksum.proofs.Sums.{sum-append}
-use Rattle.measurement.specs.Packet.{addressLength, address, ipv4, ipv4Header, ipHeader, ipHeaderLength, pseudoHeader, udp, udpSegment, nonzero, buildOf}
+use Rattle.measurement.specs.Flow.{addressLength, address}
+use Rattle.measurement.specs.Pseudo.{pseudoHeader}
 use Rattle.measurement.specs.Answer.{Writing, writing}
 use Rattle.measurement.specs.declared.InnerIpFlow.{InnerIpFlow}
 use Rattle.measurement.specs.declared.IpVersion.{IpVersion}
 use Rattle.measurement.specs.declared.IpVersion.the-variants.{V4}
+use Rattle.measurement_packet.specs.Packet.{ipv4, ipv4Header, ipHeader, ipHeaderLength, udp, udpSegment, nonzero, buildOf}
 use Rattle.measurement.proofs.Pseudo.{Folds}
-use Rattle.measurement.proofs.Built.{header-length, packet-even, segment-length}
+use Rattle.measurement_packet.proofs.Built.{header-length, packet-even, segment-length}
 use Rattle.measurement_build.specs.Segment.{segmentOver}
 use Rattle.measurement_build.proofs.Words.{header-checked}
 

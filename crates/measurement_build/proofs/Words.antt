@@ -3,18 +3,20 @@ use Prim.Native.Nat.{ℕ, _+_, _-_, _*_, _/_, _%_, _^_, _<_}
 use native.Mathlib.Omega.{arith}
 use mathlib.Core.Path.{_≡_, refl, sym, ap, ap₂, _∙_}
 use mathlib.Core.List.{List, [], _∷_, _++_}
-use Rattle.field.specs.Field.{number, bigEndian, bytesAt}
-use Rattle.field.proofs.Fields.{number-big-endian}
+use Rattle.field.specs.Field.{valueOf, bigEndian, bytesAt}
+use Rattle.field.proofs.Fields.{value-big-endian}
 use Rattle.checksum.specs.Sum.{sumOf, foldOf, checksumOf}
 use Rattle.checksum.proofs.Carries.{like-halves, like-add, fold-of-like}
 use Rattle.checksum.proofs.Sums.{sum-append}
-use Rattle.measurement.specs.Packet.{ipv4, ipv4Header, pseudoHeader, probe, measurementMagic, udpSegment}
+use Rattle.measurement.specs.Pseudo.{pseudoHeader}
+use Rattle.measurement.specs.Probe.{probe, measurementMagic}
 use Rattle.measurement.specs.declared.IpVersion.the-variants.{V4}
+use Rattle.measurement_packet.specs.Packet.{ipv4, ipv4Header, udpSegment}
 use Rattle.measurement.proofs.Pseudo.{Folds, folds-over}
 
 -- eight bytes as one number, and as four words
 eight-bytes : (a b c d e f g h : ℕ)
-    → Folds (number (a ∷ b ∷ c ∷ d ∷ e ∷ f ∷ g ∷ h ∷ [])) (sumOf (a ∷ b ∷ c ∷ d ∷ e ∷ f ∷ g ∷ h ∷ []))
+    → Folds (valueOf (a ∷ b ∷ c ∷ d ∷ e ∷ f ∷ g ∷ h ∷ [])) (sumOf (a ∷ b ∷ c ∷ d ∷ e ∷ f ∷ g ∷ h ∷ []))
 unfolding sumOf
 eight-bytes a b c d e f g h n =
     sym (fold-of-like (record { some = λ p. omega arith; times = (a * 256 + b) * 4295032833 + (c * 256 + d) * 65537 + (e * 256 + f); same = omega arith }))
@@ -23,7 +25,7 @@ eight-bytes a b c d e f g h n =
 pub halves-fold : (x : ℕ) {r : ℕ} → x < 256 ^ 8 → r ≡ x % 4294967296 + x / 4294967296 → Folds r (sumOf (bigEndian 8 x))
 halves-fold x {r} h e n =
     ap foldOf (ap (λ (m : ℕ). n + m) e ∙ turn n (x % 4294967296 + x / 4294967296)) ∙ fold-of-like (like-add n (like-halves x))
-    ∙ ap foldOf (turn x n ∙ ap (λ (m : ℕ). n + m) (sym (number-big-endian 8 x h))) ∙ eight-bytes _ _ _ _ _ _ _ _ n
+    ∙ ap foldOf (turn x n ∙ ap (λ (m : ℕ). n + m) (sym (value-big-endian 8 x h))) ∙ eight-bytes _ _ _ _ _ _ _ _ n
   where
     turn : (a b : ℕ) → a + b ≡ b + a
     turn a b = omega arith

@@ -3,9 +3,9 @@ use Prim.Native.Nat.{ℕ}
 use mathlib.Core.Path.{_≡_, refl, sym, ap, _∙_}
 use mathlib.Core.List.{List}
 use Rattle.error.specs.Outcome.{Outcome, refused, gives, outcomeNumber}
-use Rattle.measurement.specs.Read.{readOf}
 use Rattle.measurement.specs.declared.DecodedTpdu.{DecodedTpdu}
-use Rattle.measurement.proofs.Accept.{Given, given}
+use Rattle.measurement_reading.specs.Read.{readOf}
+use Rattle.measurement_reading.proofs.Accept.{Given, given}
 use Rattle.measurement_decode.specs.Numbers.{tpduNumbers}
 use Rattle.measurement_decode.specs.declared.TpduNumbers.{TpduNumbers}
 use Rattle.measurement_decode.proofs.Laws.{refused-by}

@@ -15,16 +15,17 @@ use Rattle.field.proofs.Fields.{front-bytes, length-bytesAt, bytesAt-drop, byte
 use Rattle.checksum.specs.Sum.{sumOf, foldOf, checksumOf}
 use Rattle.checksum.proofs.Carries.{fold-low}
 use Rattle.checksum.proofs.Sums.{sum-append}
-use Rattle.measurement.specs.Packet.{addressLength, padded, pseudoHeader}
-use Rattle.measurement.specs.Read.{covered, payload, lengthWrong, sumWrong, tpduOf, readUdp, ihl, readOf}
+use Rattle.measurement.specs.Flow.{addressLength, padded}
+use Rattle.measurement.specs.Pseudo.{pseudoHeader}
 use Rattle.measurement.specs.Answer.{decodingMeans, decodeResult}
 use Rattle.measurement.specs.declared.DecodedTpdu.{DecodedTpdu}
 use Rattle.measurement.specs.declared.DecodeResult.{DecodeResult}
 use Rattle.measurement.specs.declared.Decoding.{Decoding}
 use Rattle.measurement.specs.declared.IpVersion.{IpVersion}
 use Rattle.measurement.specs.declared.IpVersion.the-variants.{V4, V6}
-use Rattle.measurement.proofs.Accept.{part-accepted, accepted, Given, given}
+use Rattle.measurement_reading.specs.Read.{covered, payload, lengthWrong, sumWrong, tpduOf, readUdp, ihl, readOf}
 use Rattle.measurement.proofs.Pseudo.{pseudo-even, pseudo-sum, Folds, folds-both}
+use Rattle.measurement_reading.proofs.Accept.{part-accepted, accepted, Given, given}
 use Rattle.measurement_decode.specs.Part.{Addresses, HasProbe}
 use Rattle.measurement_decode.specs.Numbers.{tpduNumbers, sourceLeft, destinationLeft, decodingNumbered}
 use Rattle.measurement_decode.specs.declared.TpduNumbers.{TpduNumbers}

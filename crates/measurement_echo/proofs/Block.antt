@@ -8,9 +8,6 @@ use lib.Seq.{take-at, take-all}
 use borrow.Author.Tests.{lt-ltb}
 use Rattle.error.specs.Outcome.{Outcome, refused, gives}
 use Rattle.error.proofs.Causes.{refused-gives}
-use Rattle.measurement.specs.Packet.{ipHeaderLength, buildOf}
-use Rattle.measurement.specs.Read.{readOf}
-use Rattle.measurement.specs.Echo.{echoOf}
 use Rattle.measurement.specs.Answer.{Writing, wrote, writing, writingOf}
 use Rattle.measurement.specs.declared.DecodedTpdu.{DecodedTpdu}
 use Rattle.measurement.specs.declared.InnerIpFlow.{InnerIpFlow}
@@ -18,6 +15,9 @@ use Rattle.measurement.specs.declared.IpVersion.{IpVersion}
 use Rattle.measurement.specs.declared.IpVersion.the-variants.{V4, V6}
 use Rattle.measurement.specs.declared.Written.{Written}
 use Rattle.measurement.specs.declared.Written.the-variants as written
+use Rattle.measurement_packet.specs.Packet.{ipHeaderLength, buildOf}
+use Rattle.measurement_reading.specs.Read.{readOf}
+use Rattle.measurement_damage.specs.Echo.{echoOf}
 use Rattle.measurement_build.proofs.Whole.{build-length, writing-fits}
 use Rattle.measurement_decode.specs.Numbers.{tpduNumbers, sourceLeft, destinationLeft}
 use Rattle.measurement_decode.specs.declared.TpduNumbers.{TpduNumbers}

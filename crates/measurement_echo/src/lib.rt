@@ -5,11 +5,11 @@ use measurement::Written;
 ghost use mathlib.Core.Path.{_≡_};
 ghost use Prim.Native.Nat.{ℕ};
 ghost use lib.ListN.{replicate};
-ghost use Rattle.measurement.specs.Packet.{buildOf};
-ghost use Rattle.measurement.specs.Echo.{echoOf};
 ghost use Rattle.measurement.specs.Answer.{wrote, writing, writingOf};
 ghost use Rattle.measurement.specs.declared.InnerIpFlow.{InnerIpFlow};
 ghost use Rattle.measurement.specs.declared.IpVersion.the-variants.{V4};
+ghost use Rattle.measurement_packet.specs.Packet.{buildOf};
+ghost use Rattle.measurement_damage.specs.Echo.{echoOf};
 ghost use Rattle.measurement_echo.specs.Block.{InBlock};
 
 // Copies a T-PDU out of the block that it was built in: where it does not fit, the output is untouched.
@@ -48,8 +48,9 @@ fn write_from_block(
     copy_out(built, &block, out)
 }
 
-// The same for IPv4, from parts: of each array only the four bytes of the address are read, as they were stored. A flow would be copied by wider
-// loads, which wait for those stores. With the length known, the compiler keeps the block in registers.
+// The same for IPv4, from parts: of each array only the four bytes of the address are read, as they were stored. A flow
+// would be copied by wider loads, which wait for those stores. With the length known, the compiler keeps the block in
+// registers.
 fn write_ipv4_from_block(
     src: [u8; 16],
     dst: [u8; 16],

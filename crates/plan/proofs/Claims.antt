@@ -7,15 +7,15 @@ use mathlib.Core.List.{List, [], _∷_}
 use mathlib.Core.Bool.{Bool, true, false}
 use mathlib.Core.Logic.{_⊎_, inl, inr}
 use lib.Dec.{ltb}
-use borrow.Author.Tests.{le-ltb, ne-eqb}
+use borrow.Author.Tests.{lt-ltb, le-ltb, eq-eqb, ne-eqb}
 use Rattle.error.specs.Outcome.{Outcome, refused, gives, Cause, _⇒_, firstCause}
 use Rattle.error.proofs.Causes as causes
 use Rattle.error.proofs.Causes.{refused-gives}
 use Rattle.measurement.specs.declared.MeasurementHeader.{MeasurementHeader}
 use Rattle.plan.specs.Plan.{top, interval, rateCauses, intervalOf, timeAt, packetAt, packetsFrom, packetsOf, PlanCause, _⇒_leaves_, leaving, causesAt, causesFrom, Judged, firstPlanCause, judgePackets, planCauses, judgePlan}
-use Rattle.plan.specs.Claims.{accepted, AcceptedIfAcceptable, AcceptableIfAccepted, SequenceDecides, TimeDecides, PlanNumbers, Each, Ordered, PacketsOrdered, Intervals, Examples}
+use Rattle.plan.specs.Claims.{accepted, AcceptedIfAcceptable, AcceptableIfAccepted, SequenceDecides, TimeDecides, RateThenCount, PlanNumbers, Each, Ordered, PacketsOrdered, Intervals, Examples}
 use Rattle.plan.specs.declared.TrafficPlan.{TrafficPlan}
-use Rattle.plan.proofs.Rows.{passes, leaving-passes}
+use Rattle.plan.proofs.Rows.{refuses, passes, leaving-refuses, leaving-passes}
 use Rattle.plan.proofs.Judged.{judged-19, judged-20, judged-accepted, plan-accepted}
 
 -- a plan whose rate and count are right is judged by its packets
@@ -43,6 +43,22 @@ sequence-decides plan next k f h =
 pub time-decides : TimeDecides
 time-decides plan next k f s h =
     sym (judged-20 plan next k (f .among) (omega arith) (λ j l. (omega (arith, f .sequences j l), f .times j l)) h ∙ first-rows plan next (f .rate-positive) (f .rate-within) (f .count-within))
+
+-- the rate, then the count
+pub rate-then-count : RateThenCount
+unfolding judgePlan planCauses rateCauses
+rate-then-count plan next =
+    let rate = plan .«target_rate_pps» in
+    record {
+      no-rate = λ e. sym (refuses (judgePackets plan next) (leaving-refuses next (causes.here (eq-eqb rate 0 e))));
+      too-fast = λ l.
+          sym (refuses (judgePackets plan next) (leaving-refuses next
+          (causes.later (ne-eqb rate 0 (λ e. omega arith)) (causes.here (lt-ltb 1000000000 rate l)))));
+      too-many = λ above within many.
+          sym (refuses (judgePackets plan next) (leaving-refuses next
+          (causes.later (ne-eqb rate 0 (λ e. omega arith))
+          (causes.later (le-ltb 1000000000 rate within) (causes.here (lt-ltb 2048 (plan .«packet_count») many))))));
+    }
 
 -- order
 module _ (plan : TrafficPlan) (next : ℕ) where

@@ -3,6 +3,7 @@
 use continuity::GtpuReturnDatagramOutcome;
 use continuity::MessageRecorded;
 use continuity::ReturnRecording;
+use gtpu::GtpuMessage;
 use observer::ObserverCounts;
 use reflector_answer::Handled;
 use reflector_answer::ReflectorAction;
@@ -96,7 +97,13 @@ pub fn deliver(
     let known = !rehearsal_path::is_indicated(s, probe);
     let handled = rehearsal_reflector::reflect(ip(s), known, run.state, packet, &mut out);
     let action = handled.action;
-    let message = handled.message;
+    let sent = handled.message;
+    let sequence_number = sent.sequence_number;
+    let message = GtpuMessage {
+        message_type: sent.message_type,
+        teid: sent.teid,
+        sequence_number: sequence_number,
+    };
     let length = return_damage::length_back(s, probe, sent_length(action));
     return_damage::damage(s, probe, &mut out);
     let recorded = continuity::record_return_gtpu_datagram(
@@ -106,7 +113,7 @@ pub fn deliver(
         marks,
         before,
         time,
-        message.message_type,
+        message,
         first_bytes(&out, length),
     );
     probe_fate::note(

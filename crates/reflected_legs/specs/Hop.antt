@@ -8,13 +8,14 @@ use Rattle.reflector_sessions.specs.declared.ReflectorSession.{ReflectorSession
 use Rattle.reflector_sessions.specs.declared.SocketAddr.{SocketAddr}
 use Rattle.reflector_answer.specs.Answer.{Answer}
 use Rattle.reflector_answer.specs.Handle.{handledOf, placed}
-use Rattle.reflector_answer.specs.declared.GtpuMessage.{GtpuMessage}
+use Rattle.gtpu.specs.declared.GtpuMessage.{GtpuMessage}
 use Rattle.reflector_answer.specs.declared.Handled.{Handled}
 use Rattle.reflector_answer.specs.declared.MultiSessionReflectorConfig.{MultiSessionReflectorConfig}
 use Rattle.reflector_answer.specs.declared.ReflectorAction.{ReflectorAction}
 use Rattle.reflector_answer.specs.declared.ReflectorAction.the-variants.{Refused, Noop, Send}
 use Rattle.reflector_answer.specs.declared.ReflectorPolicy.{ReflectorPolicy}
-use Rattle.reflector_answer.specs.declared.ReflectorSendReason.the-variants.{ReflectedGpdu, RoutedGpdu, EchoResponse, ErrorIndication}
+use Rattle.reflector_answer.specs.declared.ReflectorSendReason.the-variants.{ReflectedGpdu, RoutedGpdu, EchoResponse}
+use Rattle.reflector_answer.specs.declared.ReflectorSendReason.the-variants.{ErrorIndication}
 use Rattle.reflector_answer.specs.declared.ReflectorState.{ReflectorState}
 use Rattle.reflector.specs.Handle.{handleDatagram}
 

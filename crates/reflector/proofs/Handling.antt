@@ -7,7 +7,7 @@ use lib.ListN.{length}
 use Rattle.error.specs.Outcome.{refused, gives}
 use Rattle.error.proofs.Causes.{refuses}
 use Rattle.reflector_answer.specs.Handle.{handleFound}
-use Rattle.reflector_answer.specs.declared.GtpuMessage.{GtpuMessage}
+use Rattle.gtpu.specs.declared.GtpuMessage.{GtpuMessage}
 use Rattle.reflector_answer.specs.declared.MultiSessionReflectorConfig.{MultiSessionReflectorConfig}
 use Rattle.reflector_answer.specs.declared.ReflectorState.{ReflectorState}
 use Rattle.reflector_answer.proofs.Answers.{handling-refused}

@@ -11,9 +11,10 @@ use borrow.Author.Tests.{eq-eqb, ne-eqb, lt-ltb, le-ltb}
 use Rattle.error.specs.Number.{outputTooShort, unsupportedMessageType}
 use Rattle.error.specs.Outcome.{Outcome, refused, gives, Cause, _⇒_, firstCause}
 use Rattle.error.proofs.Causes.{Refuses, here, none as no-row, past, refuses, passes, refused-gives, refuses-front, refuses-behind, passes-both}
-use Rattle.measurement.specs.Read.{readOf}
-use Rattle.measurement.specs.Echo.{reversedOf, echoOfTpdu, echoOf}
+use Rattle.measurement.specs.Flow.{reversedOf}
 use Rattle.measurement.specs.declared.DecodedTpdu.{DecodedTpdu}
+use Rattle.measurement_reading.specs.Read.{readOf}
+use Rattle.measurement_damage.specs.Echo.{echoOfTpdu, echoOf}
 use Rattle.measurement_build.proofs.Whole.{writing-fits}
 use Rattle.measurement_echo.proofs.Block.{built-fits}
 use Rattle.measurement.specs.Answer.{Writing, wrote, writing, writingOf}
@@ -30,7 +31,7 @@ use Rattle.reflector_sessions.specs.declared.SocketAddr.{SocketAddr}
 use Rattle.reflector_answer.specs.State.{counted, stateCounted, nextErrorSequence}
 use Rattle.reflector_answer.specs.Answer.{Answer, Action, noop, gpduOutcome, gpduCounted, gpduKnown, gpduUnknown, echoRequestOutcome, echoRequest, otherMessage, gpduAnswer, ignored, reflected, errorIndicationTo, answer}
 use Rattle.reflector_answer.specs.Handle.{handledOf, forwarded, placed, Answers, EchoFits, reflectorBytes, handleFound}
-use Rattle.reflector_answer.specs.declared.GtpuMessage.{GtpuMessage}
+use Rattle.gtpu.specs.declared.GtpuMessage.{GtpuMessage}
 use Rattle.reflector_answer.specs.declared.Handled.{Handled}
 use Rattle.reflector_answer.specs.declared.MultiSessionReflectorConfig.{MultiSessionReflectorConfig}
 use Rattle.reflector_answer.specs.declared.ReflectorAction.the-variants as action
@@ -42,7 +43,7 @@ use Rattle.reflector_answer.specs.declared.ReflectorPolicy.the-variants.
 use Rattle.reflector_answer.specs.declared.ReflectorSendReason.the-variants.{ReflectedGpdu, RoutedGpdu, EchoResponse, ErrorIndication}
 use Rattle.reflector_answer.specs.declared.ReflectorState.{ReflectorState}
 use Rattle.reflector_answer.specs.declared.ReflectorStats.{ReflectorStats}
-use Rattle.reflector_answer.specs.declared.SequenceNumber.the-variants.{Present, Absent}
+use Rattle.gtpu.specs.declared.SequenceNumber.the-variants.{Present, Absent}
 
 abbrev refusal : ℕ → ReflectorState → Answer
 refusal n state = record { outcome = refused n; state = state }

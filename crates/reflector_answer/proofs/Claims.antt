@@ -9,18 +9,19 @@ use borrow.Author.Tests.{eq-eqb}
 use Rattle.error.specs.Outcome.{gives}
 use Rattle.field.specs.Field.{bigEndian}
 use Rattle.field.proofs.Fields.{length-big-endian, length-bytesAt}
-use Rattle.measurement.specs.Packet.{addressLength, address, buildOf}
-use Rattle.measurement.specs.Read.{readOf}
-use Rattle.measurement.specs.Echo.{reversedOf, echoOf}
-use Rattle.measurement.specs.Claims.{InRange, tpduBuilt}
+use Rattle.measurement.specs.Flow.{addressLength, address, reversedOf, InRange}
 use Rattle.measurement.specs.declared.IpVersion.{IpVersion}
 use Rattle.measurement.specs.declared.IpVersion.the-variants.{V4, V6}
-use Rattle.measurement.proofs.Claims.{reads-back, echo-is-reversed, reversed-in-range}
+use Rattle.measurement_packet.specs.Packet.{buildOf}
+use Rattle.measurement_reading.specs.Read.{readOf}
+use Rattle.measurement_damage.specs.Echo.{echoOf}
+use Rattle.measurement_damage.specs.Claims.{tpduBuilt}
+use Rattle.measurement_damage.proofs.Claims.{reads-back, echo-is-reversed, reversed-in-range}
 use Rattle.gtpu.proofs.Claims.{error-indication-accepted}
 use Rattle.reflector_sessions.specs.Session.{valueOf}
 use Rattle.reflector_answer.specs.Answer.{written, answer, gpduUnknown, gpduKnown, gpduOutcome, errorIndicationTo}
 use Rattle.reflector_answer.specs.declared.ReflectorSendReason.the-variants.{ReflectedGpdu, ErrorIndication}
-use Rattle.reflector_answer.specs.declared.SequenceNumber.the-variants.{Present, Absent}
+use Rattle.gtpu.specs.declared.SequenceNumber.the-variants.{Present, Absent}
 use Rattle.reflector_answer.specs.Claims.{Sends, IndicationAccepted, EchoReadsBack}
 
 pub address-of : (v : IpVersion) (bytes : List ℕ) → (length (address v bytes) ≡ 4) ⊎ (length (address v bytes) ≡ 16)

@@ -10,7 +10,7 @@ use lib.Seq.{take-all}
 use borrow.Author.Tests.{eqb-true, eqb-false, eq-eqb, ne-eqb}
 use Rattle.field.specs.Field.{bigEndian, bytesAt}
 use Rattle.field.proofs.Fields.{shifted-bytes}
-use Rattle.measurement.specs.Packet.{addressLength, address}
+use Rattle.measurement.specs.Flow.{addressLength, address}
 use Rattle.measurement.specs.declared.IpVersion.{IpVersion}
 use Rattle.measurement.specs.declared.IpVersion.the-variants.{V4, V6}
 use Rattle.reflector_sessions.specs.declared.SocketAddr.{SocketAddr}

@@ -4,18 +4,18 @@ use mathlib.Core.Path.{_≡_}
 use mathlib.Core.List.{List, _++_}
 use mathlib.Core.Option.{some, none}
 use Rattle.error.specs.Outcome.{Outcome, gives}
-use Rattle.measurement.specs.Packet.{buildOf}
-use Rattle.measurement.specs.Read.{readOf}
-use Rattle.measurement.specs.Echo.{reversedOf}
-use Rattle.measurement.specs.Claims.{InRange, tpduBuilt}
+use Rattle.measurement.specs.Flow.{reversedOf, InRange}
 use Rattle.measurement.specs.declared.InnerIpFlow.{InnerIpFlow}
+use Rattle.measurement_packet.specs.Packet.{buildOf}
+use Rattle.measurement_reading.specs.Read.{readOf}
+use Rattle.measurement_damage.specs.Claims.{tpduBuilt}
 use Rattle.gtpu.specs.Element.{elementsOf}
 use Rattle.gtpu.specs.Message.{gtpuMsgGpdu}
 use Rattle.reflector_sessions.specs.Session.{valueOf}
 use Rattle.reflector_sessions.specs.declared.ReflectorSession.{ReflectorSession}
 use Rattle.reflector_sessions.specs.declared.SocketAddr.{SocketAddr}
 use Rattle.reflector_answer.specs.Answer.{written, Outbound, Action, send, Answer, answer}
-use Rattle.reflector_answer.specs.declared.GtpuMessage.{GtpuMessage}
+use Rattle.gtpu.specs.declared.GtpuMessage.{GtpuMessage}
 use Rattle.reflector_answer.specs.declared.MultiSessionReflectorConfig.{MultiSessionReflectorConfig}
 use Rattle.reflector_answer.specs.declared.ReflectorPolicy.the-variants.{Echo}
 use Rattle.reflector_answer.specs.declared.ReflectorSendReason.{ReflectorSendReason}
@@ -32,16 +32,20 @@ pub record Sends (a : Answer) (reason : ReflectorSendReason) (destination : Sock
 
 -- A G-PDU of an unknown TEID is answered to its sender by an Error Indication that the element walk accepts.
 abbrev pub IndicationAccepted : Type 0
-IndicationAccepted = (config : MultiSessionReflectorConfig) (state : ReflectorState) (source : SocketAddr) (message : GtpuMessage) (payload : List ℕ)
+IndicationAccepted = (config : MultiSessionReflectorConfig) (state : ReflectorState) (source : SocketAddr)
+    (message : GtpuMessage) (payload : List ℕ)
     → message .«message_type» ≡ gtpuMsgGpdu
-    → (bytes : List ℕ) × Sends (answer config state none source message payload) ErrorIndication source bytes × (elementsOf bytes ≡ gives tt)
+    → (bytes : List ℕ) × Sends (answer config state none source message payload) ErrorIndication source bytes
+    × (elementsOf bytes ≡ gives tt)
 
--- A built T-PDU for a known session, whatever stands behind it, is echoed to the session's peer; the echo, read back, gives the reversed flow,
--- and the sequence and time of the T-PDU.
+-- A built T-PDU for a known session, whatever stands behind it, is echoed to the session's peer; the echo, read back,
+-- gives the reversed flow, and the sequence and time of the T-PDU.
 abbrev pub EchoReadsBack : Type 0
-EchoReadsBack = (config : MultiSessionReflectorConfig) (state : ReflectorState) (session : ReflectorSession) (source : SocketAddr) (message : GtpuMessage)
+EchoReadsBack = (config : MultiSessionReflectorConfig) (state : ReflectorState) (session : ReflectorSession)
+    (source : SocketAddr) (message : GtpuMessage)
     → message .«message_type» ≡ gtpuMsgGpdu → config .policy ≡ Echo
     → (flow : InnerIpFlow) (sequence time : ℕ) → InRange flow sequence time → (behind : List ℕ)
     → (bytes : List ℕ)
-    × Sends (answer config state (some session) source message (buildOf flow sequence time ++ behind)) ReflectedGpdu (valueOf (session .«peer_addr»)) bytes
+    × Sends (answer config state (some session) source message (buildOf flow sequence time ++ behind)) ReflectedGpdu
+    (valueOf (session .«peer_addr»)) bytes
     × (readOf bytes ≡ gives (tpduBuilt (reversedOf flow) sequence time))

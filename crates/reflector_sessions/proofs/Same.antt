@@ -8,7 +8,7 @@ use lib.Dec.{eqb}
 use lib.ListN.{getD}
 use borrow.Author.Tests.{eq-eqb, ne-eqb}
 use Rattle.field.specs.Field.{sameBytes, bytesAt}
-use Rattle.measurement.specs.Packet.{addressLength, address}
+use Rattle.measurement.specs.Flow.{addressLength, address}
 use Rattle.reflector_sessions.specs.Session.{valueOf, sameVersion, sameAddress, sameSession}
 use Rattle.reflector_sessions.specs.declared.ReflectorSession.{ReflectorSession}
 use Rattle.reflector_sessions.specs.declared.SocketAddr.{SocketAddr}

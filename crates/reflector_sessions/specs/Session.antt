@@ -2,7 +2,7 @@
 use mathlib.Core.Bool.{Bool, true, false, _&&_}
 use lib.Dec.{eqb}
 use Rattle.field.specs.Field.{sameBytes}
-use Rattle.measurement.specs.Packet.{versionNumbered, address}
+use Rattle.measurement.specs.Flow.{versionNumbered, address}
 use Rattle.measurement.specs.declared.IpVersion.{IpVersion}
 use Rattle.measurement.specs.declared.IpVersion.the-variants.{V4, V6}
 use lib.ListN.{replicate}
@@ -16,7 +16,11 @@ valueOf a = record { version = versionNumbered (a .version); address = a .addres
 
 -- What stands where there is no session: all zeros.
 abbrev pub noSession : ReflectorSession
-noSession = record { «local_teid» = 0; «peer_teid» = 0; «peer_addr» = record { version = 0; address = replicate 16 0; port = 0 } }
+noSession = record {
+  «local_teid» = 0;
+  «peer_teid» = 0;
+  «peer_addr» = record { version = 0; address = replicate 16 0; port = 0 };
+}
 
 abbrev pub sameVersion : IpVersion → IpVersion → Bool
 sameVersion V4 V4 = true
@@ -31,4 +35,5 @@ sameAddress a b =
     && (eqb (a .port) (b .port) && sameBytes (address (a .version) (a .address)) (address (a .version) (b .address)))
 
 unfoldable pub sameSession : ReflectorSession → ReflectorSession → Bool
-sameSession a b = eqb (a .«local_teid») (b .«local_teid») && (eqb (a .«peer_teid») (b .«peer_teid») && sameAddress (valueOf (a .«peer_addr»)) (valueOf (b .«peer_addr»)))
+sameSession a b = eqb (a .«local_teid») (b .«local_teid»)
+    && (eqb (a .«peer_teid») (b .«peer_teid») && sameAddress (valueOf (a .«peer_addr»)) (valueOf (b .«peer_addr»)))

@@ -1,13 +1,13 @@
 // The reflector of a rehearsal: the proved one, with one session.
+use gtpu::GtpuMessage;
+use gtpu::SequenceNumber;
 use measurement::InnerIpFlow;
-use reflector_answer::GtpuMessage;
 use reflector_answer::Handled;
 use reflector_answer::MultiSessionReflectorConfig;
 use reflector_answer::ReflectorPolicy;
 use reflector_answer::ReflectorState;
 use reflector_answer::ReflectorStats;
 use reflector_answer::RouteTarget;
-use reflector_answer::SequenceNumber;
 use reflector_sessions::FoundSession;
 use reflector_sessions::LentSocketAddr;
 use reflector_sessions::ReflectorSession;

@@ -16,17 +16,11 @@ pub fn after(at: usize, n: usize) -> usize {
     std::num::wrapping_add_usize(at, n)
 }
 
-fn wide(x: u8) -> u64
-    ensures { λ r. ⌜ r < 256 ⌝ }
-{
-    x as u64
-}
-
 // The number in two bytes, the high one first.
 fn word_as_u64(s: &[u8], at: usize) -> u64
     ensures { λ r. ⌜ r < 65536 ⌝ }
 {
-    wide(byte(s, at)) * 256 + wide(byte(s, after(at, 1)))
+    field::wide(byte(s, at)) * 256 + field::wide(byte(s, after(at, 1)))
 }
 
 pub fn word(s: &[u8], at: usize) -> u16 {

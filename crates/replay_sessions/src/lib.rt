@@ -1,10 +1,10 @@
 // The reflector's calls, each on a record of the data. A record begins with the table before the call: the used count
 // (1 byte), the maximum (2) and 6 rows of 27 bytes, each both TEIDs and the peer's address; an address is version, 16
 // bytes and port. Every row is compared afterwards, used or not.
+use reflector_by_value::RegisteredRows;
+use reflector_by_value::RemovedRows;
 use reflector_sessions::LentSocketAddr;
 use reflector_sessions::ReflectorSession;
-use reflector_tables::RegisteredRows;
-use reflector_tables::RemovedRows;
 use testkit_reflector::TestkitGtpuMessage;
 use testkit_reflector::TestkitHandled;
 use testkit_reflector::TestkitReflectorConfig;
@@ -93,7 +93,7 @@ fn same_rows(rows: [ReflectorSession; 6], due: &[u8]) -> bool {
 }
 
 fn registered_rows(s: &[u8]) -> RegisteredRows {
-    reflector_tables::register_session(
+    reflector_by_value::register_session(
         rows(replay_data::rest(s, ROWS)),
         used(s),
         max_sessions(s),
@@ -114,7 +114,7 @@ pub fn register_session(number: u8, s: &[u8]) -> bool {
 }
 
 fn removed_rows(s: &[u8]) -> RemovedRows {
-    reflector_tables::remove_session(
+    reflector_by_value::remove_session(
         rows(replay_data::rest(s, ROWS)),
         used(s),
         max_sessions(s),
@@ -204,12 +204,20 @@ fn same_destination(destination: LentSocketAddr, due: &[u8]) -> bool {
         )
 }
 
+// The reason of what is done; the other reason is 0.
+fn same_reason(handled: TestkitHandled, due: u8) -> bool {
+    if handled.action == testkit_reflector::ACTION_SEND {
+        return handled.send_reason == due && handled.noop_reason == 0;
+    }
+    handled.noop_reason == due && handled.send_reason == 0
+}
+
 // Action, reason, bytes in the output, destination, and the type, TEID and sequence of the message to send.
 fn same_action(handled: TestkitHandled, due: &[u8]) -> bool {
     let destination = handled.destination;
     let message = handled.message;
     handled.action == replay_data::byte(due, 0)
-        && handled.reason == replay_data::byte(due, 1)
+        && same_reason(handled, replay_data::byte(due, 1))
         && handled.bytes == replay_data::word(due, 2) as usize
         && same_destination(destination, replay_data::rest(due, 4))
         && same_message(message, replay_data::rest(due, 23))
@@ -224,7 +232,7 @@ fn same_handled(handled: TestkitHandled, number: u8, s: &[u8]) -> bool {
 
 fn handle_into(s: &[u8], payload: &[u8], room: usize, out: &mut [u8]) -> TestkitHandled {
     let n = replay_data::at_most(room, out.len());
-    reflector_tables::handle_datagram(
+    reflector_by_value::handle_datagram(
         rows(replay_data::rest(s, ROWS)),
         used(s),
         config(s),

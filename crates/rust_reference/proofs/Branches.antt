@@ -1,10 +1,13 @@
 -- A branch of the Rust has an outcome if each of its ways has it.
-use mathlib.Core.Path.{_≡_, refl}
+use mathlib.Core.Path.{_≡_, refl, ap}
 use mathlib.Core.Bool.{Bool, true, false}
 use Prim.Native.Nat.{ℕ}
 use mathlib.Core.List.{List, _∷_}
 use Rattle.error.specs.Outcome.{Outcome, refused, gives, Cause, _⇒_, firstCause}
+use Rattle.error.proofs.Tests.{true-not-false}
 use Rattle.field.specs.Field.{Bytes}
+use Rattle.reflector_answer.specs.declared.ReflectorPolicy.{ReflectorPolicy}
+use Rattle.reflector_answer.specs.declared.ReflectorPolicy.the-variants.{Echo, SinkAndCount, Route}
 use Rattle.rust_reference.specs.Error.{DataplaneTestkitError, Result, Ok, Err, returnIf, _>>_}
 use Rattle.rust_reference.specs.Number.{errorNumber, outcomeBy}
 use Rattle.rust_reference.specs.Compared.{Compared, told}
@@ -34,8 +37,17 @@ told-is (gives x) = refl
 pub compared-bytes : (tpdu : List ℕ) → Compared tpdu → Bytes tpdu
 compared-bytes tpdu b = b
 
+abbrev sunk : ReflectorPolicy → Bool
+sunk policy = elim policy [ Echo ↦ false | SinkAndCount ↦ true | Route ↦ false ]
+
 pub all-compared : WhatIsCompared
-all-compared = record { every-tpdu = λ tpdu b. b; every-refusal = λ n m e. e }
+all-compared = record {
+  every-tpdu = λ tpdu b. b;
+  every-other-return = λ messageType payload other is. absurd (other is);
+  every-other-message = λ policy message payload other is. absurd (other is);
+  every-sunk-message = λ message payload is. (λ echoes. absurd (true-not-false (ap sunk echoes)), λ routes. absurd (true-not-false (ap sunk routes)));
+  every-refusal = λ n m e. e;
+}
 
 -- what holds of a value, if there is one
 pub data AllOk {A : Type 0} (P : A → Type 0) : Result A → Type 0 where

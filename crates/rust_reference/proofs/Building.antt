@@ -10,11 +10,14 @@ use lib.ListN.{length}
 use Rattle.field.specs.Field.{Bytes, bytesAt}
 use Rattle.field.proofs.Fields.{bytes-append, bytes-at}
 use Rattle.checksum.specs.Sum.{checksumOf}
-use Rattle.measurement.specs.Packet.{addressLength, address, ipv4Header, ipv4, ipv6, ipHeader, pseudoHeader, measurementMagic, probe, udpSegment, nonzero, udp, buildOf}
+use Rattle.measurement.specs.Flow.{addressLength, address}
+use Rattle.measurement.specs.Pseudo.{pseudoHeader}
+use Rattle.measurement.specs.Probe.{measurementMagic, probe}
 use Rattle.measurement.specs.Answer.{writing}
 use Rattle.measurement.specs.declared.InnerIpFlow.{InnerIpFlow}
 use Rattle.measurement.specs.declared.IpVersion.{IpVersion}
 use Rattle.measurement.specs.declared.IpVersion.the-variants.{V4, V6}
+use Rattle.measurement_packet.specs.Packet.{ipv4Header, ipv4, ipv6, ipHeader, udpSegment, nonzero, udp, buildOf}
 use Rattle.rust_reference.specs.Error.{Result, Ok}
 use Rattle.rust_reference.specs.Answers.{rustFlowOf, rustFlow, inBuffer}
 use Rattle.rust_reference.specs.Claims.{NoneAdded, Encode, BuildMeasurementTpdu}

@@ -11,7 +11,7 @@ use Rattle.field.proofs.Fields.{bytes-append}
 use Rattle.checksum.specs.Sum.{sumOf, folding, foldOf, checksumOf}
 use Rattle.checksum.proofs.Carries.{fold-low, split}
 use Rattle.checksum.proofs.Sums.{sum-append}
-use Rattle.measurement.specs.Packet.{nonzero}
+use Rattle.measurement_packet.specs.Packet.{nonzero}
 use Rattle.rust_reference.specs.Claims.{WholeWords, Checksum}
 use Rattle.rust_reference.specs.Values.{«wrapping_add»}
 use Rattle.rust_reference.specs.Measurement.{«add_part», «add_parts», «while_carries», checksum, «nonzero_checksum»}

@@ -11,16 +11,17 @@ use borrow.Author.Tests.{ltb-false, eqb-true, eqb-false, lt-ltb, le-ltb, eq-eqb}
 use Rattle.error.specs.Outcome.{Outcome, Cause, _⇒_, firstCause}
 use Rattle.error.proofs.Causes.{none, passes}
 use Rattle.error.proofs.Tests.{true-not-false, or-neither}
-use Rattle.field.specs.Field.{Bytes, bigEndian, number, bytesAt, field}
-use Rattle.field.proofs.Fields.{bytes-take, bytes-drop, bytes-append, bytes-at, byte-of, number-injective, bytesAt-drop, front-bytes, same-as-itself}
+use Rattle.field.specs.Field.{Bytes, bigEndian, valueOf, bytesAt, field}
+use Rattle.field.proofs.Fields.{bytes-take, bytes-drop, bytes-append, bytes-at, byte-of, value-injective, bytesAt-drop, front-bytes, same-as-itself}
 use Rattle.checksum.specs.Sum.{checksumOf}
 use Rattle.checksum.proofs.Carries.{split}
-use Rattle.measurement.specs.Packet.{pseudoHeader, measurementMagic}
-use Rattle.measurement.specs.Read.{payload, lengthWrong, covered, sumWrong, probeCauses, udpCauses, readProbe, readUdp, ihl, ipv4Causes, readIpv4, ipv6Causes, readIpv6, readOf}
+use Rattle.measurement.specs.Pseudo.{pseudoHeader}
+use Rattle.measurement.specs.Probe.{measurementMagic}
 use Rattle.measurement.specs.declared.DecodedTpdu.{DecodedTpdu}
 use Rattle.measurement.specs.declared.MeasurementHeader.{MeasurementHeader}
 use Rattle.measurement.specs.declared.IpVersion.the-variants.{V4, V6}
-use Rattle.measurement.proofs.Rows.{row-1, row-2, version-4, version-6}
+use Rattle.measurement_reading.specs.Read.{payload, lengthWrong, covered, sumWrong, probeCauses, udpCauses, readProbe, readUdp, ihl, ipv4Causes, readIpv4, ipv6Causes, readIpv6, readOf}
+use Rattle.measurement_reading.proofs.Rows.{tpdu-rows, row-1, past-1, row-2, past-2-ipv4, past-2-ipv6}
 use Rattle.rust_reference.specs.Claims.{DecodeMeasurementTpdu}
 use Rattle.rust_reference.specs.Error as error
 use Rattle.rust_reference.specs.Error.{Result, Ok, Err, UnsupportedIpVersion, InvalidPacket, returnIf, _>>=_, _>>_}
@@ -54,20 +55,20 @@ same-true (x ∷ xs) (y ∷ ys) e = by (eqb x y) refl e (same-true xs ys)
     by true f e g = ap₂ (λ (a : ℕ) (l : List ℕ). a ∷ l) (eqb-true x y f) (g e)
     by false f e g = absurd (true-not-false (sym e))
 
-same-number : (x y : List ℕ) → Bytes x → Bytes y → length x ≡ length y → same x y ≡ eqb (number x) (number y)
-same-number x y b c h = by (eqb (number x) (number y)) refl (same x y) refl
+same-number : (x y : List ℕ) → Bytes x → Bytes y → length x ≡ length y → same x y ≡ eqb (valueOf x) (valueOf y)
+same-number x y b c h = by (eqb (valueOf x) (valueOf y)) refl (same x y) refl
   where
-    by : (t : Bool) → eqb (number x) (number y) ≡ t → (s : Bool) → same x y ≡ s → s ≡ t
+    by : (t : Bool) → eqb (valueOf x) (valueOf y) ≡ t → (s : Bool) → same x y ≡ s → s ≡ t
     by true e true f = refl
     by false e false f = refl
     by true e false f =
-        let q : x ≡ y = number-injective x y b c h (eqb-true (number x) (number y) e) in
+        let q : x ≡ y = value-injective x y b c h (eqb-true (valueOf x) (valueOf y) e) in
         sym f ∙ ap (λ (l : List ℕ). same x l) (sym q) ∙ same-as-itself x
-    by false e true f = absurd (eqb-false (number x) (number y) e (ap number (same-true x y f)))
+    by false e true f = absurd (eqb-false (valueOf x) (valueOf y) e (ap valueOf (same-true x y f)))
 
 -- the probe: 13, 14, and its two numbers
 module _ {A B : Type 0} (value : A → B) (k : MeasurementHeader → Result A) (body : List ℕ) (b : Bytes body) (onward : Outcome B) where
-  magic-is : 24 ≤ length body → not (same (range body 0 8) rust.«MEASUREMENT_MAGIC») ≡ not (eqb (field 8 0 body) (number measurementMagic))
+  magic-is : 24 ≤ length body → not (same (range body 0 8) rust.«MEASUREMENT_MAGIC») ≡ not (eqb (field 8 0 body) (valueOf measurementMagic))
   unfolding measurementMagic
   magic-is long =
       let e : take 8 body ≡ bytesAt 8 0 body = front-bytes 8 body (omega arith) in
@@ -77,9 +78,9 @@ module _ {A B : Type 0} (value : A → B) (k : MeasurementHeader → Result A) (
   probed : (24 ≤ length body → outcomeBy value (k (record { sequence = field 8 8 body; «send_timestamp_ns» = field 8 16 body })) ≡ onward)
       → outcomeBy value (_>>=_ (rust.decode body) k) ≡ firstCause (probeCauses body) onward
   unfolding rust.decode probeCauses firstCause
-  probed g = by (ltb (length body) 24) refl (not (eqb (field 8 0 body) (number measurementMagic))) refl
+  probed g = by (ltb (length body) 24) refl (not (eqb (field 8 0 body) (valueOf measurementMagic))) refl
     where
-      by : (t : Bool) → ltb (length body) 24 ≡ t → (u : Bool) → not (eqb (field 8 0 body) (number measurementMagic)) ≡ u
+      by : (t : Bool) → ltb (length body) 24 ≡ t → (u : Bool) → not (eqb (field 8 0 body) (valueOf measurementMagic)) ≡ u
           → outcomeBy value (_>>=_ (rust.decode body) k) ≡ firstCause (probeCauses body) onward
       by true e u f = rw (e, rust.decode, firstCause)
       by false e true f =
@@ -273,7 +274,7 @@ module _ (p : List ℕ) (b : Bytes p) where
 pub decoded : (p : List ℕ) → Bytes p → outcomeBy tpduOf (rust.«decode_measurement_tpdu» p) ≡ readOf p
 unfolding rust.«decode_measurement_tpdu»
 decoded p b =
-    unless tpduOf (eqb (length p) 0) _ _ _ (λ e. row-1 p (eqb-true (length p) 0 e))
+    unless tpduOf (eqb (length p) 0) _ _ _ (λ e. row-1 p (tpdu-rows p) (eqb-true (length p) 0 e))
     (λ e. by (eqb-false (length p) 0 e) (eqb (index p 0 / 16) 4) refl (eqb (index p 0 / 16) 6) refl)
   where
     by : (length p ≡ 0 → ⊥) → (t : Bool) → eqb (index p 0 / 16) 4 ≡ t → (u : Bool) → eqb (index p 0 / 16) 6 ≡ u
@@ -281,9 +282,9 @@ decoded p b =
           | true ↦ rust.«decode_ipv4_measurement» p
           | false ↦ elim u [ true ↦ rust.«decode_ipv6_measurement» p | false ↦ Err (UnsupportedIpVersion (index p 0 / 16)) ]
         ]) ≡ readOf p
-    by h true e u f = ipv4-read p b ∙ version-4 p h refl (eqb-true (index p 0 / 16) 4 e)
-    by h false e true f = ipv6-read p b ∙ version-6 p h refl (eqb-true (index p 0 / 16) 6 f)
-    by h false e false f = row-2 p h refl (eqb-false (index p 0 / 16) 4 e) (eqb-false (index p 0 / 16) 6 f)
+    by h true e u f = ipv4-read p b ∙ past-2-ipv4 p refl (past-1 p (tpdu-rows p) h) (eqb-true (index p 0 / 16) 4 e)
+    by h false e true f = ipv6-read p b ∙ past-2-ipv6 p refl (past-1 p (tpdu-rows p) h) (eqb-true (index p 0 / 16) 6 f)
+    by h false e false f = row-2 p refl (past-1 p (tpdu-rows p) h) (eqb-false (index p 0 / 16) 4 e) (eqb-false (index p 0 / 16) 6 f)
 
 pub decoded-told : DecodeMeasurementTpdu
 decoded-told p b = decoded p (compared-bytes p b) ∙ told-is (readOf p)

@@ -12,14 +12,17 @@ use Rattle.error.proofs.Causes.{refused-gives}
 use Rattle.field.specs.Field.{Bytes, bytesAt}
 use Rattle.field.proofs.Fields.{bytes-take, bytes-drop, bytes-at, whole-bytes}
 use Rattle.measurement.specs.Answer.{writingOf}
-use Rattle.measurement.specs.Echo.{reversedOf, echoOfTpdu, echoOf}
-use Rattle.measurement.specs.Packet.{addressLength, address, padded, pseudoHeader, ipv4Header, ipv4, ipv6, ipHeader, measurementMagic, probe, udpSegment, udp, buildOf}
-use Rattle.measurement.specs.Read.{readOf}
+use Rattle.measurement.specs.Flow.{reversedOf, addressLength, address, padded}
+use Rattle.measurement.specs.Pseudo.{pseudoHeader}
+use Rattle.measurement.specs.Probe.{measurementMagic, probe}
 use Rattle.measurement.specs.declared.DecodedTpdu.{DecodedTpdu}
 use Rattle.measurement.specs.declared.MeasurementHeader.{MeasurementHeader}
 use Rattle.measurement.specs.declared.InnerIpFlow.{InnerIpFlow}
 use Rattle.measurement.specs.declared.IpVersion.{IpVersion}
 use Rattle.measurement.specs.declared.IpVersion.the-variants.{V4, V6}
+use Rattle.measurement_packet.specs.Packet.{ipv4Header, ipv4, ipv6, ipHeader, udpSegment, udp, buildOf}
+use Rattle.measurement_reading.specs.Read.{readOf}
+use Rattle.measurement_damage.specs.Echo.{echoOfTpdu, echoOf}
 use Rattle.rust_reference.specs.Claims.{NoneAdded, Reversed, EchoTpdu}
 use Rattle.rust_reference.specs.Error.{DataplaneTestkitError, Result, Ok, Err, UnsupportedIpVersion, returnIf, _>>=_, _>>_}
 use Rattle.rust_reference.specs.Number.{outcomeBy, outcomeOf}

@@ -8,11 +8,12 @@ use mathlib.Core.Bool.{Bool, true, false}
 use lib.Dec.{eqb, leb, ltb}
 use lib.ListN.{length, drop}
 use borrow.Author.Tests.{eqb-true, eqb-false, leb-true, leb-false, ltb-true, ltb-false, lt-ltb, le-ltb}
-use Rattle.error.specs.Outcome.{refused, gives}
+use Rattle.error.specs.Outcome.{Outcome, refused, gives}
 use Rattle.field.specs.Field.{Bytes}
-use Rattle.measurement.specs.Packet.{buildOf}
+use Rattle.measurement.specs.Flow.{InRange}
 use Rattle.measurement.specs.declared.InnerIpFlow.{InnerIpFlow}
 use Rattle.measurement.specs.declared.MeasurementHeader.{MeasurementHeader}
+use Rattle.measurement_packet.specs.Packet.{buildOf}
 use Rattle.plan.specs.Plan.{top, interval, intervalOf, timeAt, packetAt, packetsFrom, packetsOf, causesAt, causesFrom, Judged, firstPlanCause, judgePackets, judgePlan}
 use Rattle.traffic.specs.Generate.{endToEnd, Generating, placing, generateOf}
 use Rattle.plan.specs.declared.TrafficPlan.{TrafficPlan}
@@ -26,16 +27,19 @@ use Rattle.rust_reference.specs.Error.{DataplaneTestkitError, Result, Ok
 use Rattle.rust_reference.specs.Number.{errorNumber, outcomeBy, outcomeOf}
 use Rattle.rust_reference.specs.Answers.{rustFlow, vecs, headersOf, packetsInBuffer}
 use Rattle.rust_reference.specs.Traffic.{GeneratedPacket, Generated, attempted, checked, «interval_ns», «for_offset», generate}
-use Rattle.rust_reference.proofs.Branches.{unless, AllOk, all, none}
+use Rattle.rust_reference.proofs.Branches.{unless, told-is, AllOk, all, none}
 use Rattle.rust_reference.proofs.Building.{vec-is}
 
-pub interval-ns : IntervalNs
+interval-is : (plan : TrafficPlan) → outcomeOf («interval_ns» plan) ≡ intervalOf (plan .«target_rate_pps»)
 unfolding «interval_ns»
-interval-ns plan =
+interval-is plan =
     let rate = plan .«target_rate_pps» in
     unless (λ x. x) (eqb rate 0) _ _ _ (λ e. rate-zero rate (eqb-true rate 0 e))
     (λ e. unless (λ x. x) (eqb (interval rate) 0) _ _ _ (λ f. rate-high rate (eqb-false rate 0 e) (eqb-true (interval rate) 0 f))
     (λ f. rate-good rate (eqb-false rate 0 e) (eqb-false (interval rate) 0 f)))
+
+pub interval-ns : IntervalNs
+interval-ns plan = interval-is plan ∙ told-is (intervalOf (plan .«target_rate_pps»))
 
 -- a packet without its bytes, and the Rust's answer as a judgement
 abbrev headerOf : GeneratedPacket → MeasurementHeader
@@ -209,9 +213,10 @@ module _ (flow : InnerIpFlow) (next : ℕ) (buffer : List ℕ) where
       let whole : placed flow next buffer (judgedOf g) ≡ generateOf flow plan next buffer = ap (placed flow next buffer) e in
       (in-buffer (g .result) (g .«next_sequence») b (λ n a f. added n a (ap (λ (x : Generating). x .outcome) (sym whole) ∙ f)) ∙ whole, ap (λ (j : Judged). j .outcome) e)
 
-pub generated : Generate
+generated-is : (flow : InnerIpFlow) (plan : TrafficPlan) (next : ℕ) → InRange flow next (plan .«first_send_timestamp_ns») → (buffer : List ℕ)
+    → NoneAdded (generateOf flow plan next buffer .outcome) → Generates flow plan next buffer (generate next (rustFlow flow) plan)
 unfolding generate
-generated flow plan next range buffer added = of («interval_ns» plan) (interval-ns plan)
+generated-is flow plan next range buffer added = of («interval_ns» plan) (interval-is plan)
   where
     answer : Result ℕ → Generated
     answer r = attempted r next (λ j. «for_offset» (plan .«packet_count») 0 (rustFlow flow) plan j next [])
@@ -236,3 +241,9 @@ generated flow plan next range buffer added = of («interval_ns» plan) (interva
             let judged = plan-too-many plan next j e (ltb-true 2048 (plan .«packet_count») f) in
             absurd (added 18 (inr (inl refl)) (sym (ap (λ (x : Generating). x .outcome) (generate-refused flow plan next buffer 18 (ap (λ (x : Judged). x .outcome) (sym judged))))))
         by false f = looped j e (ltb-false 2048 (plan .«packet_count») f)
+
+pub generated : Generate
+generated flow plan next range buffer added =
+    let g = generated-is flow plan next range buffer added in
+    let ours : Generating = generateOf flow plan next buffer in
+    (g .0 ∙ ap (λ (o : Outcome ℕ). record { outcome = o; next = ours .next; buffer = ours .buffer }) (told-is (ours .outcome)), g .1 ∙ told-is (judgePlan plan next .outcome))

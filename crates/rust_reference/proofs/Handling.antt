@@ -11,15 +11,15 @@ use lib.ListN.{length}
 use borrow.Author.Tests.{eqb-true, eqb-false, ltb-true, ltb-false, le-ltb}
 use Rattle.counter.specs.Counter.{oneMore}
 use Rattle.error.specs.Outcome.{Outcome, refused, gives, _⇒_, firstCause}
-use Rattle.measurement.specs.Echo.{echoOf}
-use Rattle.measurement.specs.Packet.{address, addressLength}
+use Rattle.measurement.specs.Flow.{address, addressLength}
 use Rattle.measurement.specs.declared.IpVersion.{IpVersion}
 use Rattle.measurement.specs.declared.IpVersion.the-variants.{V4, V6}
+use Rattle.measurement_damage.specs.Echo.{echoOf}
 use Rattle.reflector.specs.Handle.{handleDatagram}
 use Rattle.reflector_answer.specs.Answer.{written, handedOn, Action, noop, send, Answer, gpdu, reflected, gpduOutcome, gpduCounted, gpduKnown, errorIndicationTo, gpduUnknown, isAbsent, echoRequestOutcome, echoRequestCounted, echoRequest, otherMessage, gpduAnswer, answer}
 use Rattle.reflector_answer.specs.Handle.{placed}
 use Rattle.reflector_answer.specs.State.{counted, stateCounted, nextErrorSequence, errorIndicationSent}
-use Rattle.reflector_answer.specs.declared.GtpuMessage.{GtpuMessage}
+use Rattle.gtpu.specs.declared.GtpuMessage.{GtpuMessage}
 use Rattle.reflector_answer.specs.declared.ReflectorCounter.{ReflectorCounter}
 use Rattle.reflector_answer.specs.declared.ReflectorCounter.the-variants as counter
 use Rattle.reflector_answer.specs.declared.ReflectorNoopReason.the-variants as reason
@@ -28,8 +28,8 @@ use Rattle.reflector_answer.specs.declared.ReflectorPolicy.the-variants.{Echo, 
 use Rattle.reflector_answer.specs.declared.ReflectorSendReason.the-variants.{ReflectedGpdu, RoutedGpdu, EchoResponse}
 use Rattle.reflector_answer.specs.declared.ReflectorState.{ReflectorState}
 use Rattle.reflector_answer.specs.declared.ReflectorStats.{ReflectorStats}
-use Rattle.reflector_answer.specs.declared.SequenceNumber.{SequenceNumber}
-use Rattle.reflector_answer.specs.declared.SequenceNumber.the-variants.{Present, Absent}
+use Rattle.gtpu.specs.declared.SequenceNumber.{SequenceNumber}
+use Rattle.gtpu.specs.declared.SequenceNumber.the-variants.{Present, Absent}
 use Rattle.reflector_answer.proofs.Answers.{handling-refused, handling-short, handling-passed}
 use Rattle.reflector_sessions.specs.Judge.{tableOutcome}
 use Rattle.reflector_sessions.specs.Table.{find, usedRows}
@@ -37,6 +37,7 @@ use Rattle.reflector_sessions.specs.declared.ReflectorSession.{ReflectorSession
 use Rattle.reflector_sessions.specs.declared.SocketAddr.{SocketAddr}
 use Rattle.reflector_sessions.proofs.Judging.{table-sound}
 use Rattle.rust_reference.specs.Claims.{NoneAdded, HandleDatagram}
+use Rattle.rust_reference.specs.Compared.{ComparedGpdu, ComparedMessage}
 use Rattle.rust_reference.specs.Error as error
 use Rattle.rust_reference.specs.Error.{Result, Ok, Err, InvalidPacket}
 use Rattle.rust_reference.specs.Gtpu as gtpu
@@ -44,7 +45,7 @@ use Rattle.rust_reference.specs.Map as map
 use Rattle.rust_reference.specs.Measurement.{«echo_tpdu»}
 use Rattle.rust_reference.specs.Number.{outcomeOf}
 use Rattle.rust_reference.specs.Reflector as rust
-use Rattle.rust_reference.specs.Sessions.{Reflector, tableIn, withState, handling, rustIp, rustAddress, rustSession, rustPolicy, rustReflector, rustSequence, rustMessage, rustRemoved, rustAction, outcomeTo, inOutput, PayloadFits, SequenceFits}
+use Rattle.rust_reference.specs.Sessions.{Reflector, tableIn, withState, handling, rustIp, rustAddress, rustSession, rustPolicy, rustReflector, rustSequence, rustMessage, rustRemoved, rustAction, outcomeTo, inOutput, SequenceFits}
 use Rattle.rust_reference.specs.Values.{«saturating_add»}
 use Rattle.rust_reference.proofs.Branches.{told-is, compared-bytes}
 use Rattle.rust_reference.proofs.Capacity.{Fits, made-fits, sound-table}
@@ -120,7 +121,7 @@ module _ (r : Reflector) (source : SocketAddr) (payload buffer : List ℕ) where
   received = rust.count counter.GpduReceived (rustReflector r)
 
   -- a G-PDU of a known session, by policy
-  module _ (session : ReflectorSession) (b : PayloadFits (r .config .policy) payload) where
+  module _ (session : ReflectorSession) (b : ComparedGpdu (r .config .policy) payload) where
     abbrev forwarding : rust.ReflectorPolicy → rust.Called (Result rust.ReflectorAction)
     forwarding policy = elim policy [
       | rust.Echo ↦
@@ -152,7 +153,7 @@ module _ (r : Reflector) (source : SocketAddr) (payload buffer : List ℕ) where
     echoing (Err x) o e short = rw (← e) (refl, refl, count-is counter.GpduReceived r)
 
     by-policy : (policy : ReflectorPolicy) → r .config .policy ≡ policy → Comes (forwarding (rustPolicy policy (r .config .target))) (after (policyOutcome policy))
-    by-policy Echo e = echoing («echo_tpdu» payload) (echoOf payload) (echo-outcome payload (compared-bytes payload (b .0))) (echo-short payload)
+    by-policy Echo e = echoing («echo_tpdu» payload) (echoOf payload) (echo-outcome payload (compared-bytes payload (b .0 e))) (echo-short payload)
     by-policy SinkAndCount e = (refl, refl, count-twice counter.GpduReceived counter.GpduSunk r)
     by-policy Route e = rw (le-ltb 65535 (length payload) (b .1 e)) (refl, refl, count-twice counter.GpduReceived counter.GpduForwarded r)
 
@@ -201,9 +202,13 @@ module _ (r : Reflector) (source : SocketAddr) (payload buffer : List ℕ) where
       by false (Present n) = (refl, refl, count-is counter.EchoRequestsAnswered r)
 
   -- a message of another type
+  either-known : (t : Bool) (x y : rust.Called (Result rust.ReflectorAction)) (a b : Answer) → (t ≡ true → Comes x a) → Comes y b
+      → Comes (elim t [ true ↦ x | false ↦ y ]) (elim t [ true ↦ a | false ↦ b ])
+  either-known true x y a b f g = f refl
+  either-known false x y a b f g = g
+
   either : (t : Bool) (x y : rust.Called (Result rust.ReflectorAction)) (a b : Answer) → Comes x a → Comes y b → Comes (elim t [ true ↦ x | false ↦ y ]) (elim t [ true ↦ a | false ↦ b ])
-  either true x y a b f g = f
-  either false x y a b f g = g
+  either t x y a b f g = either-known t x y a b (λ is. f) g
 
   other : (messageType : ℕ) → Comes (rust.«other_message» (rustReflector r) messageType) (otherMessage (r .state) messageType)
   unfolding rust.«other_message» otherMessage
@@ -214,23 +219,23 @@ module _ (r : Reflector) (source : SocketAddr) (payload buffer : List ℕ) where
       (either (eqb messageType 31) _ _ _ _ (refl, refl, refl) (refl, refl, count-is counter.MalformedRejected r))))
 
   -- a message, by its type
-  module _ (message : GtpuMessage) (fits : SequenceFits r) (b : PayloadFits (r .config .policy) payload) where
+  module _ (message : GtpuMessage) (fits : SequenceFits r) (b : ComparedMessage (r .config .policy) message payload) where
     abbrev pub called : rust.Called (Result rust.ReflectorAction)
     called = rust.«handle_datagram» (rustReflector r) (rustAddress source) (rustMessage message payload)
 
-    gpdu-comes : (existing : Option ReflectorSession) (found : map.Option rust.ReflectorSession) → found ≡ rustRemoved existing
+    gpdu-comes : message .«message_type» ≡ 255 → (existing : Option ReflectorSession) (found : map.Option rust.ReflectorSession) → found ≡ rustRemoved existing
         → Comes (elim found [
           | map.None ↦ rust.«unknown_teid» (rustReflector r) (rustAddress source) (rustMessage message payload)
           | map.Some session ↦ rust.«handle_gpdu» received session payload
         ]) (gpduAnswer (r .config) (r .state) existing source (message .teid) payload)
-    gpdu-comes (some session) found e = rw e (known session b)
-    gpdu-comes none found e = rw e (unknown message fits)
+    gpdu-comes is (some session) found e = rw e (known session (b is))
+    gpdu-comes is none found e = rw e (unknown message fits)
 
     answered : (existing : Option ReflectorSession) → rust.find (message .teid) (rustReflector r .sessions) ≡ rustRemoved existing
         → Comes called (answer (r .config) (r .state) existing source message payload)
     unfolding rust.«handle_datagram» answer
     answered existing e =
-        either (eqb (message .«message_type») 255) _ _ _ _ (gpdu-comes existing _ e)
+        either-known (eqb (message .«message_type») 255) _ _ _ _ (λ is. gpdu-comes (eqb-true (message .«message_type») 255 is) existing _ e)
         (either (eqb (message .«message_type») 1) _ _ _ _ (request message) (other (message .«message_type»)))
 
 -- 30, 31 and 15, before the type
@@ -260,7 +265,7 @@ module _ (r : Reflector) (source : SocketAddr) (message : GtpuMessage) (payload 
           absurd (added 15 (inl refl) (ap (λ (a : Answer). a .outcome) (sym (handling-short rows (r .used) (r .config) (r .state) session source message payload buffer (table-sound rows (r .used) (r .config .«max_sessions») sound) (ltb-true (length buffer) 72 e)))))
       long false e = ltb-false (length buffer) 72 e
 
-  pub handled-in : SoundIn r → 72 ≤ length buffer → (fits : SequenceFits r) (b : PayloadFits (r .config .policy) payload)
+  pub handled-in : SoundIn r → 72 ≤ length buffer → (fits : SequenceFits r) (b : ComparedMessage (r .config .policy) message payload)
       → Comes r source payload buffer (called r source payload buffer message fits b) (handling r source message payload buffer)
   handled-in s long fits b =
       subst (Comes r source payload buffer (called r source payload buffer message fits b)) (by-type s long)

@@ -11,7 +11,7 @@ use borrow.Author.Tests.{ltb-true, ltb-false, eqb-true, eqb-false, eq-eqb, lt-lt
 use Rattle.error.specs.Outcome.{Outcome, refused, gives}
 use Rattle.error.proofs.Tests.{true-not-false, or-left, or-right}
 use Rattle.field.specs.Field.{Bytes}
-use Rattle.measurement.specs.Read.{readOf}
+use Rattle.measurement_reading.specs.Read.{readOf}
 use Rattle.gtpu.specs.Element.{elementsOf}
 use Rattle.observer.specs.Claims.{sending, returning, indicating}
 use Rattle.counter.specs.Counter.{oneMore}
@@ -44,7 +44,7 @@ use Rattle.rust_reference.specs.Measurement as measurement
 use Rattle.rust_reference.specs.Traffic.{ContinuityObserver, Recorded, tried, «ok_or», «checked_sub», «record_sent», duplicate, «first_return», «record_received_tpdu», «error_indication», «record_return_gtpu_datagram»}
 use Rattle.rust_reference.proofs.Branches.{told-is, compared-bytes}
 use Rattle.rust_reference.proofs.Decoding.{decoded}
-use Rattle.rust_reference.proofs.Elements.{validate}
+use Rattle.rust_reference.proofs.Elements.{walked}
 use Rattle.rust_reference.proofs.Maps.{Located, found, absent, locate, get-found, insert-found, received-resent, contains-found, insert-received, sent-returned, get-absent, insert-absent, received-entered, row-found, set-found, put-absent, late-is, insert-fits, highest-insert}
 
 -- ---- a fresh sheet, and every well-formed one
@@ -129,7 +129,7 @@ pub sending-same : RecordSent
 sending-same rust o same q t added =
     let s = sending-kept rust o same q t
     (λ w full. added 22 (inr (inr (inr (inl refl)))) (ap (λ (x : Step). x .outcome) (sym (sent-full o (same .well) q t w full)))) in
-    (s .0, s .1)
+    (s .0 ∙ told-is _, s .1)
 
 -- ---- a return
 
@@ -370,16 +370,17 @@ module _ (rust : ContinuityObserver) (o : Observer) (same : Same rust o) where
   noted : (r : Result GtpuReturnDatagramOutcome) → AsMessage o (record { result = r; observer = rust }) (unchanged o (outcomeOf r))
   noted r = record { answer = judged-well o (outcomeOf r) (same .well); same = same; room = refl }
 
-  pub message-step : (t : ℕ) → t ≤ «u64_max» → (ty : ℕ) (payload : List ℕ) → Bytes payload
+  pub message-step : (t : ℕ) → t ≤ «u64_max» → (ty : ℕ) (payload : List ℕ) → (ty ≡ 255 → Bytes payload)
       → AsMessage o («record_return_gtpu_datagram» rust t ty payload) (recordReturnMessage o t ty payload)
   unfolding «record_return_gtpu_datagram»
   message-step t fits ty payload b =
-      let a = received-step rust o same t fits payload b in
       branch o (eqb ty 255) _ _ _
-      (λ is. said (message-255 ty o t payload (eqb-true ty 255 is))
+      (λ is.
+      let a = received-step rust o same t fits payload (b (eqb-true ty 255 is)) in
+      said (message-255 ty o t payload (eqb-true ty 255 is))
       (as-kind o MeasurementTpdu («record_received_tpdu» rust t payload .result) («record_received_tpdu» rust t payload .observer) (recordReceivedTpdu o t payload) (a .answer) (a .same) (a .room)))
       (λ no. branch o (eqb ty 26) _ _ _
-      (λ is. said (message-26 ty o t payload (eqb-true ty 26 is)) (indicated («validate_error_indication_ies» payload) (elementsOf payload) (validate payload)))
+      (λ is. said (message-26 ty o t payload (eqb-true ty 26 is)) (indicated («validate_error_indication_ies» payload) (elementsOf payload) (walked payload)))
       (λ nor. said (message-other ty o t payload (eqb-false ty 255 no) (eqb-false ty 26 nor))
       (branch o (eqb ty 2) _ _ _
       (λ is. said (ap (unchanged o) (kind-2 ty (eqb-true ty 2 is))) (noted (Ok EchoResponse)))
@@ -389,4 +390,5 @@ module _ (rust : ContinuityObserver) (o : Observer) (same : Same rust o) where
       (noted (Err (InvalidPacket error.unsupported-GTP-U-return-message-type))))))))
 
 pub message-same : RecordReturnGtpuDatagram
-message-same rust o same t fits ty payload b = let a = message-step rust o same t fits ty payload (compared-bytes payload b) in (a .answer ∙ told-is _, a .same)
+message-same rust o same t fits ty payload b =
+    let a = message-step rust o same t fits ty payload (λ is. compared-bytes payload (b is)) in (a .answer ∙ told-is _, a .same)

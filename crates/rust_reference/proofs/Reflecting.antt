@@ -2,16 +2,15 @@
 use Prim.Native.Nat.{ℕ}
 use native.Mathlib.Omega.{arith}
 use mathlib.Core.Path.{_≡_, refl, ap, ap₂, _∙_}
-use mathlib.Core.List.{List, [], _∷_}
+use mathlib.Core.List.{List, [], _∷_, map}
 use Rattle.error.specs.Outcome.{Outcome}
 use Rattle.reflector_answer.specs.declared.MultiSessionReflectorConfig.{MultiSessionReflectorConfig}
 use Rattle.reflector_sessions.specs.Register.{registerSession}
 use Rattle.reflector_sessions.specs.Remove.{removeSession}
 use Rattle.reflector_sessions.specs.declared.ReflectorSession.{ReflectorSession}
 use Rattle.rust_reference.specs.Claims.{NoneAdded, AllCallsTyped, NoneAddedInCalls, AllOutputsFit, ReflectorRuns, ReflectorRunsWithRoom}
-use Rattle.rust_reference.specs.Compared.{told}
 use Rattle.rust_reference.specs.Error.{Ok}
-use Rattle.rust_reference.specs.Reflecting.{Call, register, remove, handle, Typed, OutputFits, Given, registered, removed, acted, Answer, answerTo, afterCall, answersTo, after, rustAnswerTo, rustAfterCall, rustAnswersTo, rustAfter}
+use Rattle.rust_reference.specs.Reflecting.{Call, register, remove, handle, Typed, OutputFits, Given, registered, removed, acted, Answer, answerTo, afterCall, answersTo, toldAnswer, after, rustAnswerTo, rustAfterCall, rustAnswersTo, rustAfter}
 use Rattle.rust_reference.specs.Reflector as rust
 use Rattle.rust_reference.specs.Sessions.{Reflector, tableIn, handling, freshReflector, rustConfig, rustReflector, rustRemoved, rustAction, outcomeTo, SequenceFits}
 use Rattle.rust_reference.proofs.Branches.{told-is}
@@ -26,7 +25,7 @@ none-before value o added n a e = added n a (ap (outcomeTo value) e)
 
 -- the answer and what is left; 30 and 31 still pass, and the error sequence is still a u16
 record CallSame (r : Reflector) (call : Call) : Type 0 where
-  pub answer : rustAnswerTo (rustReflector r) call ≡ answerTo r call
+  pub answer : rustAnswerTo (rustReflector r) call ≡ toldAnswer (answerTo r call)
   pub left : rustAfterCall (rustReflector r) call ≡ rustReflector (afterCall r call)
   pub sound : SoundIn (afterCall r call)
   pub sequence : SequenceFits (afterCall r call)
@@ -39,7 +38,7 @@ unfolding registerSession removeSession
 call-same r s sequence (register session) typed long =
     let c = registered-in r session s in
     record {
-      answer = ap (λ (o : Outcome Given). answer-of o []) (ap (outcomeTo registered) (c .0));
+      answer = ap (λ (o : Outcome Given). answer-of o []) (ap (outcomeTo registered) (c .0) ∙ told-is _);
       left = c .1;
       sound = c .2;
       sequence = sequence;
@@ -47,7 +46,7 @@ call-same r s sequence (register session) typed long =
 call-same r s sequence (remove teid) typed long =
     let c = removed-in r teid s in
     record {
-      answer = ap (λ (o : Outcome Given). answer-of o []) (ap (outcomeTo removed) (c .0));
+      answer = ap (λ (o : Outcome Given). answer-of o []) (ap (outcomeTo removed) (c .0) ∙ told-is _);
       left = c .1;
       sound = c .2;
       sequence = sequence;
@@ -55,7 +54,7 @@ call-same r s sequence (remove teid) typed long =
 call-same r s sequence (handle source message payload buffer) typed long =
     let c = handled-in r source message payload buffer s long sequence typed in
     record {
-      answer = ap₂ answer-of (ap (outcomeTo acted) (c .0 ∙ ap (outcomeTo (rustAction payload)) (told-is (handling r source message payload buffer .outcome)))) (c .1);
+      answer = ap₂ answer-of (ap (outcomeTo acted) (c .0) ∙ told-is _) (c .1);
       left = c .2;
       sound = s;
       sequence = handled-fits r source message payload buffer s long sequence;
@@ -69,11 +68,10 @@ call-ready r fits (remove teid) added =
     (remove-sound r fits teid (none-before rustRemoved o (none-before removed (outcomeTo rustRemoved o) added)), tt)
 call-ready r fits (handle source message payload buffer) added =
     let o = handling r source message payload buffer .outcome in
-    let before : NoneAdded (told o) = none-before (rustAction payload) (told o) (none-before acted (outcomeTo (rustAction payload) (told o)) added) in
-    handle-ready r source message payload buffer fits (λ n a e. before n a (ap told e))
+    handle-ready r source message payload buffer fits (none-before (rustAction payload) o (none-before acted (outcomeTo (rustAction payload) o) added))
 
 abbrev RunsAlike : Reflector → List Call → Type 0
-RunsAlike r calls = (rustAnswersTo (rustReflector r) calls ≡ answersTo r calls) × (rustAfter (rustReflector r) calls ≡ rustReflector (after r calls))
+RunsAlike r calls = (rustAnswersTo (rustReflector r) calls ≡ map toldAnswer (answersTo r calls)) × (rustAfter (rustReflector r) calls ≡ rustReflector (after r calls))
 
 -- one call, then the rest
 one-more : (r : Reflector) (call : Call) (calls : List Call) → CallSame r call → RunsAlike (afterCall r call) calls → RunsAlike r (call ∷ calls)
@@ -110,7 +108,7 @@ module _ (sessions : List ReflectorSession) (config : MultiSessionReflectorConfi
   fresh-is = made-is sessions config made e
 
   -- what holds of the fresh one holds of what was made
-  made-alike : (calls : List Call) → RunsAlike fresh-one calls → (rustAnswersTo made calls ≡ answersTo fresh-one calls) × (rustAfter made calls ≡ rustReflector (after fresh-one calls))
+  made-alike : (calls : List Call) → RunsAlike fresh-one calls → (rustAnswersTo made calls ≡ map toldAnswer (answersTo fresh-one calls)) × (rustAfter made calls ≡ rustReflector (after fresh-one calls))
   made-alike calls c = (ap (λ (g : rust.GtpuReflector). rustAnswersTo g calls) (fresh-is .1) ∙ c .0, ap (λ (g : rust.GtpuReflector). rustAfter g calls) (fresh-is .1) ∙ c .1)
 
   first-fits : SequenceFits fresh-one

@@ -14,7 +14,7 @@ use Rattle.error.specs.Number.{invalidReflectorSession, reflectorSessionConflic
 use Rattle.error.specs.Outcome.{Outcome, gives, _⇒_, firstCause}
 use Rattle.error.proofs.Causes.{passes}
 use Rattle.field.specs.Field.{sameBytes}
-use Rattle.measurement.specs.Packet.{address}
+use Rattle.measurement.specs.Flow.{address}
 use Rattle.measurement.specs.declared.IpVersion.{IpVersion}
 use Rattle.measurement.specs.declared.IpVersion.the-variants.{V4, V6}
 use Rattle.reflector_sessions.specs.Register.{invalidSession, sessionOutcome, registerOutcome, registerSession, registeredTable}
@@ -29,6 +29,7 @@ use Rattle.rust_reference.specs.Map as map
 use Rattle.rust_reference.specs.Number.{outcomeOf}
 use Rattle.rust_reference.specs.Reflector as rust
 use Rattle.rust_reference.specs.Sessions.{Reflector, tableIn, withTable, rustIp, rustSession, rustReflector, rustRemoved}
+use Rattle.rust_reference.proofs.Branches.{told-is}
 use Rattle.rust_reference.proofs.Capacity.{Fits, made-fits, sound-table}
 
 abbrev pub SoundIn : Reflector → Type 0
@@ -184,4 +185,4 @@ register-sound r fits session added = sound-table (length (r .sessions)) (r .use
 
 pub registered : RegisterSession
 unfolding registerSession
-registered r made session added = let c = registered-in r session (register-sound r (made-fits r made) session added) in (c .0, c .1)
+registered r made session added = let c = registered-in r session (register-sound r (made-fits r made) session added) in (c .0 ∙ told-is _, c .1)

@@ -30,6 +30,7 @@ use Rattle.rust_reference.specs.Values.{«u64_max», «saturating_add»,
 use Rattle.rust_reference.specs.Map.{Some, Entry, keys, values, contains}
 use Rattle.rust_reference.specs.Sheet.{sentOf, receivedOf, ValuesFit, Same}
 use Rattle.rust_reference.specs.Traffic.{ContinuityObserver, «for_latency», «latency_summary», GapSummary, «for_sent», «gap_summary», report}
+use Rattle.rust_reference.proofs.Branches.{told-is}
 use Rattle.rust_reference.proofs.Maps.{Below, Above, rising-above, contains-keys, contains-found}
 
 -- ---- latencies
@@ -295,4 +296,4 @@ pub report-same : Report
 unfolding reporting
 report-same rust o same start end budget =
     ap (λ (r : PacketContinuityReport). gives r) (report-is rust o same start end budget)
-    ∙ judged-well o (gives (leaf.reportOf (rows o) (o .counts) start end budget)) (same .well)
+    ∙ judged-well o (gives (leaf.reportOf (rows o) (o .counts) start end budget)) (same .well) ∙ told-is _

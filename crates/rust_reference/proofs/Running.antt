@@ -2,14 +2,17 @@
 use Prim.Native.Nat.{ℕ, suc, _≤_}
 use native.Mathlib.Omega.{arith}
 use mathlib.Core.Path.{_≡_, refl, sym, ap, ap₂, _∙_}
-use mathlib.Core.List.{List, [], _∷_, _++_}
+use mathlib.Core.List.{List, [], _∷_, _++_, map}
 use mathlib.Core.Bool.{Bool, true, false, _||_}
 use lib.Dec.{eqb, ltb}
 use lib.ListN.{length, length-append}
-use Rattle.error.specs.Outcome.{Outcome}
+use Rattle.error.specs.Outcome.{Outcome, refused, gives}
 use Rattle.error.proofs.Tests.{true-not-false}
 use Rattle.observer.specs.Observer.{Observer, capacity, rows, sentRow}
 use Rattle.observer.specs.Place.{wasSent}
+use Rattle.observer.specs.Sending.{recordSent}
+use Rattle.continuity.specs.Returns.{recordReceivedTpdu, recordReturnMessage}
+use Rattle.report.specs.Report.{reporting}
 use Rattle.observer.proofs.Judging.{well}
 use Rattle.observer.proofs.Keeping.{well-rows}
 use Rattle.observer.specs.Answer.{observerOf}
@@ -18,6 +21,7 @@ use Rattle.rust_reference.specs.Claims.{NoneAdded, AllTyped, NoneAddedIn
 use Rattle.rust_reference.specs.Sheet.{sentOf, Same}
 use Rattle.continuity.specs.declared.GtpuReturnDatagramOutcome.{GtpuReturnDatagramOutcome}
 use Rattle.continuity.specs.declared.GtpuReturnDatagramOutcome.the-variants.{MeasurementTpdu, ErrorIndication, EchoResponse, Ignored}
+use Rattle.rust_reference.specs.Compared.{told}
 use Rattle.rust_reference.specs.Error as error
 use Rattle.rust_reference.specs.Error.{Result, Ok, Err, InvalidPacket, TimestampReversed}
 use Rattle.rust_reference.specs.Map.{Option, None, Some, Entry, get, «contains_key», insert}
@@ -30,21 +34,28 @@ use Rattle.rust_reference.proofs.Observing.{new-same, sending-kept, sen
 use Rattle.rust_reference.proofs.Maps.{Located, found, absent, locate, insert-absent}
 use Rattle.rust_reference.proofs.Reporting.{sent-length, report-same}
 
+-- an answer is told as its outcome is
+told-answering : {A : Type 0} (answer : A → Answer) (o : Outcome A) → answering answer (told o) ≡ told (answering answer o)
+told-answering answer (refused n) = refl
+told-answering answer (gives x) = refl
+
 call-same : (rust : ContinuityObserver) (o : Observer) → Same rust o → (call : Call) → Typed call → NoneAdded (answerTo o call)
-    → (rustAnswerTo rust call ≡ answerTo o call) × Same (rustAfterCall rust call) (afterCall o call)
+    → (rustAnswerTo rust call ≡ told (answerTo o call)) × Same (rustAfterCall rust call) (afterCall o call)
 call-same rust o same (sending q t) typed added =
-    let s = sending-same rust o same q t (λ n a e. added n a (ap (answering (λ u. done)) e)) in (ap (answering (λ u. done)) (s .0), s .1)
+    let s = sending-same rust o same q t (λ n a e. added n a (ap (answering (λ u. done)) e)) in
+    (ap (answering (λ u. done)) (s .0) ∙ told-answering (λ (u : Unit {0}). done) (recordSent o q t .outcome), s .1)
 call-same rust o same (receiving t tpdu) typed added =
-    let s = received-same rust o same t (typed .0) tpdu (typed .1) in (ap (answering (λ u. done)) (s .0), s .1)
+    let s = received-same rust o same t (typed .0) tpdu (typed .1) in (ap (answering (λ u. done)) (s .0) ∙ told-answering (λ (u : Unit {0}). done) (recordReceivedTpdu o t tpdu .outcome), s .1)
 call-same rust o same (returning t ty payload) typed added =
-    let s = message-same rust o same t (typed .0) ty payload (typed .1) in (ap (answering message) (s .0), s .1)
-call-same rust o same (reporting-on start end budget) typed added = (ap (answering reported) (report-same rust o same start end budget), same)
+    let s = message-same rust o same t (typed .0) ty payload (typed .1) in (ap (answering message) (s .0) ∙ told-answering message (recordReturnMessage o t ty payload .outcome), s .1)
+call-same rust o same (reporting-on start end budget) typed added =
+    (ap (answering reported) (report-same rust o same start end budget) ∙ told-answering reported (reporting o start end budget), same)
 
 abbrev RunsAlike : ContinuityObserver → Observer → List Call → Type 0
-RunsAlike rust o calls = (rustAnswersTo rust calls ≡ answersTo o calls) × Same (rustAfter rust calls) (after o calls)
+RunsAlike rust o calls = (rustAnswersTo rust calls ≡ map told (answersTo o calls)) × Same (rustAfter rust calls) (after o calls)
 
 -- one call, then the rest
-one-more : (rust : ContinuityObserver) (o : Observer) (call : Call) (calls : List Call) → rustAnswerTo rust call ≡ answerTo o call
+one-more : (rust : ContinuityObserver) (o : Observer) (call : Call) (calls : List Call) → rustAnswerTo rust call ≡ told (answerTo o call)
     → RunsAlike (rustAfterCall rust call) (afterCall o call) calls → RunsAlike rust o (call ∷ calls)
 one-more rust o call calls answer rest = (ap₂ (λ (x : Outcome Answer) (l : List (Outcome Answer)). x ∷ l) answer (rest .0), rest .1)
 
@@ -177,15 +188,17 @@ free-row rust o same room q t h w full = by (locate q (rows o) (well-rows o (sam
         )
 
 call-free : (rust : ContinuityObserver) (o : Observer) → Same rust o → capacity o ≡ 2048 → (call : Call) → Typed call → length (rustAfterCall rust call .sent) ≤ 2048
-    → (rustAnswerTo rust call ≡ answerTo o call) × Same (rustAfterCall rust call) (afterCall o call) × (capacity (afterCall o call) ≡ capacity o)
+    → (rustAnswerTo rust call ≡ told (answerTo o call)) × Same (rustAfterCall rust call) (afterCall o call) × (capacity (afterCall o call) ≡ capacity o)
 unfolding «record_sent»
 call-free rust o same room (sending q t) typed h =
-    let s = sending-kept rust o same q t (free-row rust o same room q t h) in (ap (answering (λ u. done)) (s .0), s .1, s .2)
+    let s = sending-kept rust o same q t (free-row rust o same room q t h) in (ap (answering (λ u. done)) (s .0) ∙ told-is _, s .1, s .2)
 call-free rust o same room (receiving t tpdu) typed h =
-    let s = received-step rust o same t (typed .0) tpdu (compared-bytes tpdu (typed .1)) in (ap (answering (λ u. done)) (s .answer ∙ told-is _), s .same, s .room)
+    let s = received-step rust o same t (typed .0) tpdu (compared-bytes tpdu (typed .1)) in (ap (answering (λ u. done)) (s .answer) ∙ told-is _, s .same, s .room)
 call-free rust o same room (returning t ty payload) typed h =
-    let s = message-step rust o same t (typed .0) ty payload (compared-bytes payload (typed .1)) in (ap (answering message) (s .answer ∙ told-is _), s .same, s .room)
-call-free rust o same room (reporting-on start end budget) typed h = (ap (answering reported) (report-same rust o same start end budget), same, refl)
+    let s = message-step rust o same t (typed .0) ty payload (λ is. compared-bytes payload (typed .1 is)) in
+    (ap (answering message) (s .answer) ∙ told-is _, s .same, s .room)
+call-free rust o same room (reporting-on start end budget) typed h =
+    (ap (answering reported) (report-same rust o same start end budget) ∙ told-answering reported (reporting o start end budget), same, refl)
 
 related-free : (rust : ContinuityObserver) (o : Observer) → Same rust o → capacity o ≡ 2048 → (calls : List Call) → AllTyped calls
     → length (rustAfter rust calls .sent) ≤ 2048 → RunsAlike rust o calls

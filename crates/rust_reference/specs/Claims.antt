@@ -1,23 +1,26 @@
--- Demand 2: "where no refusal marked added is due, the results equal the Rust's". For each ported function of the Rust, by its name: its
--- result, with errors as numbers, equals document 01's definition, the one that the contract of the call names. proofs/ proves each claim.
+-- Demand 2: "where no refusal marked added is due, the results equal the Rust's". Each ported function of the Rust has
+-- a claim of its name: its result, with errors as numbers, is that of document 01's definition, which our call's
+-- contract names. Compared.antt says what is compared. proofs/ proves each claim.
 use Prim.Native.Nat.{ℕ, _%_, _≤_}
 use mathlib.Core.Path.{_≡_}
-use mathlib.Core.List.{List, [], _∷_, flatten}
+use mathlib.Core.List.{List, [], _∷_, flatten, map}
 use mathlib.Core.Logic.{_⊎_}
 use mathlib.Core.Bool.{Bool, true}
 use lib.ListN.{length}
 use Rattle.error.specs.Number.{outputTooShort, tooManyPackets, malformedObserver, observerFull, invalidReflectorCapacity, malformedReflectorTable}
 use Rattle.error.specs.Outcome.{Outcome, refused, gives}
 use Rattle.gtpu.specs.Element.{elementsOf}
+use Rattle.gtpu.specs.Message.{gtpuMsgGpdu}
 use Rattle.field.specs.Field.{Bytes}
 use Rattle.checksum.specs.Sum.{checksumOf}
-use Rattle.measurement.specs.Packet.{probe, buildOf}
-use Rattle.measurement.specs.Read.{readOf}
-use Rattle.measurement.specs.Echo.{reversedOf, echoOf}
+use Rattle.measurement.specs.Probe.{probe}
+use Rattle.measurement.specs.Flow.{reversedOf, InRange}
 use Rattle.measurement.specs.Answer.{writing, writingOf}
-use Rattle.measurement.specs.Claims.{InRange}
 use Rattle.measurement.specs.declared.InnerIpFlow.{InnerIpFlow}
 use Rattle.measurement.specs.declared.MeasurementHeader.{MeasurementHeader}
+use Rattle.measurement_packet.specs.Packet.{buildOf}
+use Rattle.measurement_reading.specs.Read.{readOf}
+use Rattle.measurement_damage.specs.Echo.{echoOf}
 use Rattle.plan.specs.Plan.{intervalOf, judgePlan}
 use Rattle.traffic.specs.Generate.{firstSequence, generateOf}
 use Rattle.plan.specs.declared.TrafficPlan.{TrafficPlan}
@@ -32,9 +35,10 @@ use Rattle.report.specs.Report.{reporting}
 use Rattle.evidence.specs.Budget.{zeroLoss}
 use Rattle.evidence.specs.declared.PacketContinuityBudget.{PacketContinuityBudget}
 use Rattle.reflector_answer.specs.Handle.{placed}
-use Rattle.reflector_answer.specs.declared.GtpuMessage.{GtpuMessage}
+use Rattle.gtpu.specs.declared.GtpuMessage.{GtpuMessage}
 use Rattle.reflector_answer.specs.declared.MultiSessionReflectorConfig.{MultiSessionReflectorConfig}
 use Rattle.reflector_answer.specs.declared.ReflectorPolicy.{ReflectorPolicy}
+use Rattle.reflector_answer.specs.declared.ReflectorPolicy.the-variants.{SinkAndCount}
 use Rattle.reflector_sessions.specs.Register.{registerSession}
 use Rattle.reflector_sessions.specs.Remove.{removeSession}
 use Rattle.reflector_sessions.specs.declared.ReflectorSession.{ReflectorSession}
@@ -45,9 +49,9 @@ use Rattle.rust_reference.specs.Sheet.{receivedOf, ValuesFit, Same, rust
 use Rattle.rust_reference.specs.Runs.{Call, Typed, answerTo, afterCall, answersTo, after, rustAnswersTo, rustAfter}
 use Rattle.rust_reference.specs.Map.{Option}
 use Rattle.rust_reference.specs.Number.{outcomeBy, outcomeOf}
-use Rattle.rust_reference.specs.Compared.{Compared, asTheRustTells, told}
-use Rattle.rust_reference.specs.Answers.{rustFlow, tpduOf, inBuffer, headersOf, packetsInBuffer, reportOf}
-use Rattle.rust_reference.specs.Sessions.{Reflector, tableIn, withTable, withState, freshReflector, handling, rustAddress, rustSession, rustConfig, rustReflector, rustMessage, rustRemoved, rustAction, outcomeTo, inOutput, IsMade, PayloadFits, SequenceFits}
+use Rattle.rust_reference.specs.Compared.{Compared, ComparedReturn, ComparedMessage, asTheRustTells, told}
+use Rattle.rust_reference.specs.Answers.{rustFlow, tpduOf, inBuffer, headersOf, packetsInBuffer, toldGenerating, reportOf}
+use Rattle.rust_reference.specs.Sessions.{Reflector, tableIn, withTable, withState, freshReflector, handling, rustAddress, rustSession, rustConfig, rustReflector, rustMessage, rustRemoved, rustAction, outcomeTo, inOutput, IsMade, SequenceFits}
 use Rattle.rust_reference.specs.Evidence as evidence
 use Rattle.rust_reference.specs.Gtpu as gtpu
 use Rattle.rust_reference.specs.Measurement as measurement
@@ -57,7 +61,9 @@ use Rattle.rust_reference.specs.Traffic as traffic
 
 -- The numbers that the card marks "added".
 abbrev pub Added : ℕ → Type 0
-Added n = (n ≡ outputTooShort) ⊎ (n ≡ tooManyPackets) ⊎ (n ≡ malformedObserver) ⊎ (n ≡ observerFull) ⊎ (n ≡ malformedReflectorTable)
+Added n =
+    (n ≡ outputTooShort) ⊎ (n ≡ tooManyPackets) ⊎ (n ≡ malformedObserver) ⊎ (n ≡ observerFull)
+    ⊎ (n ≡ malformedReflectorTable)
 
 -- "where no refusal marked added is due"
 abbrev pub NoneAdded : {A : Type 0} → Outcome A → Type 0
@@ -65,9 +71,14 @@ NoneAdded o = (n : ℕ) → Added n → o ≡ refused n → ⊥
 
 -- ---- what is compared
 
--- Every T-PDU; and no two refusals of the port's are told as one.
+-- Every T-PDU; every message that carries none, whatever its payload; and no two of our numbers are compared as one.
 pub record WhatIsCompared : Type 0 where
   pub every-tpdu : (tpdu : List ℕ) → Bytes tpdu → Compared tpdu
+  pub every-other-return : (messageType : ℕ) (payload : List ℕ) → (messageType ≡ gtpuMsgGpdu → ⊥)
+      → ComparedReturn messageType payload
+  pub every-other-message : (policy : ReflectorPolicy) (message : GtpuMessage) (payload : List ℕ)
+      → (message .«message_type» ≡ gtpuMsgGpdu → ⊥) → ComparedMessage policy message payload
+  pub every-sunk-message : (message : GtpuMessage) (payload : List ℕ) → ComparedMessage SinkAndCount message payload
   pub every-refusal : (n m : ℕ) → asTheRustTells n ≡ asTheRustTells m → n ≡ m
 
 -- ---- evidence.rs
@@ -83,7 +94,8 @@ Reversed = (flow : InnerIpFlow) → measurement.reversed (rustFlow flow) ≡ rus
 
 -- Every header.
 abbrev pub Encode : Type 0
-Encode = (header : MeasurementHeader) → measurement.encode header ≡ probe (header .sequence) (header .«send_timestamp_ns»)
+Encode = (header : MeasurementHeader)
+    → measurement.encode header ≡ probe (header .sequence) (header .«send_timestamp_ns»)
 
 -- Every part but the last has an even length: the Rust pads each part to whole words.
 abbrev pub WholeWords : List (List ℕ) → Type 0
@@ -100,7 +112,8 @@ Checksum = (parts : List (List ℕ)) → WholeWords parts → Bytes (flatten par
 abbrev pub BuildMeasurementTpdu : Type 0
 BuildMeasurementTpdu = (flow : InnerIpFlow) (sequence time : ℕ) → InRange flow sequence time → (buffer : List ℕ)
     → NoneAdded (writing (buildOf flow sequence time) buffer .outcome)
-    → inBuffer (measurement.«build_measurement_tpdu» (rustFlow flow) sequence time) buffer ≡ writing (buildOf flow sequence time) buffer
+    → inBuffer (measurement.«build_measurement_tpdu» (rustFlow flow) sequence time) buffer
+    ≡ writing (buildOf flow sequence time) buffer
 
 abbrev pub DecodeMeasurementTpdu : Type 0
 DecodeMeasurementTpdu = (tpdu : List ℕ) → Compared tpdu
@@ -114,33 +127,36 @@ EchoTpdu = (tpdu : List ℕ) → Compared tpdu → (buffer : List ℕ) → NoneA
 
 -- Every payload.
 abbrev pub ValidateErrorIndicationIes : Type 0
-ValidateErrorIndicationIes = (payload : List ℕ) → outcomeOf (gtpu.«validate_error_indication_ies» payload) ≡ elementsOf payload
+ValidateErrorIndicationIes = (payload : List ℕ)
+    → outcomeOf (gtpu.«validate_error_indication_ies» payload) ≡ told (elementsOf payload)
 
 -- ---- traffic.rs
 
 -- Every rate.
 abbrev pub IntervalNs : Type 0
-IntervalNs = (plan : TrafficPlan) → outcomeOf (traffic.«interval_ns» plan) ≡ intervalOf (plan .«target_rate_pps»)
+IntervalNs = (plan : TrafficPlan) → outcomeOf (traffic.«interval_ns» plan) ≡ told (intervalOf (plan .«target_rate_pps»))
 
--- Both ways to make an engine: the sequence that it starts at.
+-- Both ways to make an engine, by the sequence that it starts at.
 abbrev pub Engines : Type 0
 Engines = (traffic.«TrafficEngine_new» .«next_sequence» ≡ firstSequence)
     × ((first : ℕ) → traffic.«with_first_sequence» first .«next_sequence» ≡ first)
 
--- Every flow, plan and next sequence: the answer, the engine's next sequence and every byte of the buffer; and each packet's sequence and time.
+-- Every flow, plan and next sequence: the answer, the engine's next sequence and every byte of the buffer; and each
+-- packet's sequence and time.
 abbrev pub Generate : Type 0
-Generate = (flow : InnerIpFlow) (plan : TrafficPlan) (next : ℕ) → InRange flow next (plan .«first_send_timestamp_ns») → (buffer : List ℕ)
-    → NoneAdded (generateOf flow plan next buffer .outcome)
+Generate = (flow : InnerIpFlow) (plan : TrafficPlan) (next : ℕ) → InRange flow next (plan .«first_send_timestamp_ns»)
+    → (buffer : List ℕ) → NoneAdded (generateOf flow plan next buffer .outcome)
     → let rust : traffic.Generated = traffic.generate next (rustFlow flow) plan in
-    (packetsInBuffer (rust .result) (rust .«next_sequence») buffer ≡ generateOf flow plan next buffer)
-    × (outcomeBy headersOf (rust .result) ≡ judgePlan plan next .outcome)
+    (packetsInBuffer (rust .result) (rust .«next_sequence») buffer ≡ toldGenerating (generateOf flow plan next buffer))
+    × (outcomeBy headersOf (rust .result) ≡ told (judgePlan plan next .outcome))
 
--- `Same` relates the Rust's maps and the sheet; a fresh sheet of any columns is the Rust's new observer, and each call on
--- related ones has the same answer and leaves related ones.
+-- `Same` relates the Rust's observer and a sheet. A fresh sheet of any columns is related to the Rust's new observer,
+-- and each call on related ones has the same answer and leaves them related.
 abbrev pub New : Type 0
 New = (qs ts ls ms : List ℕ) → Same traffic.new (observerOf qs ts ls ms fresh)
 
--- Every sheet on which 21 is not due is related to an observer of the Rust's type, whether or not calls lead there; its latencies are u64s.
+-- Every sheet on which 21 is not due, and whose latencies are u64s, is related to an observer of the Rust, whether or
+-- not calls lead there.
 abbrev pub EverySheet : Type 0
 EverySheet = (o : Observer) → wellFormed o ≡ true → ValuesFit (receivedOf (rows o)) → Same (rustObserver o) o
 
@@ -148,25 +164,31 @@ EverySheet = (o : Observer) → wellFormed o ≡ true → ValuesFit (receivedOf 
 abbrev pub RecordSent : Type 0
 RecordSent = (rust : traffic.ContinuityObserver) (o : Observer) → Same rust o → (sequence time : ℕ)
     → NoneAdded (recordSent o sequence time .outcome)
-    → (gives tt ≡ recordSent o sequence time .outcome) × Same (traffic.«record_sent» rust sequence time) (recordSent o sequence time .observer)
+    → (gives tt ≡ told (recordSent o sequence time .outcome))
+    × Same (traffic.«record_sent» rust sequence time) (recordSent o sequence time .observer)
 
 -- Neither return call has an added refusal: 21 is not due on a related sheet.
 abbrev pub RecordReceivedTpdu : Type 0
-RecordReceivedTpdu = (rust : traffic.ContinuityObserver) (o : Observer) → Same rust o → (time : ℕ) → time ≤ «u64_max» → (tpdu : List ℕ) → Compared tpdu
+RecordReceivedTpdu = (rust : traffic.ContinuityObserver) (o : Observer) → Same rust o → (time : ℕ) → time ≤ «u64_max»
+    → (tpdu : List ℕ) → Compared tpdu
     → let after : traffic.Recorded (Unit {0}) = traffic.«record_received_tpdu» rust time tpdu in
-    (outcomeOf (after .result) ≡ told (recordReceivedTpdu o time tpdu .outcome)) × Same (after .observer) (recordReceivedTpdu o time tpdu .observer)
+    (outcomeOf (after .result) ≡ told (recordReceivedTpdu o time tpdu .outcome))
+    × Same (after .observer) (recordReceivedTpdu o time tpdu .observer)
 
 abbrev pub RecordReturnGtpuDatagram : Type 0
-RecordReturnGtpuDatagram = (rust : traffic.ContinuityObserver) (o : Observer) → Same rust o → (time : ℕ) → time ≤ «u64_max»
-    → (messageType : ℕ) (payload : List ℕ) → Compared payload
-    → let after : traffic.Recorded GtpuReturnDatagramOutcome = traffic.«record_return_gtpu_datagram» rust time messageType payload in
+RecordReturnGtpuDatagram = (rust : traffic.ContinuityObserver) (o : Observer) → Same rust o
+    → (time : ℕ) → time ≤ «u64_max» → (messageType : ℕ) (payload : List ℕ) → ComparedReturn messageType payload
+    → let after : traffic.Recorded GtpuReturnDatagramOutcome =
+    traffic.«record_return_gtpu_datagram» rust time messageType payload in
     (outcomeOf (after .result) ≡ told (recordReturnMessage o time messageType payload .outcome))
     × Same (after .observer) (recordReturnMessage o time messageType payload .observer)
 
 -- Every window and budget.
 abbrev pub Report : Type 0
-Report = (rust : traffic.ContinuityObserver) (o : Observer) → Same rust o → (windowStart windowEnd : ℕ) (budget : PacketContinuityBudget)
-    → gives (reportOf (traffic.report rust windowStart windowEnd budget)) ≡ reporting o windowStart windowEnd budget
+Report = (rust : traffic.ContinuityObserver) (o : Observer) → Same rust o
+    → (windowStart windowEnd : ℕ) (budget : PacketContinuityBudget)
+    → gives (reportOf (traffic.report rust windowStart windowEnd budget))
+    ≡ told (reporting o windowStart windowEnd budget)
 
 -- ---- whole runs
 
@@ -179,19 +201,23 @@ abbrev pub NoneAddedIn : Observer → List Call → Type 0
 NoneAddedIn o [] = Unit {0}
 NoneAddedIn o (call ∷ calls) = NoneAdded (answerTo o call) × NoneAddedIn (afterCall o call) calls
 
--- Every answer of a run, each report on the way among them, is the Rust's, and the observers that are left hold the same.
+-- Every answer of a run is the Rust's, each report on the way too, and the observers that are left hold the same.
 abbrev pub SameRun : Observer → List Call → Type 0
-SameRun o calls = (rustAnswersTo traffic.new calls ≡ answersTo o calls) × Same (rustAfter traffic.new calls) (after o calls)
+SameRun o calls =
+    (rustAnswersTo traffic.new calls ≡ map told (answersTo o calls))
+    × Same (rustAfter traffic.new calls) (after o calls)
 
 -- Every list of calls on a fresh sheet of any columns.
 abbrev pub Runs : Type 0
 Runs = (qs ts ls ms : List ℕ) (calls : List Call) → AllTyped calls → NoneAddedIn (observerOf qs ts ls ms fresh) calls
     → SameRun (observerOf qs ts ls ms fresh) calls
 
--- "runs up to 2,048 sequences": with columns of 2,048 entries, all that is asked is that the Rust's map of what was sent ends with no more.
+-- "runs up to 2,048 sequences": with columns of 2,048 entries, all that is asked is that the Rust's map of what was
+-- sent ends with no more than these.
 abbrev pub RunsUpTo2048 : Type 0
 RunsUpTo2048 = (qs ts ls ms : List ℕ) → 2048 ≤ length qs → 2048 ≤ length ts → 2048 ≤ length ls → 2048 ≤ length ms
-    → (calls : List Call) → AllTyped calls → length (rustAfter traffic.new calls .sent) ≤ 2048 → SameRun (observerOf qs ts ls ms fresh) calls
+    → (calls : List Call) → AllTyped calls → length (rustAfter traffic.new calls .sent) ≤ 2048
+    → SameRun (observerOf qs ts ls ms fresh) calls
 
 -- ---- reflector.rs
 
@@ -199,42 +225,51 @@ RunsUpTo2048 = (qs ts ls ms : List ℕ) → 2048 ≤ length qs → 2048 ≤ leng
 abbrev pub RefusesAsNewMulti : {A : Type 0} → MultiSessionReflectorConfig → Outcome A → Type 0
 RefusesAsNewMulti config o =
     ((error : DataplaneTestkitError) → reflector.«new_multi» (rustConfig config) ≡ Err error
-    → o ≡ refused invalidReflectorCapacity)
-    × (o ≡ refused invalidReflectorCapacity → reflector.«new_multi» (rustConfig config) ≡ Err InvalidReflectorCapacity)
+    → told o ≡ refused invalidReflectorCapacity)
+    × (told o ≡ refused invalidReflectorCapacity
+    → reflector.«new_multi» (rustConfig config) ≡ Err InvalidReflectorCapacity)
 
--- The Rust judges 30 once, when it makes a reflector; here each call does, on every table and for every session, TEID, message
--- and output.
+-- The Rust judges 30 once, when it makes a reflector; here each call does, on every table and for every session, TEID,
+-- message and output.
 pub record NewMulti : Type 0 where
   -- What it makes holds what the fresh reflector holds, whatever slice is lent.
   pub makes : (sessions : List ReflectorSession) (config : MultiSessionReflectorConfig) (made : reflector.GtpuReflector)
       → reflector.«new_multi» (rustConfig config) ≡ Ok made → made ≡ rustReflector (freshReflector sessions config)
   pub «register_session» : (r : Reflector) (session : ReflectorSession)
       → RefusesAsNewMulti (r .config) (registerSession (tableIn r) session .outcome)
-  pub «remove_session» : (r : Reflector) (teid : ℕ) → RefusesAsNewMulti (r .config) (removeSession (tableIn r) teid .outcome)
+  pub «remove_session» : (r : Reflector) (teid : ℕ)
+      → RefusesAsNewMulti (r .config) (removeSession (tableIn r) teid .outcome)
   pub «handle_datagram» : (r : Reflector) (source : SocketAddr) (message : GtpuMessage) (payload buffer : List ℕ)
       → RefusesAsNewMulti (r .config) (handling r source message payload buffer .outcome)
 
 -- Every reflector and session: the answer, and what the Rust's reflector then holds.
 abbrev pub RegisterSession : Type 0
-RegisterSession = (r : Reflector) → IsMade r → (session : ReflectorSession) → NoneAdded (registerSession (tableIn r) session .outcome)
-    → let after : reflector.Called (Result Bool) = reflector.«register_session» (rustReflector r) (rustSession session) in
-    (outcomeOf (after .result) ≡ registerSession (tableIn r) session .outcome)
+RegisterSession = (r : Reflector) → IsMade r → (session : ReflectorSession)
+    → NoneAdded (registerSession (tableIn r) session .outcome)
+    → let after : reflector.Called (Result Bool) =
+    reflector.«register_session» (rustReflector r) (rustSession session) in
+    (outcomeOf (after .result) ≡ told (registerSession (tableIn r) session .outcome))
     × (after .reflector ≡ rustReflector (withTable (registerSession (tableIn r) session .table) r))
 
 -- Every TEID: the session that was removed, or none.
 abbrev pub RemoveSession : Type 0
 RemoveSession = (r : Reflector) → IsMade r → (teid : ℕ) → NoneAdded (removeSession (tableIn r) teid .outcome)
-    → let after : reflector.Called (Option reflector.ReflectorSession) = reflector.«remove_session» (rustReflector r) teid in
-    (gives (after .result) ≡ outcomeTo rustRemoved (removeSession (tableIn r) teid .outcome))
+    → let after : reflector.Called (Option reflector.ReflectorSession) =
+    reflector.«remove_session» (rustReflector r) teid in
+    (gives (after .result) ≡ outcomeTo rustRemoved (told (removeSession (tableIn r) teid .outcome)))
     × (after .reflector ≡ rustReflector (withTable (removeSession (tableIn r) teid .table) r))
 
--- Every message, from every sender: the action, with the payload of what is sent; every byte of the output; and the Rust's reflector, with
--- its counts and its error sequence.
+-- Every message, from every sender: the action, with the payload of what is sent; every byte of the output; and the
+-- Rust's reflector, with its counts and its error sequence.
 abbrev pub HandleDatagram : Type 0
-HandleDatagram = (r : Reflector) → IsMade r → SequenceFits r → (source : SocketAddr) (message : GtpuMessage) (payload : List ℕ) → PayloadFits (r .config .policy) payload
+HandleDatagram = (r : Reflector) → IsMade r → SequenceFits r
+    → (source : SocketAddr) (message : GtpuMessage) (payload : List ℕ)
+    → ComparedMessage (r .config .policy) message payload
     → (buffer : List ℕ) → NoneAdded (handling r source message payload buffer .outcome)
-    → let after : reflector.Called (Result reflector.ReflectorAction) = reflector.«handle_datagram» (rustReflector r) (rustAddress source) (rustMessage message payload) in
-    (outcomeOf (after .result) ≡ outcomeTo (rustAction payload) (told (handling r source message payload buffer .outcome)))
+    → let after : reflector.Called (Result reflector.ReflectorAction) =
+    reflector.«handle_datagram» (rustReflector r) (rustAddress source) (rustMessage message payload) in
+    (outcomeOf (after .result)
+    ≡ outcomeTo (rustAction payload) (told (handling r source message payload buffer .outcome)))
     × (inOutput (after .result) buffer ≡ placed (handling r source message payload buffer .outcome) buffer)
     × (after .reflector ≡ rustReflector (withState (handling r source message payload buffer .state) r))
 
@@ -244,27 +279,34 @@ AllCallsTyped policy (call ∷ calls) = reflecting.Typed policy call × AllCalls
 
 abbrev pub NoneAddedInCalls : Reflector → List reflecting.Call → Type 0
 NoneAddedInCalls r [] = Unit {0}
-NoneAddedInCalls r (call ∷ calls) = NoneAdded (reflecting.answerTo r call .outcome) × NoneAddedInCalls (reflecting.afterCall r call) calls
+NoneAddedInCalls r (call ∷ calls) =
+    NoneAdded (reflecting.answerTo r call .outcome) × NoneAddedInCalls (reflecting.afterCall r call) calls
 
 -- Every answer and every output of a run is the Rust's, and so is what is left.
 abbrev pub SameReflectorRun : reflector.GtpuReflector → Reflector → List reflecting.Call → Type 0
 SameReflectorRun made r calls =
-    (reflecting.rustAnswersTo made calls ≡ reflecting.answersTo r calls) × (reflecting.rustAfter made calls ≡ rustReflector (reflecting.after r calls))
+    (reflecting.rustAnswersTo made calls ≡ map reflecting.toldAnswer (reflecting.answersTo r calls))
+    × (reflecting.rustAfter made calls ≡ rustReflector (reflecting.after r calls))
 
 -- Every list of calls on what `new_multi` made, and on a fresh reflector with any slice.
 abbrev pub ReflectorRuns : Type 0
-ReflectorRuns = (sessions : List ReflectorSession) (config : MultiSessionReflectorConfig) (made : reflector.GtpuReflector) → reflector.«new_multi» (rustConfig config) ≡ Ok made
-    → (calls : List reflecting.Call) → AllCallsTyped (config .policy) calls → NoneAddedInCalls (freshReflector sessions config) calls
+ReflectorRuns =
+    (sessions : List ReflectorSession) (config : MultiSessionReflectorConfig) (made : reflector.GtpuReflector)
+    → reflector.«new_multi» (rustConfig config) ≡ Ok made → (calls : List reflecting.Call)
+    → AllCallsTyped (config .policy) calls → NoneAddedInCalls (freshReflector sessions config) calls
     → SameReflectorRun made (freshReflector sessions config) calls
 
 abbrev pub AllOutputsFit : List reflecting.Call → Type 0
 AllOutputsFit [] = Unit {0}
 AllOutputsFit (call ∷ calls) = reflecting.OutputFits call × AllOutputsFit calls
 
--- The same where the slice has a row for each session of the maximum and the outputs have 72 bytes: then neither 31 nor 15 is ever due.
+-- The same where the slice has as many rows as the maximum and each output has 72 bytes: then neither 31 nor 15 is ever
+-- due.
 abbrev pub ReflectorRunsWithRoom : Type 0
-ReflectorRunsWithRoom = (sessions : List ReflectorSession) (config : MultiSessionReflectorConfig) (made : reflector.GtpuReflector) → reflector.«new_multi» (rustConfig config) ≡ Ok made
-    → config .«max_sessions» ≤ length sessions → (calls : List reflecting.Call) → AllCallsTyped (config .policy) calls → AllOutputsFit calls
+ReflectorRunsWithRoom = (sessions : List ReflectorSession) (config : MultiSessionReflectorConfig)
+    → (made : reflector.GtpuReflector) → reflector.«new_multi» (rustConfig config) ≡ Ok made
+    → config .«max_sessions» ≤ length sessions → (calls : List reflecting.Call)
+    → AllCallsTyped (config .policy) calls → AllOutputsFit calls
     → SameReflectorRun made (freshReflector sessions config) calls
 
 -- All of it, by the Rust's names.

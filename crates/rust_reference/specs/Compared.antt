@@ -1,19 +1,38 @@
--- Which T-PDUs are compared with the Rust, and which of its refusals each of the port's is compared with. Where a change lets
--- the two readers differ, it says so here.
-use Prim.Native.Nat.{ℕ}
+-- Which T-PDUs are compared with the Rust, and as which number each of ours is compared. A change that makes the
+-- readers differ is stated here and nowhere else.
+use Prim.Native.Nat.{ℕ, _≤_}
+use mathlib.Core.Path.{_≡_}
 use mathlib.Core.List.{List}
+use lib.ListN.{length}
 use Rattle.error.specs.Outcome.{Outcome, refused, gives}
 use Rattle.field.specs.Field.{Bytes}
+use Rattle.gtpu.specs.Message.{gtpuMsgGpdu}
+use Rattle.gtpu.specs.declared.GtpuMessage.{GtpuMessage}
+use Rattle.reflector_answer.specs.declared.ReflectorPolicy.{ReflectorPolicy}
+use Rattle.reflector_answer.specs.declared.ReflectorPolicy.the-variants.{Echo, Route}
 
 -- Every T-PDU, whatever its bytes and its length.
 abbrev pub Compared : List ℕ → Type 0
 Compared tpdu = Bytes tpdu
 
--- Each number stands for itself: no two of them are one error of the Rust's.
+-- Of the messages that come back only a G-PDU carries a T-PDU; every other message is compared.
+abbrev pub ComparedReturn : ℕ → List ℕ → Type 0
+ComparedReturn messageType payload = messageType ≡ gtpuMsgGpdu → Compared payload
+
+-- At the reflector only an echo reads the T-PDU. A route sends it on as it came, and the stand-in for the codec carries
+-- "a payload of at most 65,535 bytes".
+abbrev pub ComparedGpdu : ReflectorPolicy → List ℕ → Type 0
+ComparedGpdu policy tpdu = (policy ≡ Echo → Compared tpdu) × (policy ≡ Route → length tpdu ≤ 65535)
+
+-- A message at the reflector: every one but a G-PDU is compared.
+abbrev pub ComparedMessage : ReflectorPolicy → GtpuMessage → List ℕ → Type 0
+ComparedMessage policy message payload = message .«message_type» ≡ gtpuMsgGpdu → ComparedGpdu policy payload
+
+-- Each number is compared as itself: no two of ours are one error of the Rust.
 abbrev pub asTheRustTells : ℕ → ℕ
 asTheRustTells number = number
 
--- An outcome of the port's, in the numbers that are compared.
+-- Our outcome, in the numbers that are compared.
 abbrev pub told : {A : Type 0} → Outcome A → Outcome A
 told (refused number) = refused (asTheRustTells number)
 told (gives x) = gives x

@@ -1,4 +1,5 @@
--- `Option`, and `BTreeMap<u64, u64>` and `BTreeSet<u64>` as far as the Rust uses them: a map is its entries in the order of their keys.
+-- `Option`, and `BTreeMap<u64, u64>` and `BTreeSet<u64>` as far as the Rust uses them: a map is its entries in the
+-- order of their keys.
 use Prim.Native.Nat.{ℕ}
 use mathlib.Core.List.{List, [], _∷_, map}
 use mathlib.Core.Bool.{Bool, true, false, _||_}
@@ -33,7 +34,11 @@ insert key value [] = record { key = key; value = value } ∷ []
 insert key value (e ∷ entries) =
     elim (ltb key (e .key)) [
       | true ↦ record { key = key; value = value } ∷ e ∷ entries
-      | false ↦ elim (eqb key (e .key)) [ true ↦ record { key = key; value = value } ∷ entries | false ↦ e ∷ insert key value entries ]
+      | false ↦
+          elim (eqb key (e .key)) [
+            | true ↦ record { key = key; value = value } ∷ entries
+            | false ↦ e ∷ insert key value entries
+          ]
     ]
 
 abbrev pub keys : List Entry → List ℕ

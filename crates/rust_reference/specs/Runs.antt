@@ -1,4 +1,5 @@
--- Whole runs: lists of the observer's calls, each on what the last one left, by document 01's definitions and by the Rust's.
+-- Whole runs: lists of the observer's calls, each on what the last one left, by document 01's definitions and by the
+-- Rust's.
 use Prim.Native.Nat.{ℕ, _≤_}
 use mathlib.Core.List.{List, [], _∷_}
 use Rattle.error.specs.Outcome.{Outcome, refused, gives}
@@ -10,12 +11,13 @@ use Rattle.report.specs.Report.{reporting}
 use Rattle.continuity.specs.Returns.{recordReceivedTpdu, recordReturnMessage}
 use Rattle.continuity.specs.declared.GtpuReturnDatagramOutcome.{GtpuReturnDatagramOutcome}
 use Rattle.rust_reference.specs.Number.{outcomeOf}
-use Rattle.rust_reference.specs.Compared.{Compared, told}
+use Rattle.rust_reference.specs.Compared.{Compared, ComparedReturn}
 use Rattle.rust_reference.specs.Values.{«u64_max»}
 use Rattle.rust_reference.specs.Answers.{reportOf}
 use Rattle.rust_reference.specs.Traffic as traffic
 
--- A call, with what it is handed: a sequence and its time; a time and a T-PDU; a time, a message type and a payload; a window and a budget.
+-- A call, with what it is handed: a sequence and its time; a time and a T-PDU; a time, a message type and a payload; a
+-- window and a budget.
 pub data Call : Type 0 where
   sending : ℕ → ℕ → Call
   receiving : ℕ → List ℕ → Call
@@ -26,7 +28,7 @@ pub data Call : Type 0 where
 abbrev pub Typed : Call → Type 0
 Typed (sending sequence time) = Unit {0}
 Typed (receiving time tpdu) = (time ≤ «u64_max») × Compared tpdu
-Typed (returning time messageType payload) = (time ≤ «u64_max») × Compared payload
+Typed (returning time messageType payload) = (time ≤ «u64_max») × ComparedReturn messageType payload
 Typed (reporting-on windowStart windowEnd budget) = Unit {0}
 
 -- What a call gives, where it gives something.
@@ -42,8 +44,9 @@ answering answer (gives x) = gives (answer x)
 -- By document 01's definitions.
 abbrev pub answerTo : Observer → Call → Outcome Answer
 answerTo o (sending sequence time) = answering (λ u. done) (recordSent o sequence time .outcome)
-answerTo o (receiving time tpdu) = answering (λ u. done) (told (recordReceivedTpdu o time tpdu .outcome))
-answerTo o (returning time messageType payload) = answering message (told (recordReturnMessage o time messageType payload .outcome))
+answerTo o (receiving time tpdu) = answering (λ u. done) (recordReceivedTpdu o time tpdu .outcome)
+answerTo o (returning time messageType payload) =
+    answering message (recordReturnMessage o time messageType payload .outcome)
 answerTo o (reporting-on windowStart windowEnd budget) = answering reported (reporting o windowStart windowEnd budget)
 
 abbrev pub afterCall : Observer → Call → Observer
@@ -63,14 +66,18 @@ after o (call ∷ calls) = after (afterCall o call) calls
 -- By the Rust's.
 abbrev pub rustAnswerTo : traffic.ContinuityObserver → Call → Outcome Answer
 rustAnswerTo o (sending sequence time) = gives done
-rustAnswerTo o (receiving time tpdu) = answering (λ u. done) (outcomeOf (traffic.«record_received_tpdu» o time tpdu .result))
-rustAnswerTo o (returning time messageType payload) = answering message (outcomeOf (traffic.«record_return_gtpu_datagram» o time messageType payload .result))
-rustAnswerTo o (reporting-on windowStart windowEnd budget) = gives (reported (reportOf (traffic.report o windowStart windowEnd budget)))
+rustAnswerTo o (receiving time tpdu) =
+    answering (λ u. done) (outcomeOf (traffic.«record_received_tpdu» o time tpdu .result))
+rustAnswerTo o (returning time messageType payload) =
+    answering message (outcomeOf (traffic.«record_return_gtpu_datagram» o time messageType payload .result))
+rustAnswerTo o (reporting-on windowStart windowEnd budget) =
+    gives (reported (reportOf (traffic.report o windowStart windowEnd budget)))
 
 abbrev pub rustAfterCall : traffic.ContinuityObserver → Call → traffic.ContinuityObserver
 rustAfterCall o (sending sequence time) = traffic.«record_sent» o sequence time
 rustAfterCall o (receiving time tpdu) = traffic.«record_received_tpdu» o time tpdu .observer
-rustAfterCall o (returning time messageType payload) = traffic.«record_return_gtpu_datagram» o time messageType payload .observer
+rustAfterCall o (returning time messageType payload) =
+    traffic.«record_return_gtpu_datagram» o time messageType payload .observer
 rustAfterCall o (reporting-on windowStart windowEnd budget) = o
 
 abbrev pub rustAnswersTo : traffic.ContinuityObserver → List Call → List (Outcome Answer)

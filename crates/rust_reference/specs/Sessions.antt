@@ -1,11 +1,11 @@
--- The port's reflector, and the Rust's that holds the same: the `Vec` of sessions is the used rows of the lent slice.
-use Prim.Native.Nat.{ℕ, _<_, _≤_}
+-- Our reflector, and the Rust's that holds the same: the `Vec` of sessions is the used rows of the lent slice.
+use Prim.Native.Nat.{ℕ, _<_}
 use mathlib.Core.Path.{_≡_}
 use mathlib.Core.List.{List, map, _++_}
 use mathlib.Core.Option.{Option, some, none}
 use lib.ListN.{length, drop}
 use Rattle.error.specs.Outcome.{Outcome, refused, gives}
-use Rattle.measurement.specs.Packet.{address}
+use Rattle.measurement.specs.Flow.{address}
 use Rattle.measurement.specs.declared.IpVersion.{IpVersion}
 use Rattle.measurement.specs.declared.IpVersion.the-variants.{V4, V6}
 use Rattle.reflector.specs.Handle.{handleDatagram}
@@ -15,7 +15,7 @@ use Rattle.reflector_sessions.specs.declared.ReflectorSession.{ReflectorSession
 use Rattle.reflector_sessions.specs.declared.SocketAddr.{SocketAddr}
 use Rattle.reflector_answer.specs.Answer.{payloadBytes, Action, noop, send, Answer}
 use Rattle.reflector_answer.specs.State.{fresh}
-use Rattle.reflector_answer.specs.declared.GtpuMessage.{GtpuMessage}
+use Rattle.gtpu.specs.declared.GtpuMessage.{GtpuMessage}
 use Rattle.reflector_answer.specs.declared.MultiSessionReflectorConfig.{MultiSessionReflectorConfig}
 use Rattle.reflector_answer.specs.declared.ReflectorNoopReason.{ReflectorNoopReason}
 use Rattle.reflector_answer.specs.declared.ReflectorNoopReason.the-variants.{GpduSunk, EchoResponseObserved, ErrorIndicationObserved, EndMarkerIgnored, SupportedExtensionHeadersNotificationIgnored}
@@ -24,15 +24,15 @@ use Rattle.reflector_answer.specs.declared.ReflectorPolicy.the-variants.{Echo, 
 use Rattle.reflector_answer.specs.declared.ReflectorSendReason.the-variants.{ReflectedGpdu, RoutedGpdu, EchoResponse, ErrorIndication}
 use Rattle.reflector_answer.specs.declared.ReflectorState.{ReflectorState}
 use Rattle.reflector_answer.specs.declared.RouteTarget.{RouteTarget}
-use Rattle.reflector_answer.specs.declared.SequenceNumber.{SequenceNumber}
-use Rattle.reflector_answer.specs.declared.SequenceNumber.the-variants.{Present, Absent}
+use Rattle.gtpu.specs.declared.SequenceNumber.{SequenceNumber}
+use Rattle.gtpu.specs.declared.SequenceNumber.the-variants.{Present, Absent}
 use Rattle.rust_reference.specs.Error.{Result, Ok, Err}
-use Rattle.rust_reference.specs.Compared.{Compared}
 use Rattle.rust_reference.specs.Gtpu as gtpu
 use Rattle.rust_reference.specs.Map as map
 use Rattle.rust_reference.specs.Reflector as rust
 
--- What the caller holds between calls: the lent slice with its used count, the configuration, which has the maximum, and the state.
+-- What the caller holds between calls: the lent slice with its used count, the configuration, which has the maximum,
+-- and the state.
 pub record Reflector : Type 0 where
   pub sessions : List ReflectorSession
   pub used : ℕ
@@ -49,9 +49,10 @@ withTable t r = record { sessions = t .sessions; used = t .used; config = r .con
 abbrev pub withState : ReflectorState → Reflector → Reflector
 withState state r = record { sessions = r .sessions; used = r .used; config = r .config; state = state }
 
--- The answer to a message there.
+-- Its answer to a message.
 abbrev pub handling : Reflector → SocketAddr → GtpuMessage → List ℕ → List ℕ → Answer
-handling r source message payload buffer = handleDatagram (r .sessions) (r .used) (r .config) (r .state) source message payload buffer
+handling r source message payload buffer =
+    handleDatagram (r .sessions) (r .used) (r .config) (r .state) source message payload buffer
 
 -- "Fresh: no used row, all counts 0, error sequence 1."
 abbrev pub freshReflector : List ReflectorSession → MultiSessionReflectorConfig → Reflector
@@ -68,7 +69,11 @@ abbrev pub rustAddress : SocketAddr → rust.SocketAddr
 rustAddress a = record { ip = rustIp (a .version) (a .address); port = a .port }
 
 abbrev pub rustSession : ReflectorSession → rust.ReflectorSession
-rustSession s = record { «local_teid» = s .«local_teid»; «peer_teid» = s .«peer_teid»; «peer_addr» = rustAddress (valueOf (s .«peer_addr»)) }
+rustSession s = record {
+  «local_teid» = s .«local_teid»;
+  «peer_teid» = s .«peer_teid»;
+  «peer_addr» = rustAddress (valueOf (s .«peer_addr»));
+}
 
 abbrev pub rustPolicy : ReflectorPolicy → RouteTarget → rust.ReflectorPolicy
 rustPolicy Echo target = rust.Echo
@@ -135,25 +140,24 @@ abbrev pub outcomeTo : {A B : Type 0} → (A → B) → Outcome A → Outcome B
 outcomeTo value (refused n) = refused n
 outcomeTo value (gives x) = gives (value x)
 
--- The output beside the Rust's action: a packet's payload at the front, what lies past it kept. "Route hands on the payload uncopied."
+-- The output beside the Rust's action: the payload of what is sent at the front, and the bytes past it kept. "Route
+-- hands on the payload uncopied."
 abbrev pub inOutput : Result rust.ReflectorAction → List ℕ → List ℕ
 inOutput (Err error) buffer = buffer
 inOutput (Ok (rust.Noop reason)) buffer = buffer
 inOutput (Ok (rust.Send destination packet RoutedGpdu)) buffer = buffer
-inOutput (Ok (rust.Send destination packet ReflectedGpdu)) buffer = packet .payload ++ drop (length (packet .payload)) buffer
-inOutput (Ok (rust.Send destination packet EchoResponse)) buffer = packet .payload ++ drop (length (packet .payload)) buffer
-inOutput (Ok (rust.Send destination packet ErrorIndication)) buffer = packet .payload ++ drop (length (packet .payload)) buffer
+inOutput (Ok (rust.Send destination packet ReflectedGpdu)) buffer =
+    packet .payload ++ drop (length (packet .payload)) buffer
+inOutput (Ok (rust.Send destination packet EchoResponse)) buffer =
+    packet .payload ++ drop (length (packet .payload)) buffer
+inOutput (Ok (rust.Send destination packet ErrorIndication)) buffer =
+    packet .payload ++ drop (length (packet .payload)) buffer
 
--- ---- what the Rust's types, its codec and `new_multi` see to
+-- ---- what the Rust's types and `new_multi` see to
 
 -- There is such a reflector in the Rust: `new_multi` makes one of this configuration.
 abbrev pub IsMade : Reflector → Type 0
 IsMade r = (made : rust.GtpuReflector) × (rust.«new_multi» (rustConfig (r .config)) ≡ Ok made)
-
--- A payload that is compared. The stand-in for the codec carries "a payload of at most 65,535 bytes": of what is received, only a route sends
--- the payload on as it came.
-abbrev pub PayloadFits : ReflectorPolicy → List ℕ → Type 0
-PayloadFits policy payload = Compared payload × (policy ≡ Route → length payload ≤ 65535)
 
 -- The error sequence is a u16.
 abbrev pub SequenceFits : Reflector → Type 0

@@ -9,11 +9,11 @@ use Rattle.error.specs.Outcome.{Outcome, gives}
 use Rattle.field.specs.Field.{sameBytes}
 use Rattle.field.proofs.Fields.{same-as-itself}
 use Rattle.checksum.proofs.Claims.{damage-is}
-use Rattle.measurement.specs.Packet.{ipHeaderLength, buildOf}
-use Rattle.measurement.specs.Echo.{reversedOf}
-use Rattle.measurement.specs.Claims.{InRange, Travelled, arrives, echoes, echoesOf}
+use Rattle.measurement.specs.Flow.{reversedOf, InRange}
 use Rattle.measurement.specs.declared.InnerIpFlow.{InnerIpFlow}
-use Rattle.measurement.proofs.Claims.{echo-alone, reversed-in-range}
+use Rattle.measurement_packet.specs.Packet.{ipHeaderLength, buildOf}
+use Rattle.measurement_damage.specs.Claims.{Travelled, arrives, echoes, echoesOf}
+use Rattle.measurement_damage.proofs.Claims.{echo-alone, reversed-in-range}
 use Rattle.plan.specs.Plan.{timeAt}
 use Rattle.plan.proofs.Claims.{accepted-if-acceptable}
 use Rattle.traffic.proofs.Claims.{room-decides}

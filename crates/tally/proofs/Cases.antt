@@ -6,11 +6,13 @@ use mathlib.Core.List.{List, [], _∷_}
 use Rattle.error.specs.Outcome.{Outcome, refused, gives, firstCause}
 use Rattle.checksum.specs.Sum.{sumOf, folding, foldOf, checksumOf}
 use Rattle.evidence.specs.Budget.{zeroLoss}
-use Rattle.measurement.specs.Packet.{addressLength, address, padded, ipv4, ipv4Header, ipv6, ipHeader, pseudoHeader, measurementMagic, probe, udpSegment, nonzero, udp, buildOf}
-use Rattle.measurement.specs.Read.{payload, lengthWrong, covered, sumWrong, probeCauses, udpCauses, readProbe, readUdp, ipv6Causes, readIpv6, tpduCauses, readOf}
-use Rattle.measurement.specs.Echo.{echoOf}
-use Rattle.measurement.specs.Claims.{InRange}
+use Rattle.measurement.specs.Flow.{addressLength, address, padded, InRange}
+use Rattle.measurement.specs.Pseudo.{pseudoHeader}
+use Rattle.measurement.specs.Probe.{measurementMagic, probe}
 use Rattle.measurement.specs.declared.DecodedTpdu.{DecodedTpdu}
+use Rattle.measurement_packet.specs.Packet.{ipv4, ipv4Header, ipv6, ipHeader, udpSegment, nonzero, udp, buildOf}
+use Rattle.measurement_reading.specs.Read.{payload, lengthWrong, covered, sumWrong, probeCauses, udpCauses, readProbe, readUdp, ipv6Causes, readIpv6, tpduCauses, readOf}
+use Rattle.measurement_damage.specs.Echo.{echoOf}
 use Rattle.plan.proofs.Claims.{intervals}
 use Rattle.gtpu.specs.Element.{elementsOf}
 use Rattle.gtpu.specs.Claims.{EmptyList}
@@ -24,7 +26,7 @@ use Rattle.observer.specs.Answer.{observerOf}
 use Rattle.continuity.specs.Returns.{sequenceRead, recordReceivedTpdu}
 use Rattle.report.specs.Report.{reportOf, reporting}
 use Rattle.tally.specs.Cases.{Figure, number, figures, ipv4Flow, sends, freshObserver, sentFive, returns, longest, EightCases}
-use Rattle.measurement.proofs.Claims.{reads-back-alone}
+use Rattle.measurement_damage.proofs.Claims.{reads-back-alone}
 
 -- ---- what is sent, built and read
 

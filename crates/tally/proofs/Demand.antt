@@ -5,10 +5,10 @@ use mathlib.Core.Bool.{Bool, true, false}
 use mathlib.Core.List.{List, [], _∷_, map}
 use Rattle.error.specs.Outcome.{Outcome, refused, gives}
 use Rattle.evidence.specs.declared.PacketContinuityBudget.{PacketContinuityBudget}
-use Rattle.measurement.specs.Read.{readOf}
 use Rattle.measurement.specs.declared.DecodedTpdu.{DecodedTpdu}
 use Rattle.measurement.specs.declared.InnerIpFlow.{InnerIpFlow}
-use Rattle.measurement.proofs.Claims.{damage-found}
+use Rattle.measurement_reading.specs.Read.{readOf}
+use Rattle.measurement_damage.proofs.Claims.{damage-found}
 use Rattle.plan.specs.Plan.{packetsOf}
 use Rattle.plan.specs.declared.TrafficPlan.{TrafficPlan}
 use Rattle.observer.specs.Counts.{withUsed}

@@ -12,15 +12,18 @@ use Rattle.field.proofs.Fields.{bytes-append, bytes-drop, same-as-itself}
 use Rattle.checksum.specs.Sum.{sumOf, folding, foldOf, checksumOf}
 use Rattle.checksum.specs.Damage.{isOne, lowBits, bits, Turned}
 use Rattle.checksum.proofs.Claims.{damage-is, clipped}
-use Rattle.measurement.specs.Packet.{addressLength, address, padded, ipv4, ipv4Header, ipv6, ipHeader, pseudoHeader, measurementMagic, probe, udpSegment, nonzero, udp, buildOf}
-use Rattle.measurement.specs.Read.{readOf, tpduCauses, ihl, ipv4Causes, readIpv4, ipv6Causes, readIpv6, readUdp, readProbe, udpCauses, probeCauses, sumWrong, covered, lengthWrong, payload}
-use Rattle.measurement.specs.Echo.{reversedOf, echoOfTpdu, echoOf}
-use Rattle.measurement.specs.Claims.{InRange, tpduBuilt, Travelled, arrives, echoes, echoesOf}
+use Rattle.measurement.specs.Flow.{addressLength, address, padded, reversedOf, InRange}
+use Rattle.measurement.specs.Pseudo.{pseudoHeader}
+use Rattle.measurement.specs.Probe.{measurementMagic, probe}
 use Rattle.measurement.specs.declared.DecodedTpdu.{DecodedTpdu}
 use Rattle.measurement.specs.declared.InnerIpFlow.{InnerIpFlow}
 use Rattle.measurement.specs.declared.IpVersion.the-variants.{V6}
-use Rattle.measurement.proofs.Built.{packet-bytes}
-use Rattle.measurement.proofs.Claims.{reads-back-alone, echo-alone, reversed-in-range, zeros-are-bytes}
+use Rattle.measurement_packet.specs.Packet.{ipv4, ipv4Header, ipv6, ipHeader, udpSegment, nonzero, udp, buildOf}
+use Rattle.measurement_reading.specs.Read.{readOf, tpduCauses, ihl, ipv4Causes, readIpv4, ipv6Causes, readIpv6, readUdp, readProbe, udpCauses, probeCauses, sumWrong, covered, lengthWrong, payload}
+use Rattle.measurement_damage.specs.Echo.{echoOfTpdu, echoOf}
+use Rattle.measurement_damage.specs.Claims.{tpduBuilt, Travelled, arrives, echoes, echoesOf}
+use Rattle.measurement_packet.proofs.Built.{packet-bytes}
+use Rattle.measurement_damage.proofs.Claims.{reads-back-alone, echo-alone, reversed-in-range, zeros-are-bytes}
 use Rattle.plan.specs.Plan.{packetsFrom, packetsOf}
 use Rattle.counter.specs.Counter.{oneMore}
 use Rattle.observer.specs.Observer.{Observer, capacity, rows, withRows}

@@ -9,3 +9,4 @@ pub mod Examples
 pub mod Attained
 pub mod Cases
 pub mod Batches
+pub mod Malformed

@@ -4,14 +4,15 @@ use native.Mathlib.Omega.{arith}
 use mathlib.Core.Path.{_≡_, refl, sym, ap, _∙_}
 use mathlib.Core.List.{List}
 use Rattle.error.specs.Outcome.{Outcome, refused, gives}
-use Rattle.measurement.specs.Packet.{buildOf}
-use Rattle.measurement.specs.Read.{readOf}
-use Rattle.measurement.specs.Echo.{reversedOf, echoOf}
-use Rattle.measurement.specs.Claims.{InRange, tpduBuilt, built, RefusesOr, echoesOf, reversedTpdu, reversals}
+use Rattle.measurement.specs.Flow.{reversedOf, InRange}
 use Rattle.measurement.specs.declared.DecodedTpdu.{DecodedTpdu}
 use Rattle.measurement.specs.declared.InnerIpFlow.{InnerIpFlow}
 use Rattle.measurement.specs.declared.MeasurementHeader.{MeasurementHeader}
-use Rattle.measurement.proofs.Claims.{reads-back-alone, echo-alone, reversed-in-range, damage-found, legs-chained}
+use Rattle.measurement_packet.specs.Packet.{buildOf}
+use Rattle.measurement_reading.specs.Read.{readOf}
+use Rattle.measurement_damage.specs.Echo.{echoOf}
+use Rattle.measurement_damage.specs.Claims.{tpduBuilt, built, RefusesOr, echoesOf, reversedTpdu, reversals}
+use Rattle.measurement_damage.proofs.Claims.{reads-back-alone, echo-alone, reversed-in-range, damage-found, legs-chained}
 use Rattle.plan.specs.Plan.{timeAt, packetsOf, Judged}
 use Rattle.plan.specs.Claims.{Acceptable}
 use Rattle.plan.specs.declared.TrafficPlan.{TrafficPlan}

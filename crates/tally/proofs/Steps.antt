@@ -8,8 +8,8 @@ use lib.Dec.{ltb, eqb}
 use lib.ListN.{length, set, length-set}
 use borrow.Author.Tests.{ltb-true, ltb-false, eqb-true, eqb-false}
 use Rattle.error.specs.Outcome.{Outcome, refused, gives}
-use Rattle.measurement.specs.Read.{readOf}
 use Rattle.measurement.specs.declared.DecodedTpdu.{DecodedTpdu}
+use Rattle.measurement_reading.specs.Read.{readOf}
 use Rattle.counter.specs.Counter.{oneMore}
 use Rattle.observer.specs.Counts.{oneDuplicate, outOfOrderIf}
 use Rattle.observer.specs.Observer.{Row, Observer, rows, rowAt, withRows, withCounts}

@@ -33,7 +33,8 @@ handedTpdu r = record { call = tpduCall; time = r .time; tpdu = r .tpdu }
 abbrev pub ReturnsTaken : Type 0
 ReturnsTaken = (o : Observer) (times lengths bytes returned numbers : List ℕ)
     → recordReceivedTpdus o times lengths bytes returned numbers .arrived .observer
-    ≡ receiveAll o (map handedTpdu (receivedOf times (take (returnsIn times lengths returned numbers) (tpdusOf lengths bytes))))
+    ≡ receiveAll o
+    (map handedTpdu (receivedOf times (take (returnsIn times lengths returned numbers) (tpdusOf lengths bytes))))
 
 pub record Batches : Type 0 where
   pub plan-entered : PlanEntered

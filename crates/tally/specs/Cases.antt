@@ -1,4 +1,5 @@
--- Document 01's eight proved cases, as one table: what the definitions compute, and what the paper says. proofs/Cases.antt proves every row.
+-- Document 01's eight proved cases, as one table: what the definitions compute, and what the paper says.
+-- proofs/Cases.antt proves every row.
 use Prim.Native.Nat.{ℕ}
 use mathlib.Core.Path.{_≡_}
 use mathlib.Core.List.{List, [], _∷_, _++_}
@@ -10,10 +11,10 @@ use Rattle.evidence.specs.Budget.{zeroLoss}
 use Rattle.evidence.specs.declared.Latency.{Latency}
 use Rattle.evidence.specs.declared.Latency.the-variants.{Absent}
 use Rattle.evidence.specs.declared.PacketContinuityReport.{PacketContinuityReport}
-use Rattle.measurement.specs.Packet.{buildOf}
-use Rattle.measurement.specs.Echo.{echoOf}
 use Rattle.measurement.specs.declared.InnerIpFlow.{InnerIpFlow}
 use Rattle.measurement.specs.declared.IpVersion.the-variants.{V4, V6}
+use Rattle.measurement_packet.specs.Packet.{buildOf}
+use Rattle.measurement_damage.specs.Echo.{echoOf}
 use Rattle.plan.specs.Plan.{intervalOf}
 use Rattle.gtpu.specs.Element.{elementsOf}
 use Rattle.observer.specs.Counts.{fresh}
@@ -99,20 +100,49 @@ table windowStart windowEnd =
       computed = gives (ipv4HeaderChecksum (buildOf ipv4Flow 1 0) ∷ ipv4UdpChecksum (buildOf ipv4Flow 1 0) ∷ []);
       expected = gives (number 0x66b7 ∷ number 0xb1d8 ∷ []);
     }
-    ∷ record { case = 2; computed = gives (ipv4UdpChecksum (buildOf ipv4Flow 1 45528) ∷ []); expected = gives (number 0xffff ∷ []) }
-    ∷ record { case = 3; computed = gives (ipv6UdpChecksum (buildOf ipv6Flow 1 0) ∷ []); expected = gives (number 0xc5d8 ∷ []) }
+    ∷ record {
+      case = 2;
+      computed = gives (ipv4UdpChecksum (buildOf ipv4Flow 1 45528) ∷ []);
+      expected = gives (number 0xffff ∷ []);
+    }
+    ∷ record {
+      case = 3;
+      computed = gives (ipv6UdpChecksum (buildOf ipv6Flow 1 0) ∷ []);
+      expected = gives (number 0xc5d8 ∷ []);
+    }
     -- "its echo has the same"
-    ∷ record { case = 3; computed = figures (λ echo. ipv6UdpChecksum echo ∷ []) (echoOf (buildOf ipv6Flow 1 0)); expected = gives (number 0xc5d8 ∷ []) }
-    ∷ record { case = 4; computed = figures (λ i. number i ∷ []) (intervalOf 1000000000); expected = gives (number 1 ∷ []) }
+    ∷ record {
+      case = 3;
+      computed = figures (λ echo. ipv6UdpChecksum echo ∷ []) (echoOf (buildOf ipv6Flow 1 0));
+      expected = gives (number 0xc5d8 ∷ []);
+    }
+    ∷ record {
+      case = 4;
+      computed = figures (λ i. number i ∷ []) (intervalOf 1000000000);
+      expected = gives (number 1 ∷ []);
+    }
     ∷ record { case = 4; computed = figures (λ i. number i ∷ []) (intervalOf 1000000001); expected = refused 17 }
-    ∷ record { case = 4; computed = figures (λ i. number i ∷ []) (intervalOf 3); expected = gives (number 333333333 ∷ []) }
+    ∷ record {
+      case = 4;
+      computed = figures (λ i. number i ∷ []) (intervalOf 3);
+      expected = gives (number 333333333 ∷ []);
+    }
     ∷ record {
       case = 5;
-      computed = figures longest (reporting (returns (returns sentFive 2 10 50) 5 40 60) windowStart windowEnd zeroLoss);
+      computed = figures longest
+          (reporting (returns (returns sentFive 2 10 50) 5 40 60) windowStart windowEnd zeroLoss);
       expected = gives (number 2 ∷ number 20 ∷ []);
     }
-    ∷ record { case = 6; computed = figures longest (reporting (returns sentFive 2 10 50) windowStart 100 zeroLoss); expected = gives (number 3 ∷ number 80 ∷ []) }
-    ∷ record { case = 6; computed = figures longest (reporting (returns sentFive 2 10 50) windowStart 15 zeroLoss); expected = gives (number 3 ∷ number 10 ∷ []) }
+    ∷ record {
+      case = 6;
+      computed = figures longest (reporting (returns sentFive 2 10 50) windowStart 100 zeroLoss);
+      expected = gives (number 3 ∷ number 80 ∷ []);
+    }
+    ∷ record {
+      case = 6;
+      computed = figures longest (reporting (returns sentFive 2 10 50) windowStart 15 zeroLoss);
+      expected = gives (number 3 ∷ number 10 ∷ []);
+    }
     ∷ record {
       case = 7;
       computed = figures verdicts (reporting freshObserver windowStart windowEnd zeroLoss);

@@ -1,5 +1,5 @@
--- Demand 3, whole: one claim about a whole list of returns, over the definitions that the contracts of the public calls name. proofs/Demand.antt
--- proves it.
+-- Demand 3, whole: one claim about a whole list of returns, over the definitions that the contracts of the public calls
+-- name. proofs/Demand.antt proves it.
 use Prim.Native.Nat.{ℕ, _+_, _<_}
 use mathlib.Core.Path.{_≡_}
 use mathlib.Core.List.{List, [], _∷_, map}
@@ -7,24 +7,27 @@ use mathlib.Core.Bool.{Bool, true, false, not, _||_}
 use Rattle.error.specs.Outcome.{Outcome, refused, gives}
 use Rattle.field.specs.Field.{sameBytes}
 use Rattle.evidence.specs.declared.PacketContinuityBudget.{PacketContinuityBudget}
-use Rattle.measurement.specs.Packet.{buildOf}
-use Rattle.measurement.specs.Claims.{InRange, DamageFound, Travelled, arrives, echoes, echoesOf}
+use Rattle.measurement.specs.Flow.{InRange}
 use Rattle.measurement.specs.declared.InnerIpFlow.{InnerIpFlow}
 use Rattle.measurement.specs.declared.MeasurementHeader.{MeasurementHeader}
+use Rattle.measurement_packet.specs.Packet.{buildOf}
+use Rattle.measurement_damage.specs.Claims.{DamageFound, Travelled, arrives, echoes, echoesOf}
 use Rattle.plan.specs.Plan.{timeAt, packetsOf}
 use Rattle.traffic.specs.Generate.{generateOf}
 use Rattle.plan.specs.declared.TrafficPlan.{TrafficPlan}
 use Rattle.gtpu.specs.Message.{gtpuMsgGpdu}
 use Rattle.observer.specs.Counts.{fresh}
+use Rattle.observer.specs.Judge.{Step}
 use Rattle.observer.specs.Observer.{Observer, rows}
 use Rattle.observer.specs.Sending.{recordSent}
-use Rattle.continuity.specs.Returns.{recordReceivedTpdu, recordReturnMessage}
+use Rattle.continuity.specs.Returns.{recordReceivedTpdu, MessageStep, recordReturnMessage}
 use Rattle.report.specs.Report.{reporting}
 use Rattle.tally.specs.Tally.{Tally, tallyOf, Fed, isRefused, tallyReturns, countsOf, tallyReport}
 
 -- ---- the plan and its packets
 
--- An accepted plan: with some buffer the generator takes it. Flow, next sequence and first time are of the code's types.
+-- An accepted plan: with some buffer the generator takes it. Flow, next sequence and first time are of the code's
+-- types.
 pub record Accepted (flow : InnerIpFlow) (plan : TrafficPlan) (next : ℕ) : Type 0 where
   pub in-range : InRange flow next (plan .«first_send_timestamp_ns»)
   pub buffer : List ℕ
@@ -72,9 +75,10 @@ pub record Taken : Type 0 where
 
 abbrev pub takenBy : Call → Observer → ℕ → List ℕ → Taken
 takenBy tpduCall o time tpdu =
-    record { refuses = isRefused (recordReceivedTpdu o time tpdu .outcome); observer = recordReceivedTpdu o time tpdu .observer }
+    let s : Step = recordReceivedTpdu o time tpdu in record { refuses = isRefused (s .outcome); observer = s .observer }
 takenBy messageCall o time tpdu =
-    record { refuses = isRefused (recordReturnMessage o time gtpuMsgGpdu tpdu .outcome); observer = recordReturnMessage o time gtpuMsgGpdu tpdu .observer }
+    let s : MessageStep = recordReturnMessage o time gtpuMsgGpdu tpdu in
+    record { refuses = isRefused (s .outcome); observer = s .observer }
 
 abbrev pub receive : Observer → Handed → Taken
 receive o h = takenBy (h .call) o (h .time) (h .tpdu)
@@ -84,8 +88,9 @@ abbrev pub receiveAll : Observer → List Handed → Observer
 receiveAll o [] = o
 receiveAll o (h ∷ hs) = receiveAll (receive o h .observer) hs
 
--- "A return is a packet of the plan, echoed any number of times or never, and a time; where an echo refuses, none comes." Each of its legs may
--- be damaged (`Travelled`). Packets may be lost, repeated and reordered: any list of returns will do.
+-- "A return is a packet of the plan, echoed any number of times or never, and a time; where an echo refuses, none
+-- comes." Each of its legs may be damaged (`Travelled`). Packets may be lost, repeated and reordered: any list of
+-- returns will do.
 pub record Return (flow : InnerIpFlow) (plan : TrafficPlan) (next : ℕ) : Type 0 where
   pub packet-index : ℕ
   pub planned : packet-index < plan .«packet_count»
@@ -98,7 +103,8 @@ pub record Return (flow : InnerIpFlow) (plan : TrafficPlan) (next : ℕ) : Type 
 -- some bit was turned on some leg
 abbrev pub someLegTurned : {sent arrived : List ℕ} {n : ℕ} → Travelled sent n arrived → Bool
 someLegTurned (arrives {sent = sent} {arrived = arrived} turned) = not (sameBytes arrived sent)
-someLegTurned (echoes {sent = sent} {at-echo = at-echo} turned echoed onward) = not (sameBytes at-echo sent) || someLegTurned onward
+someLegTurned (echoes {sent =
+    sent} {at-echo = at-echo} turned echoed onward) = not (sameBytes at-echo sent) || someLegTurned onward
 
 -- the bytes of an echo that is not refused
 abbrev pub bytesGiven : Outcome (List ℕ) → List ℕ
@@ -126,8 +132,8 @@ module _ {flow : InnerIpFlow} {plan : TrafficPlan} {next : ℕ} where
   abbrev pub damagedAtTheEnd : Return flow plan next → Bool
   damagedAtTheEnd r = not (sameBytes (r .arrived) (wholeBytes r))
 
-  -- The second list: "the same returns at the same times, each damaged one left out if refused, else made whole". Whether a return is refused
-  -- is what the call answers at that point of the first run, whose observer is carried along.
+  -- The second list: "the same returns at the same times, each damaged one left out if refused, else made whole".
+  -- Whether a return is refused is asked of the call at that point of the first run, whose observer is carried along.
   abbrev pub secondList : (Return flow plan next → Bool) → Observer → List (Return flow plan next) → List Handed
   secondList damaged o [] = []
   secondList damaged o (r ∷ rs) =
@@ -144,11 +150,12 @@ module _ {flow : InnerIpFlow} {plan : TrafficPlan} {next : ℕ} where
   abbrev pub firstRun : Observer → List (Return flow plan next) → Observer
   firstRun first returns = receiveAll (sendAll first (packetsOf plan next)) (map handed returns)
 
-  -- "a second fresh sheet with the same plan all entered and then the same returns at the same times, each damaged one left out if refused,
-  -- else made whole"
+  -- "a second fresh sheet with the same plan all entered and then the same returns at the same times, each damaged one
+  -- left out if refused, else made whole"
   abbrev pub secondRun : (Return flow plan next → Bool) → Observer → Observer → List (Return flow plan next) → Observer
   secondRun damaged first second returns =
-      receiveAll (sendAll second (packetsOf plan next)) (secondList damaged (sendAll first (packetsOf plan next)) returns)
+      receiveAll (sendAll second (packetsOf plan next))
+      (secondList damaged (sendAll first (packetsOf plan next)) returns)
 
   -- the tally, fed the packets and then the returns
   abbrev pub tallyRun : List (Return flow plan next) → Tally
@@ -156,16 +163,17 @@ module _ {flow : InnerIpFlow} {plan : TrafficPlan} {next : ℕ} where
 
 -- ---- the claim
 
--- "the used rows, the counters and, for every budget and window end, the report are those of document 01's tally"; the report is given, and not
--- refused.
+-- "the used rows, the counters and, for every budget and window end, the report are those of document 01's tally"; the
+-- report is given, and not refused.
 pub record IsTally (o : Observer) (a : Tally) : Type 0 where
   pub used-rows : rows o ≡ a .rows
   pub counters : o .counts ≡ countsOf a
   pub report : (windowStart windowEnd : ℕ) (budget : PacketContinuityBudget)
       → reporting o windowStart windowEnd budget ≡ gives (tallyReport a windowStart windowEnd budget)
 
--- Both observers, which need not be alike: whatever their columns held, and however long these are.
-pub record Run {flow : InnerIpFlow} {plan : TrafficPlan} {next : ℕ} (first second : Observer) (returns : List (Return flow plan next)) : Type 0 where
+-- Both observers, which need not be alike: their columns may hold anything and have any lengths.
+pub record Run {flow : InnerIpFlow} {plan : TrafficPlan} {next : ℕ} (first second : Observer)
+    (returns : List (Return flow plan next)) : Type 0 where
   pub tally : IsTally (firstRun first returns) (tallyRun returns)
   pub whole : IsTally (secondRun damagedOnALeg first second returns) (tallyRun returns)
   pub whole-at-the-end : IsTally (secondRun damagedAtTheEnd first second returns) (tallyRun returns)
@@ -173,6 +181,8 @@ pub record Run {flow : InnerIpFlow} {plan : TrafficPlan} {next : ℕ} (first sec
 pub record Demand3 : Type 0 where
   -- the first sentence: one leg, of every built or echoed T-PDU
   pub one-leg : DamageFound
-  -- the second and the third: "for every accepted plan, all entered on a fresh sheet, and every list of returns after that"
-  pub all-returns : (flow : InnerIpFlow) (plan : TrafficPlan) (next : ℕ) → Accepted flow plan next → (first second : Observer)
-      → Takes plan next first → Takes plan next second → (returns : List (Return flow plan next)) → Run first second returns
+  -- the second and the third: "for every accepted plan, all entered on a fresh sheet, and every list of returns after
+  -- that"
+  pub all-returns : (flow : InnerIpFlow) (plan : TrafficPlan) (next : ℕ) → Accepted flow plan next
+      → (first second : Observer) → Takes plan next first → Takes plan next second
+      → (returns : List (Return flow plan next)) → Run first second returns

@@ -1,6 +1,6 @@
--- The tally ("tally" is document 01's word): what a run must show, from the plan's packets and the list of returns. Defined from the section
--- "The tally" alone, in its words. It has no search and no call of the observer: the row of a return is the row of its packet, by its place in
--- the plan, and the reader is asked only whether it refuses.
+-- The tally ("tally" is document 01's word): what a run must show, from the plan's packets and the list of returns.
+-- Defined from the section "The tally" alone, in its words. It has no search and no call of the observer: the row of a
+-- return is the row of its packet, by its place in the plan, and the reader is asked only whether it refuses.
 use Prim.Native.Nat.{ℕ, _-_}
 use mathlib.Core.List.{List, [], _∷_, map}
 use mathlib.Core.Bool.{Bool, true, false, _&&_, _||_}
@@ -9,8 +9,8 @@ use lib.ListN.{length, getD, set}
 use Rattle.error.specs.Outcome.{Outcome, refused, gives}
 use Rattle.evidence.specs.declared.PacketContinuityBudget.{PacketContinuityBudget}
 use Rattle.evidence.specs.declared.PacketContinuityReport.{PacketContinuityReport}
-use Rattle.measurement.specs.Read.{readOf}
 use Rattle.measurement.specs.declared.MeasurementHeader.{MeasurementHeader}
+use Rattle.measurement_reading.specs.Read.{readOf}
 use Rattle.counter.specs.Counter.{oneMore}
 use Rattle.observer.specs.Observer.{Row}
 use Rattle.observer.specs.declared.ObserverCounts.{ObserverCounts}
@@ -54,16 +54,24 @@ higherMarked q (r ∷ rows) = (ltb q (r .sequence) && eqb (r .mark) 1) || higher
 abbrev pub marked : ℕ → Row → Row
 marked time r = record { sequence = r .sequence; sent = r .sent; latency = time - r .sent; mark = 1 }
 
--- "If its row is marked, duplicates rise by 1. Else out-of-order returns rise by 1 if a row of higher sequence is marked; then the row gets
--- mark 1 and .. latency .. Counters saturate."
+-- "If its row is marked, duplicates rise by 1. Else out-of-order returns rise by 1 if a row of higher sequence is
+-- marked; then the row gets mark 1 and .. latency .. Counters saturate."
 unfoldable pub counted : Tally → ℕ → ℕ → Row → Tally
 counted a k time r =
     elim (eqb (r .mark) 1) [
-      | true ↦ record { rows = a .rows; duplicates = oneMore (a .duplicates); outOfOrder = a .outOfOrder; errorIndications = a .errorIndications }
+      | true ↦ record {
+        rows = a .rows;
+        duplicates = oneMore (a .duplicates);
+        outOfOrder = a .outOfOrder;
+        errorIndications = a .errorIndications;
+      }
       | false ↦ record {
         rows = set (a .rows) k (marked time r);
         duplicates = a .duplicates;
-        outOfOrder = elim (higherMarked (r .sequence) (a .rows)) [ true ↦ oneMore (a .outOfOrder) | false ↦ a .outOfOrder ];
+        outOfOrder = elim (higherMarked (r .sequence) (a .rows)) [
+          | true ↦ oneMore (a .outOfOrder)
+          | false ↦ a .outOfOrder
+        ];
         errorIndications = a .errorIndications;
       }
     ]
@@ -72,7 +80,10 @@ counted a k time r =
 unfoldable pub tallyReturn : Tally → Fed → Tally
 tallyReturn a r =
     let row : Row = rowOfPacket (r .packet) (a .rows) in
-    elim (isRefused (readOf (r .arrived)) || ltb (r .time) (row .sent)) [ true ↦ a | false ↦ counted a (r .packet) (r .time) row ]
+    elim (isRefused (readOf (r .arrived)) || ltb (r .time) (row .sent)) [
+      | true ↦ a
+      | false ↦ counted a (r .packet) (r .time) row
+    ]
 
 abbrev pub tallyReturns : Tally → List Fed → Tally
 tallyReturns a [] = a

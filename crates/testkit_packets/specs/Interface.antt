@@ -3,7 +3,7 @@ use Prim.Native.Nat.{ℕ, _+_, _*_}
 use mathlib.Core.Path.{_≡_}
 use mathlib.Core.List.{List}
 use Rattle.error.specs.Outcome.{Outcome, refused, gives}
-use Rattle.measurement.specs.Packet.{versionNumbered, versionNumber}
+use Rattle.measurement.specs.Flow.{versionNumbered, versionNumber}
 use Rattle.measurement.specs.declared.InnerIpFlow.{InnerIpFlow}
 use Rattle.measurement_decode.specs.declared.TpduNumbers.{TpduNumbers}
 use Rattle.traffic.specs.Generate.{Generating}

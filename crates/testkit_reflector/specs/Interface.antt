@@ -1,5 +1,5 @@
--- How the C interface puts the reflector's values: a policy and a version as numbers, an answer as a number and values
--- beside it.
+-- How the reflector's values look at the C interface: a policy and a version are numbers, an answer is a number and
+-- values beside it.
 use Prim.Native.Nat.{ℕ}
 use mathlib.Core.Path.{_≡_}
 use mathlib.Core.List.{List}
@@ -15,7 +15,7 @@ use Rattle.reflector_sessions.specs.declared.LentSocketAddr.{LentSocketAddr}
 use Rattle.reflector_sessions.specs.declared.SocketAddr.{SocketAddr}
 use Rattle.reflector_answer.specs.Answer.{Answer}
 use Rattle.reflector_answer.specs.Handle.{handledOf, placed}
-use Rattle.reflector_answer.specs.declared.GtpuMessage.{GtpuMessage}
+use Rattle.gtpu.specs.declared.GtpuMessage.{GtpuMessage}
 use Rattle.reflector_answer.specs.declared.Handled.{Handled}
 use Rattle.reflector_answer.specs.declared.MultiSessionReflectorConfig.{MultiSessionReflectorConfig}
 use Rattle.reflector_answer.specs.declared.OutboundMessage.{OutboundMessage}
@@ -28,11 +28,10 @@ use Rattle.reflector_answer.specs.declared.ReflectorPolicy.the-variants.{Echo, 
 use Rattle.reflector_answer.specs.declared.ReflectorSendReason.{ReflectorSendReason}
 use Rattle.reflector_answer.specs.declared.ReflectorSendReason.the-variants as send
 use Rattle.reflector_answer.specs.declared.ReflectorState.{ReflectorState}
-use Rattle.reflector_answer.specs.declared.SequenceNumber.{SequenceNumber}
-use Rattle.reflector_answer.specs.declared.SequenceNumber.the-variants.{Absent, Present}
-use Rattle.measurement.specs.Packet.{versionNumber}
+use Rattle.gtpu.specs.declared.SequenceNumber.{SequenceNumber}
+use Rattle.gtpu.specs.declared.SequenceNumber.the-variants.{Absent, Present}
+use Rattle.measurement.specs.Flow.{versionNumber}
 use Rattle.testkit_reflector.specs.declared.ActionNumbers.{ActionNumbers}
-use Rattle.testkit_reflector.specs.declared.HandlingArguments.{HandlingArguments}
 use Rattle.testkit_reflector.specs.declared.SequenceNumbers.{SequenceNumbers}
 use Rattle.testkit_reflector.specs.declared.TestkitGtpuMessage.{TestkitGtpuMessage}
 use Rattle.testkit_reflector.specs.declared.TestkitHandled.{TestkitHandled}
@@ -60,11 +59,17 @@ isRemoved (gives none) = false
 isRemoved (gives (some session)) = true
 
 abbrev pub removedNumbers : Outcome (Option ReflectorSession) → ℕ → ReflectorSession → TestkitRemoved
-removedNumbers outcome used session = record { number = outcomeNumber outcome; removed = isRemoved outcome; used = used; session = session }
+removedNumbers outcome used session = record {
+  number = outcomeNumber outcome;
+  removed = isRemoved outcome;
+  used = used;
+  session = session;
+}
 
 -- The answer and the rows of a removal.
 abbrev pub RemovesNumbers : TestkitRemoved → List ReflectorSession → Removing → Type 0
-RemovesNumbers r rows to = (r ≡ removedNumbers (to .outcome) (to .table .used) (sessionOf (to .outcome))) × (rows ≡ to .table .sessions)
+RemovesNumbers r rows to = (r ≡ removedNumbers (to .outcome) (to .table .used) (sessionOf (to .outcome)))
+    × (rows ≡ to .table .sessions)
 
 -- What a message is handled with. Every number is a policy: 0 echo, 1 sink and count, every other route.
 unfoldable pub policyNumbered : ℕ → ReflectorPolicy
@@ -102,10 +107,11 @@ stateOf s = record {
 }
 
 abbrev pub messageOf : TestkitGtpuMessage → GtpuMessage
-messageOf m = record { «message_type» = m .«message_type»; teid = m .teid; «sequence_number» = sequenceOf (m .«has_sequence») (m .sequence) }
-
-abbrev pub argumentsOf : TestkitReflectorConfig → TestkitReflectorState → LentSocketAddr → TestkitGtpuMessage → HandlingArguments
-argumentsOf config state source message = record { config = configOf config; state = stateOf state; source = valueOf source; message = messageOf message }
+messageOf m = record {
+  «message_type» = m .«message_type»;
+  teid = m .teid;
+  «sequence_number» = sequenceOf (m .«has_sequence») (m .sequence);
+}
 
 -- Why nothing is sent, and why a message is.
 abbrev pub noopNumber : ReflectorNoopReason → ℕ
@@ -121,12 +127,12 @@ sendNumber send.RoutedGpdu = 2
 sendNumber send.EchoResponse = 3
 sendNumber send.ErrorIndication = 4
 
--- A refusal's number, or 0; what is to be done, 0 refused, 1 nothing to send, 2 a message; its reason, or 0; and the
--- bytes in the output.
+-- A refusal's number, or 0; what is to be done, 0 refused, 1 nothing to send, 2 a message; why nothing is sent, or 0;
+-- why a message is, or 0; and the bytes in the output.
 abbrev pub actionNumbers : ReflectorAction → ActionNumbers
-actionNumbers (action.Refused number) = record { number = number; action = 0; reason = 0; bytes = 0 }
-actionNumbers (action.Noop reason) = record { number = 0; action = 1; reason = noopNumber reason; bytes = 0 }
-actionNumbers (action.Send reason bytes) = record { number = 0; action = 2; reason = sendNumber reason; bytes = bytes }
+actionNumbers (action.Refused number) = record { number = number; action = 0; «noop_reason» = 0; «send_reason» = 0; bytes = 0 }
+actionNumbers (action.Noop reason) = record { number = 0; action = 1; «noop_reason» = noopNumber reason; «send_reason» = 0; bytes = 0 }
+actionNumbers (action.Send reason bytes) = record { number = 0; action = 2; «noop_reason» = 0; «send_reason» = sendNumber reason; bytes = bytes }
 
 abbrev pub sequenceNumbers : SequenceNumber → SequenceNumbers
 sequenceNumbers Absent = record { present = 0; value = 0 }
@@ -159,7 +165,8 @@ abbrev pub handledNumbers : Handled → TestkitHandled
 handledNumbers h = record {
   number = actionNumbers (h .action) .number;
   action = actionNumbers (h .action) .action;
-  reason = actionNumbers (h .action) .reason;
+  «noop_reason» = actionNumbers (h .action) .«noop_reason»;
+  «send_reason» = actionNumbers (h .action) .«send_reason»;
   bytes = actionNumbers (h .action) .bytes;
   destination = addressNumbers (h .message .destination);
   message = messageNumbers (h .message);

@@ -1,7 +1,8 @@
 // The C interface to the reflector: each call under the prefix `testkit_`, with the call's own contract. The session
 // table is a lent slice of records, which hold numbers only; what else a call takes and answers goes by value. A
 // version is 4 for IPv4 and every other number for IPv6. A refusal is its number, and 0 is none.
-use reflector_answer::GtpuMessage;
+use gtpu::GtpuMessage;
+use gtpu::SequenceNumber;
 use reflector_answer::Handled;
 use reflector_answer::MultiSessionReflectorConfig;
 use reflector_answer::OutboundMessage;
@@ -12,7 +13,7 @@ use reflector_answer::ReflectorSendReason;
 use reflector_answer::ReflectorState;
 use reflector_answer::ReflectorStats;
 use reflector_answer::RouteTarget;
-use reflector_answer::SequenceNumber;
+use reflector_sessions::FoundSession;
 use reflector_sessions::LentSocketAddr;
 use reflector_sessions::ReflectorSession;
 use reflector_sessions::Registered;
@@ -24,8 +25,14 @@ ghost use mathlib.Core.Path.{_≡_};
 ghost use Rattle.reflector_sessions.specs.Table.{tableOf};
 ghost use Rattle.reflector_sessions.specs.Register.{registerSession, registrationMeans};
 ghost use Rattle.reflector_sessions.specs.Remove.{removeSession, removalMeans};
+ghost use Rattle.reflector_sessions.specs.Judge.{sessionFound};
+ghost use Rattle.reflector_answer.specs.Handle.{handleFound};
 ghost use Rattle.reflector.specs.Handle.{handleDatagram};
-ghost use Rattle.testkit_reflector.specs.Interface.{registeredNumbers, RegistersNumbers, removedNumbers, RemovesNumbers, policyNumbered, policyNumber, sequenceOf, configOf, stateOf, messageOf, argumentsOf, noopNumber, sendNumber, actionNumbers, sequenceNumbers, addressNumbers, messageNumbers, stateNumbers, handledNumbers, AnswersNumbers};
+ghost use Rattle.testkit_reflector.specs.Interface.{registeredNumbers, RegistersNumbers, removedNumbers};
+ghost use Rattle.testkit_reflector.specs.Interface.{RemovesNumbers, policyNumbered, policyNumber, sequenceOf};
+ghost use Rattle.testkit_reflector.specs.Interface.{configOf, stateOf, messageOf, noopNumber, sendNumber};
+ghost use Rattle.testkit_reflector.specs.Interface.{actionNumbers, sequenceNumbers, addressNumbers};
+ghost use Rattle.testkit_reflector.specs.Interface.{messageNumbers, stateNumbers, handledNumbers, AnswersNumbers};
 ghost use Rattle.reflector_sessions.specs.Session.{valueOf};
 
 // What registering answers: 0 and whether the session was added, or a refusal's number; and the used count that it
@@ -78,13 +85,15 @@ pub extern "C" fn testkit_register_session(
     max_sessions: usize,
     session: ReflectorSession,
 ) -> TestkitRegistered
-    ensures { λ r. ⌜ RegistersNumbers r (now (sessions .exit)) (registerSession (tableOf (now (sessions .entry)) used «max_sessions») session) ⌝ }
+    ensures { λ r. ⌜ RegistersNumbers r (now (sessions .exit))
+        (registerSession (tableOf (now (sessions .entry)) used «max_sessions») session) ⌝ }
 {
     registered_numbers(reflector_sessions::register_session(sessions, used, max_sessions, session))
 }
 
 fn removed_numbers(removed: RemovedSession) -> TestkitRemoved
-    ensures { λ r. ⌜ r ≡ removedNumbers (removalMeans (removed .removal) (removed .session)) (removed .used) (removed .session) ⌝ }
+    ensures { λ r. ⌜ r ≡ removedNumbers (removalMeans (removed .removal) (removed .session)) (removed .used)
+        (removed .session) ⌝ }
 {
     let removal = removed.removal;
     let session = removed.session;
@@ -118,7 +127,8 @@ pub extern "C" fn testkit_remove_session(
     max_sessions: usize,
     local_teid: u32,
 ) -> TestkitRemoved
-    ensures { λ r. ⌜ RemovesNumbers r (now (sessions .exit)) (removeSession (tableOf (now (sessions .entry)) used «max_sessions») «local_teid») ⌝ }
+    ensures { λ r. ⌜ RemovesNumbers r (now (sessions .exit))
+        (removeSession (tableOf (now (sessions .entry)) used «max_sessions») «local_teid») ⌝ }
 {
     removed_numbers(reflector_sessions::remove_session(sessions, used, max_sessions, local_teid))
 }
@@ -189,33 +199,27 @@ pub const SEND_ECHO_RESPONSE: u8 = 3;
 
 pub const SEND_ERROR_INDICATION: u8 = 4;
 
-// What handling answers: 0 or a refusal's number, what is to be done and why, or 0. `bytes` of the payload to send are
-// in the output; of a routed one none, since it is the received payload. Where nothing is sent the destination is
-// version 4 and zeros, and the message zeros.
+// What handling answers: 0 or a refusal's number; what is to be done; why nothing is sent, or 0; why a message is sent,
+// or 0. `bytes` of the payload to send are in the output; of a routed one none, since it is the received payload. Where
+// nothing is sent the destination is version 4 and zeros, and the message zeros.
 #[repr(C)]
 pub struct TestkitHandled {
     pub number: u8,
     pub action: u8,
-    pub reason: u8,
+    pub noop_reason: u8,
+    pub send_reason: u8,
     pub bytes: usize,
     pub destination: LentSocketAddr,
     pub message: TestkitGtpuMessage,
     pub state: TestkitReflectorState,
 }
 
-// What a message is handled with, as values.
-struct HandlingArguments {
-    config: MultiSessionReflectorConfig,
-    state: ReflectorState,
-    source: SocketAddr,
-    message: GtpuMessage,
-}
-
 // An action in numbers.
 struct ActionNumbers {
     number: u8,
     action: u8,
-    reason: u8,
+    noop_reason: u8,
+    send_reason: u8,
     bytes: usize,
 }
 
@@ -298,22 +302,6 @@ fn message_of(message: TestkitGtpuMessage) -> GtpuMessage
     }
 }
 
-fn handling_arguments(
-    config: TestkitReflectorConfig,
-    state: TestkitReflectorState,
-    source: LentSocketAddr,
-    message: TestkitGtpuMessage,
-) -> HandlingArguments
-    ensures { λ r. ⌜ r ≡ argumentsOf config state source message ⌝ }
-{
-    HandlingArguments {
-        config: config_of(config),
-        state: state_of(state),
-        source: source.value(),
-        message: message_of(message),
-    }
-}
-
 fn noop_number(reason: ReflectorNoopReason) -> u8
     ensures { λ r. ⌜ r ≡ noopNumber reason ⌝ }
 {
@@ -346,19 +334,22 @@ fn action_numbers(action: ReflectorAction) -> ActionNumbers
         ReflectorAction::Refused(number) => ActionNumbers {
             number: number,
             action: ACTION_REFUSED,
-            reason: 0,
+            noop_reason: 0,
+            send_reason: 0,
             bytes: 0,
         },
         ReflectorAction::Noop(reason) => ActionNumbers {
             number: 0,
             action: ACTION_NOOP,
-            reason: noop_number(reason),
+            noop_reason: noop_number(reason),
+            send_reason: 0,
             bytes: 0,
         },
         ReflectorAction::Send(reason, bytes) => ActionNumbers {
             number: 0,
             action: ACTION_SEND,
-            reason: send_number(reason),
+            noop_reason: 0,
+            send_reason: send_number(reason),
             bytes: bytes,
         },
     }
@@ -430,7 +421,8 @@ fn handled_numbers(handled: Handled) -> TestkitHandled
     TestkitHandled {
         number: action.number,
         action: action.action,
-        reason: action.reason,
+        noop_reason: action.noop_reason,
+        send_reason: action.send_reason,
         bytes: action.bytes,
         destination: address_numbers(destination),
         message: message_numbers(message),
@@ -438,7 +430,37 @@ fn handled_numbers(handled: Handled) -> TestkitHandled
     }
 }
 
-// `reflector::handle_datagram`
+// `reflector_answer::handle_found`
+fn handle_found(
+    length: usize,
+    used: usize,
+    config: TestkitReflectorConfig,
+    state: TestkitReflectorState,
+    found: FoundSession,
+    source: LentSocketAddr,
+    message: TestkitGtpuMessage,
+    payload: &[u8],
+    out: &mut [u8],
+) -> TestkitHandled
+    ensures { λ r. ⌜ AnswersNumbers r (now (out .exit))
+        (handleFound length used (configOf config) (stateOf state) (sessionFound used found) (valueOf source)
+        (messageOf message) (now (payload .entry)) (now (out .entry)))
+        (now (out .entry)) ⌝ }
+{
+    handled_numbers(reflector_answer::handle_found(
+        length,
+        used,
+        config_of(config),
+        state_of(state),
+        found,
+        source.value(),
+        message_of(message),
+        payload,
+        out,
+    ))
+}
+
+// `reflector::handle_datagram`, by the same two steps: the search, and what is answered to what it found.
 #[no_mangle]
 pub extern "C" fn testkit_handle_datagram(
     sessions: &[ReflectorSession],
@@ -450,17 +472,21 @@ pub extern "C" fn testkit_handle_datagram(
     payload: &[u8],
     out: &mut [u8],
 ) -> TestkitHandled
-    ensures { λ r. ⌜ AnswersNumbers r (now (out .exit)) (handleDatagram (now (sessions .entry)) used (configOf config) (stateOf state) (valueOf source) (messageOf message) (now (payload .entry)) (now (out .entry))) (now (out .entry)) ⌝ }
+    ensures { λ r. ⌜ AnswersNumbers r (now (out .exit))
+        (handleDatagram (now (sessions .entry)) used (configOf config) (stateOf state) (valueOf source)
+        (messageOf message) (now (payload .entry)) (now (out .entry)))
+        (now (out .entry)) ⌝ }
 {
-    let to = handling_arguments(config, state, source, message);
-    handled_numbers(reflector::handle_datagram(
-        sessions,
+    let found = reflector_sessions::find_session(sessions, used, config.max_sessions, message.teid);
+    handle_found(
+        sessions.len(),
         used,
-        to.config,
-        to.state,
-        to.source,
-        to.message,
+        config,
+        state,
+        found,
+        source,
+        message,
         payload,
         out,
-    ))
+    )
 }

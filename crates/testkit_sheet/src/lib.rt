@@ -8,6 +8,8 @@ use evidence::Latency;
 use evidence::LatencySummary;
 use evidence::PacketContinuityBudget;
 use evidence::PacketContinuityReport;
+use gtpu::GtpuMessage;
+use gtpu::SequenceNumber;
 use observer::ObserverCounts;
 use observer::Recorded;
 use observer::Recording;
@@ -276,7 +278,7 @@ fn datagram_numbers(recorded: MessageRecorded) -> TestkitDatagramRecorded
     }
 }
 
-// `continuity::record_return_gtpu_datagram`
+// `continuity::record_return_gtpu_datagram`, which looks at a message's type alone: so C names no more of it.
 #[no_mangle]
 pub extern "C" fn testkit_record_return_gtpu_datagram(
     sequences: &[u64],
@@ -298,7 +300,11 @@ pub extern "C" fn testkit_record_return_gtpu_datagram(
         marks,
         counts,
         return_timestamp_ns,
-        message_type,
+        GtpuMessage {
+            message_type: message_type,
+            teid: 0,
+            sequence_number: SequenceNumber::Absent,
+        },
         payload,
     ))
 }

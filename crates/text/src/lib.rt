@@ -64,18 +64,12 @@ pub fn item(list: &[u8], number: usize) -> &[u8] {
     part(list, at, find_from(list, at, b' ') - at)
 }
 
-fn wide(x: u8) -> u64
-    ensures { λ r. ⌜ r ≡ x ⌝ }
-{
-    x as u64
-}
-
 // The number with one digit more, or NO_NUMBER.
 fn with_digit(n: u64, digit: u8) -> u64 {
     if n > LARGEST {
         return NO_NUMBER;
     }
-    let value = wide(digit);
+    let value = field::wide(digit);
     if value < 48 {
         return NO_NUMBER;
     }

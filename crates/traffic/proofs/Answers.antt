@@ -8,12 +8,12 @@ use lib.ListN.{length, drop}
 use borrow.Author.Tests.{lt-ltb, le-ltb}
 use Rattle.error.specs.Outcome.{Outcome, refused, gives}
 use Rattle.measurement.specs.Answer.{writing}
-use Rattle.measurement.specs.Packet.{ipHeaderLength}
 use Rattle.measurement.specs.declared.InnerIpFlow.{InnerIpFlow}
 use Rattle.measurement.specs.declared.IpVersion.{IpVersion}
 use Rattle.measurement.specs.declared.IpVersion.the-variants.{V4, V6}
 use Rattle.measurement.specs.declared.MeasurementHeader.{MeasurementHeader}
 use Rattle.measurement.specs.declared.Written.the-variants as written
+use Rattle.measurement_packet.specs.Packet.{ipHeaderLength}
 use Rattle.plan.specs.Plan.{top, interval, Judged, packetsOf, judgePlan}
 use Rattle.plan.specs.Judge.{Judges}
 use Rattle.plan.specs.Claims.{Acceptable, accepted}

@@ -8,10 +8,10 @@ use mathlib.Core.List.{List, [], _∷_, _++_, append-assoc, append-nil}
 use lib.ListN.{length, take, drop, length-append, length-take, length-drop}
 use Rattle.field.proofs.Parts.{laid}
 use Rattle.measurement.specs.Answer.{Writing, writing, wrote}
-use Rattle.measurement.specs.Packet.{ipHeaderLength, buildOf}
 use Rattle.measurement.specs.declared.InnerIpFlow.{InnerIpFlow}
 use Rattle.measurement.specs.declared.MeasurementHeader.{MeasurementHeader}
 use Rattle.measurement.specs.declared.Written.{Written}
+use Rattle.measurement_packet.specs.Packet.{ipHeaderLength, buildOf}
 use Rattle.measurement_build.proofs.Whole.{build-length, writing-fits}
 use Rattle.plan.specs.Plan.{top, timeAt, packetAt, packetsFrom, packetsOf}
 use Rattle.plan.specs.declared.TrafficPlan.{TrafficPlan}

@@ -2,8 +2,8 @@
 use Prim.Native.Nat.{ℕ, _+_, _*_, _≤_}
 use mathlib.Core.List.{List}
 use lib.ListN.{length}
-use Rattle.measurement.specs.Packet.{ipHeaderLength}
 use Rattle.measurement.specs.declared.InnerIpFlow.{InnerIpFlow}
+use Rattle.measurement_packet.specs.Packet.{ipHeaderLength}
 use Rattle.plan.specs.Judge.{Planned}
 use Rattle.plan.specs.declared.TrafficPlan.{TrafficPlan}
 

@@ -3,10 +3,10 @@ use Prim.Native.Nat.{ℕ}
 use mathlib.Core.List.{List, [], _∷_, _++_}
 use Rattle.error.specs.Outcome.{Outcome, refused, gives}
 use Rattle.measurement.specs.Answer.{writtenMeans, Writing, writing}
-use Rattle.measurement.specs.Packet.{buildOf}
 use Rattle.measurement.specs.declared.InnerIpFlow.{InnerIpFlow}
 use Rattle.measurement.specs.declared.MeasurementHeader.{MeasurementHeader}
 use Rattle.measurement.specs.declared.Written.{Written}
+use Rattle.measurement_packet.specs.Packet.{buildOf}
 use Rattle.plan.specs.Plan.{judgePlan}
 use Rattle.plan.specs.declared.TrafficPlan.{TrafficPlan}
 
@@ -29,7 +29,11 @@ pub record Generating : Type 0 where
 unfoldable pub placing : List ℕ → ℕ → ℕ → List ℕ → Generating
 placing bytes next after buffer =
     let w : Writing = writing bytes buffer in
-    record { outcome = w .outcome; next = elim (w .outcome) [ refused n ↦ next | gives count ↦ after ]; buffer = w .buffer }
+    record {
+      outcome = w .outcome;
+      next = elim (w .outcome) [ refused n ↦ next | gives count ↦ after ];
+      buffer = w .buffer;
+    }
 
 -- The plan is judged first, "then 15"; a refusal leaves every byte.
 unfoldable pub generateOf : InnerIpFlow → TrafficPlan → ℕ → List ℕ → Generating

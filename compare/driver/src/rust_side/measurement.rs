@@ -71,7 +71,7 @@ impl From<InnerIpFlow> for Flow {
 pub struct Probe {
     pub flow: Flow,
     pub sequence: u64,
-    pub send_time: u64,
+    pub send_timestamp_ns: u64,
 }
 
 /// The Rust pads each part with a zero byte if it is odd: the parts are one list cut in pieces
@@ -81,7 +81,7 @@ pub fn checksum(parts: &[&[u8]]) -> u16 {
 }
 
 pub fn build(probe: Probe) -> Vec<u8> {
-    measurement::build_measurement_tpdu(probe.flow.into(), probe.sequence, probe.send_time)
+    measurement::build_measurement_tpdu(probe.flow.into(), probe.sequence, probe.send_timestamp_ns)
         .expect("a flow, a sequence and a time are always built")
 }
 
@@ -90,7 +90,7 @@ pub fn decode(tpdu: &[u8]) -> Outcome<Probe> {
     Ok(Probe {
         flow: flow.into(),
         sequence: measurement.sequence,
-        send_time: measurement.send_timestamp_ns,
+        send_timestamp_ns: measurement.send_timestamp_ns,
     })
 }
 

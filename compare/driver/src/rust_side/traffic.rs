@@ -55,7 +55,7 @@ pub fn generate(
 #[derive(Debug, Clone, Copy, PartialEq, Eq)]
 pub struct Row {
     pub sequence: u64,
-    pub send_time: u64,
+    pub send_timestamp_ns: u64,
     pub latency: u64,
     pub returned: bool,
 }
@@ -80,7 +80,7 @@ impl Observer {
             sent: sheet
                 .rows
                 .iter()
-                .map(|row| (row.sequence, row.send_time))
+                .map(|row| (row.sequence, row.send_timestamp_ns))
                 .collect(),
             received: returned().map(|row| (row.sequence, row.latency)).collect(),
             duplicate_packets: sheet.duplicates,
@@ -97,11 +97,11 @@ impl Observer {
             state.received.keys().max().copied(),
             "the Rust keeps the highest returned sequence, which a sheet finds in its rows"
         );
-        let row = |(&sequence, &send_time)| {
+        let row = |(&sequence, &send_timestamp_ns)| {
             let latency = state.received.get(&sequence).copied();
             Row {
                 sequence,
-                send_time,
+                send_timestamp_ns,
                 latency: latency.unwrap_or(0),
                 returned: latency.is_some(),
             }
@@ -122,17 +122,20 @@ impl Observer {
         });
     }
 
-    pub fn record_received_tpdu(&mut self, return_time: u64, tpdu: &[u8]) -> Outcome<()> {
-        outcome(self.0.record_received_tpdu(return_time, tpdu))
+    pub fn record_received_tpdu(&mut self, return_timestamp_ns: u64, tpdu: &[u8]) -> Outcome<()> {
+        outcome(self.0.record_received_tpdu(return_timestamp_ns, tpdu))
     }
 
     pub fn record_return_gtpu_datagram(
         &mut self,
-        return_time: u64,
+        return_timestamp_ns: u64,
         message: &Message,
     ) -> Outcome<GtpuReturnDatagramOutcome> {
         let datagram = message.to_datagram();
-        outcome(self.0.record_return_gtpu_datagram(return_time, &datagram))
+        outcome(
+            self.0
+                .record_return_gtpu_datagram(return_timestamp_ns, &datagram),
+        )
     }
 
     pub fn report(

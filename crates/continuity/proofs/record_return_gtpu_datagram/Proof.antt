@@ -46,7 +46,7 @@ returns c =
     let k = step .before .before .before in
     let s = start (k .before) in
     answered MeasurementTpdu (step .record-received-tpdu .result) _ _ _ _ (c .message-of-kind .ensures) (step .record-received-tpdu .ensures)
-    ∙ message-255 (s .args .message-type) (observer s) (s .args .return-timestamp-ns) (s .args .payload .now) (k .match .keys1)
+    ∙ message-255 (s .args .message .«message_type») (observer s) (s .args .return-timestamp-ns) (s .args .payload .now) (k .match .keys1)
 
 same-length-3 : tie.Need-same-length-3
 same-length-3 c = search needs
@@ -60,7 +60,7 @@ returns-2 c =
     let k = step .before .before .before in
     let s = start (k .before) in
     answered ErrorIndication (step .record-elements .result) _ _ _ _ (c .message-of-kind2 .ensures) (step .record-elements .ensures)
-    ∙ message-26 (s .args .message-type) (observer s) (s .args .return-timestamp-ns) (s .args .payload .now) (k .match .keys2)
+    ∙ message-26 (s .args .message .«message_type») (observer s) (s .args .return-timestamp-ns) (s .args .payload .now) (k .match .keys2)
 
 same-length-5 : tie.Need-same-length-5
 same-length-5 c = search needs
@@ -75,7 +75,7 @@ returns-3 c =
     let s = start (k .before) in
     c .leave-unchanged .ensures
     ∙ ap (unchanged (observer s)) (noticing .notice .ensures)
-    ∙ message-other (s .args .message-type) (observer s) (s .args .return-timestamp-ns) (s .args .payload .now) (k .match .rest .0 .1) (k .match .rest .1)
+    ∙ message-other (s .args .message .«message_type») (observer s) (s .args .return-timestamp-ns) (s .args .payload .now) (k .match .rest .0 .1) (k .match .rest .1)
 
 pub record-return-gtpu-datagram-spec : {M : Type 1} → statement M
 record-return-gtpu-datagram-spec =

@@ -1,7 +1,7 @@
 -- `measurement::version_of` meets its contract.
 use mathlib.Core.Path.{sym}
 use borrow.Author.Tests.{eq-eqb, ne-eqb}
-use Rattle.measurement.specs.Packet.{versionNumbered}
+use Rattle.measurement.specs.Flow.{versionNumbered}
 use Rattle.measurement.proofs.version_of.Statement.{statement}
 use Rattle.measurement.proofs.version_of.Tie as tie
 

@@ -3,9 +3,10 @@ use Prim.Native.Nat.{ℕ, _+_}
 use mathlib.Core.Path.{refl, ap, _∙_}
 use mathlib.Core.List.{List, _++_}
 use lib.ListN.{drop}
-use Rattle.measurement.specs.Packet.{ipHeader, ipHeaderLength, addressLength}
+use Rattle.measurement.specs.Flow.{addressLength}
 use Rattle.measurement.specs.declared.InnerIpFlow.{InnerIpFlow}
 use Rattle.measurement.specs.declared.IpVersion.the-variants.{V4}
+use Rattle.measurement_packet.specs.Packet.{ipHeader, ipHeaderLength}
 use Rattle.measurement_build.proofs.Whole.{too-short, ipv4-headed, built}
 use borrow.Author.Needs.{needs}
 use Rattle.measurement_build.proofs.build_ipv4_tpdu.Statement.{statement}

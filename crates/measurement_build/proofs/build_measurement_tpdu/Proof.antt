@@ -6,8 +6,9 @@ use mathlib.Core.List.{List, _++_}
 use native.Mathlib.Omega.{arith}
 use lib.ListN.{drop, length-take, length-drop}
 use Rattle.checksum.specs.Sum.{foldOf}
-use Rattle.measurement.specs.Packet.{ipHeader, ipHeaderLength, addressLength}
+use Rattle.measurement.specs.Flow.{addressLength}
 use Rattle.measurement.specs.declared.IpVersion.the-variants.{V4, V6}
+use Rattle.measurement_packet.specs.Packet.{ipHeader, ipHeaderLength}
 use Rattle.measurement_build.proofs.Whole.{too-short, Headed, ipv4-headed, headed-length, headed-built}
 use borrow.Author.Needs.{needs}
 use Rattle.measurement_build.proofs.build_measurement_tpdu.Statement.{statement}

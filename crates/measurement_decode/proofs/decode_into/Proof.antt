@@ -6,10 +6,10 @@ use native.Mathlib.Omega.{arith}
 use borrow.Author.Needs.{needs}
 use Rattle.error.specs.Outcome.{Outcome, gives}
 use Rattle.field.specs.Field.{bytesAt}
-use Rattle.measurement.specs.Packet.{padded}
-use Rattle.measurement.specs.Read.{tpduOf, ihl, readOf}
+use Rattle.measurement.specs.Flow.{padded}
 use Rattle.measurement.specs.declared.DecodedTpdu.{DecodedTpdu}
 use Rattle.measurement.specs.declared.IpVersion.the-variants.{V4, V6}
+use Rattle.measurement_reading.specs.Read.{tpduOf, ihl, readOf}
 use Rattle.measurement_decode.specs.Numbers.{tpduNumbers, sourceLeft, destinationLeft}
 use Rattle.measurement_decode.proofs.Laws.{refused-by, has-probe, some-bytes, as-ipv4, as-ipv6, ipv4-part, ipv6-part, padded-whole}
 use Rattle.measurement_decode.proofs.decode_into.Statement.{statement}

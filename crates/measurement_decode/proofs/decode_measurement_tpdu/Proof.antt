@@ -1,7 +1,7 @@
 -- `measurement_decode::decode_measurement_tpdu` meets its contract.
 use borrow.Author.Needs.{needs}
-use Rattle.measurement.specs.Read.{readOf}
-use Rattle.measurement.proofs.Accept.{read-by-zero}
+use Rattle.measurement_reading.specs.Read.{readOf}
+use Rattle.measurement_reading.proofs.Accept.{read-by-zero}
 use Rattle.measurement_decode.proofs.Laws.{answered, meant}
 use Rattle.measurement_decode.proofs.decode_measurement_tpdu.Statement.{statement}
 use Rattle.measurement_decode.proofs.decode_measurement_tpdu.Tie as tie

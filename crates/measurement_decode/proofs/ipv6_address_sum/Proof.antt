@@ -2,9 +2,9 @@
 use borrow.Author.Needs.{needs}
 use mathlib.Core.Path.{refl}
 use native.Mathlib.Omega.{arith}
-use Rattle.measurement.specs.Packet.{addressLength, address}
-use Rattle.measurement.proofs.Pseudo.{ipv6-folds}
+use Rattle.measurement.specs.Flow.{addressLength, address}
 use Rattle.measurement.specs.declared.IpVersion.the-variants.{V6}
+use Rattle.measurement.proofs.Pseudo.{ipv6-folds}
 use Rattle.measurement_decode.proofs.ipv6_address_sum.Statement.{statement}
 use Rattle.measurement_decode.proofs.ipv6_address_sum.Tie as tie
 

@@ -1,5 +1,5 @@
 -- `measurement_decode::length_wrong` meets its contract.
-use Rattle.measurement.proofs.Rows.{length-short, length-past}
+use Rattle.measurement_reading.proofs.Rows.{length-short, length-past}
 use borrow.Author.Needs.{needs}
 use Rattle.measurement_decode.proofs.length_wrong.Statement.{statement}
 use Rattle.measurement_decode.proofs.length_wrong.Tie as tie

@@ -1,7 +1,7 @@
 -- `measurement_decode::values` meets its contract.
 use native.Mathlib.Omega.{arith}
 use borrow.Author.Needs.{needs}
-use Rattle.measurement.proofs.Rows.{length-right}
+use Rattle.measurement_reading.proofs.Rows.{length-right}
 use Rattle.measurement_decode.proofs.Laws.{payload-long, values-are}
 use Rattle.measurement_decode.proofs.values.Statement.{statement}
 use Rattle.measurement_decode.proofs.values.Tie as tie

@@ -1,5 +1,5 @@
 -- `reflector_answer::address_length` meets its contract.
-use Rattle.measurement.specs.Packet.{addressLength}
+use Rattle.measurement.specs.Flow.{addressLength}
 use borrow.Author.Needs.{needs}
 use Rattle.reflector_answer.proofs.address_length.Statement.{statement}
 use Rattle.reflector_answer.proofs.address_length.Tie as tie

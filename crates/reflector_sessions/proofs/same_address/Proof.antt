@@ -1,7 +1,7 @@
 -- `reflector_sessions::same_address` meets its contract.
 use mathlib.Core.Path.{refl, sym, ap, _∙_}
 use borrow.Author.Tests.{not-true, not-false}
-use Rattle.measurement.specs.Packet.{addressLength}
+use Rattle.measurement.specs.Flow.{addressLength}
 use Rattle.reflector_sessions.proofs.Same.{version-differs, port-differs, bytes-decide}
 use borrow.Author.Needs.{needs}
 use Rattle.reflector_sessions.proofs.same_address.Statement.{statement}

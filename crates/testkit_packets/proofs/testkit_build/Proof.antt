@@ -2,9 +2,9 @@
 use Prim.Native.Nat.{ℕ}
 use mathlib.Core.Path.{ap, _∙_}
 use mathlib.Core.List.{List}
-use Rattle.measurement.specs.Packet.{buildOf}
 use Rattle.measurement.specs.Answer.{writing}
 use Rattle.measurement.specs.declared.IpVersion.{IpVersion}
+use Rattle.measurement_packet.specs.Packet.{buildOf}
 use Rattle.testkit_packets.proofs.Calls.{numbers, left}
 use borrow.Author.Needs.{needs}
 use Rattle.testkit_packets.proofs.testkit_build.Statement.{statement}

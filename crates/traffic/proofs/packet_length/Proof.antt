@@ -1,8 +1,8 @@
 -- `traffic::packet_length` meets its contract.
 use Prim.Native.Nat.{_+_}
 use mathlib.Core.Path.{sym, ap}
-use Rattle.measurement.specs.Packet.{ipHeaderLength}
 use Rattle.measurement.specs.declared.IpVersion.{IpVersion}
+use Rattle.measurement_packet.specs.Packet.{ipHeaderLength}
 use borrow.Author.Needs.{needs}
 use Rattle.traffic.proofs.packet_length.Statement.{statement}
 use Rattle.traffic.proofs.packet_length.Tie as tie

@@ -4,7 +4,7 @@ use mathlib.Core.Path.{ap₂}
 use mathlib.Core.List.{List, _++_}
 use borrow.Author.Needs.{needs}
 use Rattle.field.proofs.Fields.{shifted-bytes}
-use Rattle.measurement.specs.Packet.{probe, measurementMagic}
+use Rattle.measurement.specs.Probe.{probe, measurementMagic}
 use Rattle.measurement.proofs.MeasurementHeader.encode.Statement.{statement}
 use Rattle.measurement.proofs.MeasurementHeader.encode.Tie as tie
 

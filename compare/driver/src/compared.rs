@@ -1,0 +1,93 @@
+//! Which T-PDUs are compared with the Rust, and as which number each of ours is compared: for the
+//! driver what crates/rust_reference/specs/Compared.antt is for the claims. A change that makes the
+//! readers differ is stated here and there, and nowhere else.
+
+use crate::ours::{Values, Written};
+use crate::ours_reflector::{Handled, Registered};
+use crate::ours_traffic::Noted;
+use crate::part::Part;
+use crate::rust_side::measurement::decode;
+use crate::rust_side::Outcome;
+
+/// `asTheRustTells`: a number of ours, as the Rust tells refusals apart. Each is compared as itself:
+/// no two of ours are one error of the Rust.
+pub fn as_the_rust_tells(number: u8) -> u8 {
+    number
+}
+
+/// `Compared`: whether a T-PDU is compared. Every one is, whatever its bytes and its length. It is
+/// asked where a T-PDU is read: by the reader and the echo, in a return, and in a G-PDU that is echoed.
+pub fn compared(_tpdu: &[u8]) -> bool {
+    true
+}
+
+/// The number by which ours has to refuse a T-PDU that is not compared, where the Rust's reader
+/// answers `rust`, 0 if it reads it. None: nothing is due, and ours is only called.
+///
+/// A change that narrows `compared` says here what can still be checked. For a new cause that is
+/// judged after some others: the Rust's number where it is one of those, else the new one.
+fn due_where_not_compared(_tpdu: &[u8], _rust: u8) -> Option<u8> {
+    None
+}
+
+/// What is due of ours where the Rust answers a T-PDU by this call, if anything is.
+pub fn due<T>(part: &mut Part, tpdu: &[u8], rust: fn(&[u8]) -> Outcome<T>) -> Option<Outcome<T>> {
+    match compared(tpdu) {
+        true => Some(rust(tpdu)),
+        false => leave_out(part, tpdu).map(Err),
+    }
+}
+
+/// Counts a T-PDU that is not compared: the number by which ours has to refuse it, if one is due.
+pub fn leave_out(part: &mut Part, tpdu: &[u8]) -> Option<u8> {
+    part.leave_out();
+    due_where_not_compared(tpdu, decode(tpdu).err().unwrap_or(0))
+}
+
+/// An answer of ours, which has a number.
+pub trait Answer: Sized {
+    fn number(&mut self) -> &mut u8;
+
+    /// `told`: the answer, in the numbers that are compared.
+    fn told(mut self) -> Self {
+        let number = self.number();
+        *number = as_the_rust_tells(*number);
+        self
+    }
+}
+
+impl Answer for u8 {
+    fn number(&mut self) -> &mut u8 {
+        self
+    }
+}
+
+impl Answer for (u8, Values) {
+    fn number(&mut self) -> &mut u8 {
+        &mut self.0
+    }
+}
+
+impl Answer for Written {
+    fn number(&mut self) -> &mut u8 {
+        &mut self.number
+    }
+}
+
+impl Answer for Noted {
+    fn number(&mut self) -> &mut u8 {
+        &mut self.number
+    }
+}
+
+impl Answer for Registered {
+    fn number(&mut self) -> &mut u8 {
+        &mut self.number
+    }
+}
+
+impl Answer for Handled {
+    fn number(&mut self) -> &mut u8 {
+        &mut self.number
+    }
+}

@@ -1,0 +1,124 @@
+-- A built T-PDU is read back.
+use Prim.Native.Nat.{ℕ, _+_, _-_, _%_, _^_, _<_}
+use native.Mathlib.Omega.{arith}
+use mathlib.Core.Path.{_≡_, refl, sym, ap, ap₂, _∙_}
+use mathlib.Core.List.{List, _++_}
+use mathlib.Core.Bool.{false}
+use lib.ListN.{length}
+use Rattle.error.specs.Outcome.{gives}
+use Rattle.error.proofs.Causes.{none, past, passes}
+use Rattle.error.proofs.Tests.{equals}
+use Rattle.field.specs.Field.{bigEndian, valueOf, bytesAt, field}
+use Rattle.field.proofs.Fields.{value-big-endian, length-bytesAt}
+use Rattle.checksum.specs.Sum.{sumOf, foldOf, checksumOf}
+use Rattle.measurement.specs.Flow.{addressLength}
+use Rattle.measurement.specs.Pseudo.{pseudoHeader}
+use Rattle.measurement.specs.Probe.{probe, measurementMagic}
+use Rattle.measurement.specs.declared.DecodedTpdu.{DecodedTpdu}
+use Rattle.measurement.specs.declared.IpVersion.{IpVersion}
+use Rattle.measurement.specs.declared.IpVersion.the-variants.{V4, V6}
+use Rattle.measurement_packet.specs.Packet.{ipv4, ipv4Header, ipv6, ipHeader, udp, udpSegment}
+use Rattle.measurement_reading.specs.Read.{payload, lengthWrong, covered, sumWrong, probeCauses, tpduWith, tpduOf, readProbe, readUdp, ihl, readOf}
+use Rattle.measurement.proofs.Pseudo.{pseudo-even}
+use Rattle.measurement_packet.proofs.Built.{packet, segment-length, segment-verifies, segment-checksum-not-0, ipv4-verifies}
+use Rattle.measurement_reading.proofs.Rows.{udp4-rows, udp4-past-10, udp4-past-12, udp6-rows, udp6-past-11, udp6-past-12, udp6-past-10}
+use Rattle.measurement_reading.proofs.Rows.{ipv4-rows, past-3, past-4, past-5, past-6-ipv4, past-7, rest-ipv4}
+use Rattle.measurement_reading.proofs.Rows.{ipv6-rows, past-8, past-6-ipv6, past-9, rest-ipv6, tpdu-rows, past-1, past-2-ipv4, past-2-ipv6}
+
+-- the UDP length of a built segment
+module _ (ph : List ℕ) (sport dport s t : ℕ) where
+  length-is-right : lengthWrong (udp ph sport dport s t) ≡ false
+  unfolding lengthWrong udp udpSegment probe measurementMagic
+  length-is-right = refl
+
+-- a part that is right goes to the probe
+part-right : (v : IpVersion) (src dst u : List ℕ) → sumWrong v src dst u ≡ false → (field 2 6 u ≡ 0 → ⊥) → lengthWrong u ≡ false → readProbe v src dst u ≡ readUdp v src dst u
+part-right V4 src dst u sum set length = udp4-past-12 src dst u (udp4-past-10 src dst u (udp4-rows src dst u) length) sum
+part-right V6 src dst u sum set length =
+    udp6-past-10 src dst u (udp6-past-12 src dst u (udp6-past-11 src dst u (udp6-rows src dst u) set) sum) length
+
+-- what the segment gives, behind the pseudo-header of its addresses
+module _ (v : IpVersion) (src dst : List ℕ) (sport dport s t : ℕ) (h : length src ≡ addressLength v) (k : length dst ≡ addressLength v) where
+  abbrev ph : List ℕ
+  ph = pseudoHeader v src dst 32
+
+  abbrev u : List ℕ
+  u = udp (pseudoHeader v src dst 32) sport dport s t
+
+  even : length (pseudoHeader v src dst 32) % 2 ≡ 0
+  even = pseudo-even v src dst 32 h k
+
+  probed : gives (tpduOf v src dst u) ≡ readProbe v src dst u
+  unfolding readProbe probeCauses payload udp udpSegment probe measurementMagic
+  probed = passes _ (past refl (past refl none))
+
+  sum-is-right : sumWrong v src dst u ≡ false
+  unfolding sumWrong covered checksumOf
+  sum-is-right =
+      equals (65535 - foldOf (sumOf (pseudoHeader v src dst (length u) ++ u))) 0
+      (ap (λ (n : ℕ). 65535 - foldOf (sumOf (pseudoHeader v src dst n ++ u))) (segment-length ph even sport dport s t)
+      ∙ ap (λ (n : ℕ). 65535 - n) (segment-verifies ph even sport dport s t))
+
+  part-gives : gives (tpduOf v src dst u) ≡ readUdp v src dst u
+  part-gives = probed ∙ part-right v src dst u sum-is-right (segment-checksum-not-0 ph even sport dport s t) (length-is-right ph sport dport s t)
+
+-- a whole T-PDU, from the bytes S and D of its addresses
+module _ (v : IpVersion) (S D : List ℕ) (sport dport s t : ℕ) where
+  abbrev source : List ℕ
+  source = bytesAt (addressLength v) 0 S
+
+  abbrev destination : List ℕ
+  destination = bytesAt (addressLength v) 0 D
+
+  abbrev pseudo : List ℕ
+  pseudo = pseudoHeader v (bytesAt (addressLength v) 0 S) (bytesAt (addressLength v) 0 D) 32
+
+  abbrev pub tpdu : DecodedTpdu
+  tpdu = tpduWith v source destination sport dport s t
+
+  -- the fields of the segment are the numbers that were put there
+  pub tpdu-is : sport < 65536 → dport < 65536 → s < 2 ^ 64 → t < 2 ^ 64 → tpduOf v source destination (udp pseudo sport dport s t) ≡ tpdu
+  unfolding udp udpSegment probe measurementMagic payload
+  tpdu-is hs hd ss st =
+      ap₂ (λ (a b : ℕ). tpduWith v source destination a b (valueOf (bigEndian 8 s)) (valueOf (bigEndian 8 t)))
+      (value-big-endian 2 sport hs) (value-big-endian 2 dport hd)
+      ∙ ap₂ (λ (a b : ℕ). tpduWith v source destination sport dport a b) (value-big-endian 8 s ss) (value-big-endian 8 t st)
+
+  part-of-packet : sport < 65536 → dport < 65536 → s < 2 ^ 64 → t < 2 ^ 64 → gives tpdu ≡ readUdp v source destination (udp pseudo sport dport s t)
+  part-of-packet hs hd ss st =
+      ap gives (sym (tpdu-is hs hd ss st))
+      ∙ part-gives v source destination sport dport s t (length-bytesAt (addressLength v) 0 S) (length-bytesAt (addressLength v) 0 D)
+
+checksum-0 : (l : List ℕ) → foldOf (sumOf l) ≡ 65535 → 0 ≡ checksumOf l
+unfolding checksumOf
+checksum-0 l e = omega arith
+
+-- it is read back, with anything behind it
+module _ (S D : List ℕ) (sport dport s t : ℕ) (hs : sport < 65536) (hd : dport < 65536) (ss : s < 2 ^ 64) (st : t < 2 ^ 64) (behind : List ℕ) where
+  reads-back-4 : readOf (packet V4 S D sport dport s t ++ behind) ≡ gives (tpdu V4 S D sport dport s t)
+  unfolding ipHeader ipv4 ipv4Header udp udpSegment probe measurementMagic addressLength ihl
+  reads-back-4 =
+      let p = packet V4 S D sport dport s t ++ behind in
+      let sum : 0 ≡ checksumOf (ipv4 (bytesAt 4 0 S) (bytesAt 4 0 D)) = checksum-0 (ipv4 (bytesAt 4 0 S) (bytesAt 4 0 D)) (ipv4-verifies S D) in
+      let left-4 = past-3 p (ipv4-rows p) (omega arith) in
+      let left-5 = past-4 p {k = 5} refl left-4 (omega arith) (omega arith) in
+      let left-6 = past-5 p {k = 5} refl {n = 52} refl left-5 (omega arith) (omega arith) in
+      let left-7 = past-6-ipv4 p left-6 refl in
+      let left-0 = past-7 p {k = 5} refl {s = 0} sum left-7 refl in
+      sym (part-of-packet V4 S D sport dport s t hs hd ss st
+      ∙ rest-ipv4 p {k = 5} refl {n = 52} refl left-0
+      ∙ past-2-ipv4 p {v = 4} refl (past-1 p (tpdu-rows p) (λ e. omega arith)) refl)
+
+  reads-back-6 : readOf (packet V6 S D sport dport s t ++ behind) ≡ gives (tpdu V6 S D sport dport s t)
+  unfolding ipHeader ipv6 udp udpSegment probe measurementMagic addressLength
+  reads-back-6 =
+      let p = packet V6 S D sport dport s t ++ behind in
+      let left-9 = past-6-ipv6 p (past-8 p (ipv6-rows p) (omega arith)) refl in
+      let left-0 = past-9 p {n = 32} refl left-9 (omega arith) (omega arith) in
+      sym (part-of-packet V6 S D sport dport s t hs hd ss st
+      ∙ rest-ipv6 p {n = 32} refl left-0
+      ∙ past-2-ipv6 p {v = 6} refl (past-1 p (tpdu-rows p) (λ e. omega arith)) refl)
+
+  pub packet-reads-back : (v : IpVersion) → readOf (packet v S D sport dport s t ++ behind) ≡ gives (tpdu v S D sport dport s t)
+  packet-reads-back V4 = reads-back-4
+  packet-reads-back V6 = reads-back-6

@@ -1,0 +1,3 @@
+-- The echo of a T-PDU, and what is claimed of building, reading and echoing together.
+pub mod Echo
+pub mod Claims

@@ -1,0 +1,25 @@
+// What is proved of building, reading and echoing together (specs/Claims.antt), on the contracts of functions that do
+// nothing. The echo is defined here; the call that echoes is in measurement_echo.
+ghost use Rattle.measurement_damage.specs.Claims.{ReadsBack, EchoIsReversed, EchoOfEcho};
+ghost use Rattle.measurement_damage.specs.Claims.{DamageFound, SentIsRead, LegsChained};
+
+// A built packet reads back to its flow, sequence and time.
+pub fn built_packet_reads_back()
+    ensures { λ _. ⌜ ReadsBack ⌝ }
+{}
+
+// Its echo is the build of the reversed flow, and the echo of its echo is the first packet.
+pub fn echo_is_reversed()
+    ensures { λ _. ⌜ EchoIsReversed × EchoOfEcho ⌝ }
+{}
+
+// Demand 3, first sentence; and a T-PDU of which no bit turned is read as what its leg began with.
+pub fn damage_is_found()
+    ensures { λ _. ⌜ DamageFound × SentIsRead ⌝ }
+{}
+
+// Over any number of echoes, each leg damaged: what arrives is the undamaged T-PDU, echoed as often, with one span
+// turned.
+pub fn legs_are_chained()
+    ensures { λ _. ⌜ LegsChained ⌝ }
+{}

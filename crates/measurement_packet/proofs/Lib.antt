@@ -1,0 +1,3 @@
+-- The laws of a built T-PDU.
+pub mod Built
+pub mod Claims

@@ -1,0 +1,3 @@
+-- The laws of reading.
+pub mod Rows
+pub mod Accept

@@ -1,0 +1,2 @@
+-- Reading a T-PDU.
+pub mod Read
