@@ -1,4 +1,5 @@
-// One probe through the reflector and back: what it sends is damaged as the scenario says, recorded on the run sheet by the proved call, and noted.
+// One probe through the reflector and back: what it sends is damaged as the scenario says, recorded on the run sheet by
+// the proved call, and noted.
 use continuity::GtpuReturnDatagramOutcome;
 use continuity::MessageRecorded;
 use continuity::ReturnRecording;

@@ -1,6 +1,6 @@
-// The reflector's calls, each on a record of the data. A record begins with the table before the call: the used count (1 byte), the maximum
-// (2) and 6 rows of 27 bytes, each both TEIDs and the peer's address; an address is version, 16 bytes and port. Every row is compared
-// afterwards, used or not.
+// The reflector's calls, each on a record of the data. A record begins with the table before the call: the used count
+// (1 byte), the maximum (2) and 6 rows of 27 bytes, each both TEIDs and the peer's address; an address is version, 16
+// bytes and port. Every row is compared afterwards, used or not.
 use reflector_by_value::RegisteredRows;
 use reflector_by_value::RemovedRows;
 use reflector_sessions::LentSocketAddr;
@@ -244,8 +244,8 @@ fn handle_into(s: &[u8], payload: &[u8], room: usize, out: &mut [u8]) -> Testkit
     )
 }
 
-// What the reflector is set up with; its counts; the source; the message's type, TEID and sequence; what is answered; the counts
-// afterwards; the output's length and the output afterwards; and the payload.
+// What the reflector is set up with; its counts; the source; the message's type, TEID and sequence; what is answered;
+// the counts afterwards; the output's length and the output afterwards; and the payload.
 pub fn handle_datagram(number: u8, s: &[u8]) -> bool {
     let length = replay_data::word(s, OUTPUT_LENGTH) as usize;
     let after = replay_data::rest(s, OUTPUT);
