@@ -14,9 +14,9 @@ use Rattle.continuity.specs.Returns.{recordReceivedTpdu, recordElements,
 use Rattle.continuity.specs.Claims.{OfType, KindIsOfType}
 use Rattle.continuity.specs.declared.GtpuReturnDatagramOutcome.{GtpuReturnDatagramOutcome}
 use Rattle.continuity.specs.declared.GtpuReturnDatagramOutcome.the-variants.{MeasurementTpdu, ErrorIndication, EchoResponse, Ignored}
-use Rattle.continuity.proofs.Laws.{kind-is, recordAs, message-is}
+use Rattle.continuity.proofs.Laws.{kind-is, recordAs, message-as}
 
--- what is given behind 21 was given before it
+-- what is given after 21 was given before it
 judged-gives : {A : Type 0} (o : Observer) (x : Outcome A) (y : A) → judged o x ≡ gives y → x ≡ gives y
 judged-gives o x y e = go (wellFormed o) refl
   where
@@ -35,7 +35,7 @@ same-kind : (kind found : GtpuReturnDatagramOutcome) → _≡_ {A = Outcome Gtpu
 same-kind kind found e = cc
 
 module _ (o : Observer) (time t : ℕ) (payload : List ℕ) (found : GtpuReturnDatagramOutcome) where
-  found-kind : (x : Outcome GtpuReturnDatagramOutcome) → recordAs t o time payload x .outcome ≡ gives found → x ≡ gives found
+  found-kind : (x : Outcome GtpuReturnDatagramOutcome) → recordAs t payload o time x .outcome ≡ gives found → x ≡ gives found
   found-kind (refused n) e = judged-gives o (refused n) found e
   found-kind (gives MeasurementTpdu) e = ap gives (given-kind MeasurementTpdu found (recordReceivedTpdu o time payload) e)
   found-kind (gives ErrorIndication) e = ap gives (given-kind ErrorIndication found (recordElements o payload) e)
@@ -45,7 +45,7 @@ module _ (o : Observer) (time t : ℕ) (payload : List ℕ) (found : GtpuReturnD
 pub kind-is-of-type : KindIsOfType
 kind-is-of-type o time t payload kind e =
     let is : messageKind t ≡ gives kind =
-    found-kind o time t payload kind (messageKind t) (ap (λ (s : MessageStep). s .outcome) (sym (message-is t o time payload)) ∙ e) in
+    found-kind o time t payload kind (messageKind t) (ap (λ (s : MessageStep). s .outcome) (sym (message-as t payload o time)) ∙ e) in
     record {
       type = kind-is t kind is .0;
       ignored = λ m f. kind-is t (Ignored m) (is ∙ ap gives f) .1;

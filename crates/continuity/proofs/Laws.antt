@@ -1,4 +1,4 @@
--- What the observer is told of a T-PDU and of elements, the answers by their cases, and a message by its type.
+-- What a T-PDU and elements are to the observer, what was read recorded, and a message by its type.
 use Prim.Native.Nat.{ℕ}
 use native.Mathlib.Omega.{arith}
 use mathlib.Core.Path.{_≡_, refl, sym, ap, _∙_}
@@ -16,19 +16,21 @@ use Rattle.measurement_decode.specs.Numbers.{tpduNumbers}
 use Rattle.measurement_decode.specs.declared.TpduNumbers.{TpduNumbers}
 use Rattle.gtpu.specs.Element.{elementsOf}
 use Rattle.observer.specs.Observer.{Observer}
-use Rattle.observer.specs.Judge.{wellFormed, judged, Step, refusing, afterReading}
+use Rattle.rows.specs.Columns.{Columns}
+use Rattle.observer.specs.Judge.{wellFormed, judged, Step, step, refusing, afterReading}
 use Rattle.observer.specs.Returning.{recordReturn, recordErrorIndication}
-use Rattle.observer.specs.Answer.{recorded}
+use Rattle.observer.specs.Answer.{observerOf, recordingMeans, recorded}
 use Rattle.observer.specs.declared.Recorded.{Recorded}
-use Rattle.observer.specs.declared.Recording.{Recording}
-use Rattle.observer.specs.declared.Recording.the-variants as recording
-use Rattle.observer.proofs.Calls.{judged-malformed, judged-well}
+use Rattle.observer.proofs.Calls.{judged-malformed, judged-well, return-malformed, indication-malformed, refusing-malformed, refusing-well}
 use Rattle.continuity.specs.Kinds.{messageTypeOf, kinds, kindAmong, messageKind}
 use Rattle.continuity.specs.Returns.{sequenceRead, recordReceivedTpdu, recordElements, MessageStep, asMessage, unchanged, recordKind, recordReturnMessage}
-use Rattle.continuity.specs.Answer.{messageRecorded, messageOfKind, answerOfKind, sequenceNumbers}
+use Rattle.continuity.specs.Answer.{messageMeans, messageRecorded, sequenceNumbers}
+use Rattle.continuity.specs.Reading.{tpduReturned, elementsReturned, kindReturned, messageReturned, recordReturned, kindIf}
 use Rattle.continuity.specs.declared.GtpuReturnDatagramOutcome.{GtpuReturnDatagramOutcome}
 use Rattle.continuity.specs.declared.GtpuReturnDatagramOutcome.the-variants.{MeasurementTpdu, ErrorIndication, EchoResponse, Ignored}
 use Rattle.continuity.specs.declared.MessageRecorded.{MessageRecorded}
+use Rattle.continuity.specs.declared.Returned.{Returned}
+use Rattle.continuity.specs.declared.Returned.the-variants as returned
 use Rattle.continuity.specs.declared.SequenceRead.{SequenceRead}
 
 -- ---- a T-PDU
@@ -75,51 +77,67 @@ module _ (p : List ℕ) {r : SequenceRead} (e : r ≡ sequenceNumbers (sequenceR
       go (gives q) f =
           f ∙ ap gives (sym (ap (λ (x : SequenceRead). x .sequence) e ∙ ap (λ (x : Outcome ℕ). sequenceNumbers x .sequence) f))
 
-module _ (o : Observer) (time : ℕ) (p : List ℕ) where
-  pub received-refused : {n : ℕ} → sequenceRead p ≡ refused n → refusing o n ≡ recordReceivedTpdu o time p
+  -- so what it is to the observer
+  pub tpdu-refused : (r .number ≡ 0 → ⊥) → returned.Refused (r .number) ≡ tpduReturned (sequenceRead p)
+  tpdu-refused h = ap tpduReturned (sym (seen-refused h))
+
+  pub tpdu-read : r .number ≡ 0 → returned.Sequence (r .sequence) ≡ tpduReturned (sequenceRead p)
+  tpdu-read z = ap tpduReturned (sym (seen-given z))
+
+-- ---- what was read, recorded
+
+module _ (o : Observer) (time : ℕ) where
+  pub returned-malformed : (x : Returned) → wellFormed o ≡ false → step o (refused malformedObserver) ≡ recordReturned o time x
+  returned-malformed (returned.Sequence q) w = return-malformed o time q w
+  returned-malformed returned.ErrorIndication w = indication-malformed o w
+  returned-malformed returned.Noticed w = ap (step o) (judged-malformed o _ w)
+  returned-malformed (returned.Refused n) w = refusing-malformed o n w
+
+  tpdu-recorded : (x : Outcome ℕ) → recordReturned o time (tpduReturned x) ≡ afterReading o x (recordReturn o time)
+  tpdu-recorded (refused n) = refl
+  tpdu-recorded (gives q) = refl
+
+  pub received-is : (p : List ℕ) → recordReturned o time (tpduReturned (sequenceRead p)) ≡ recordReceivedTpdu o time p
   unfolding recordReceivedTpdu
-  received-refused e = ap (λ (x : Outcome ℕ). afterReading o x (recordReturn o time)) (sym e)
+  received-is p = tpdu-recorded (sequenceRead p)
 
-  pub received-given : {q : ℕ} → sequenceRead p ≡ gives q → recordReturn o time q ≡ recordReceivedTpdu o time p
-  unfolding recordReceivedTpdu
-  received-given e = ap (λ (x : Outcome ℕ). afterReading o x (recordReturn o time)) (sym e)
-
--- ---- elements
-
-module _ (o : Observer) (p : List ℕ) where
-  pub elements-are : (x : Outcome (Unit {0})) → elementsOf p ≡ x → afterReading o x (λ accepted. recordErrorIndication o) ≡ recordElements o p
-  elements-are x e = ap (λ (y : Outcome (Unit {0})). afterReading o y (λ accepted. recordErrorIndication o)) (sym e)
+  elements-recorded : (x : Outcome (Unit {0})) → recordReturned o time (elementsReturned x) ≡ afterReading o x (λ accepted. recordErrorIndication o)
+  elements-recorded (refused n) = refl
+  elements-recorded (gives u) = refl
 
 -- ---- the answers
 
-pub kind-refused : (kind : GtpuReturnDatagramOutcome) (s : Recorded) {n : ℕ} → s .answer ≡ recording.Refused n
-    → record { answer = answerOfKind kind (recording.Refused n); counts = s .counts } ≡ messageOfKind kind s
-kind-refused kind s q = rw q
+-- a step, as the answer to a message of this kind
+abbrev pub withKind : Outcome GtpuReturnDatagramOutcome → Step → MessageStep
+withKind kind s = record { outcome = kindIf (s .outcome) kind; observer = s .observer }
 
-pub kind-accepted : (kind : GtpuReturnDatagramOutcome) (s : Recorded) → s .answer ≡ recording.Accepted
-    → record { answer = answerOfKind kind recording.Accepted; counts = s .counts } ≡ messageOfKind kind s
-kind-accepted kind s q = rw q
+pub answered : (kind : Outcome GtpuReturnDatagramOutcome) (r : MessageRecorded) (s : Recorded) (c : Columns) {x : Step}
+    → (messageMeans (r .answer) ≡ kindIf (recordingMeans (s .answer)) kind) × (r .counts ≡ s .counts) → recorded s c ≡ x
+    → messageRecorded r c ≡ withKind kind x
+answered kind r s c e f = (λ i. record { outcome = e .0 i; observer = observerOf c (e .1 i) }) ∙ ap (withKind kind) f
 
--- an answer of the observer, as the answer to a message
-pub answered : (kind : GtpuReturnDatagramOutcome) (s : Recorded) (qs ts ls ms : List ℕ) {r : MessageRecorded} {step : Step}
-    → r ≡ messageOfKind kind s → recorded s qs ts ls ms ≡ step → messageRecorded r qs ts ls ms ≡ asMessage kind step
-answered kind s qs ts ls ms {r} {step} e f = ap (λ (x : MessageRecorded). messageRecorded x qs ts ls ms) e ∙ go (s .answer) refl ∙ ap (asMessage kind) f
+as-message : (kind : GtpuReturnDatagramOutcome) (s : Step) → withKind (gives kind) s ≡ asMessage kind s
+as-message kind s = ap (λ (x : Outcome GtpuReturnDatagramOutcome). record { outcome = x; observer = s .observer }) (go (s .outcome))
   where
-    go : (a : Recording) → s .answer ≡ a → messageRecorded (messageOfKind kind s) qs ts ls ms ≡ asMessage kind (recorded s qs ts ls ms)
-    go recording.Accepted p = rw p
-    go (recording.Refused n) p = rw p
+    go : (x : Outcome (Unit {0})) → kindIf x (gives kind) ≡ elim x as (λ (y : Outcome (Unit {0})). Outcome GtpuReturnDatagramOutcome) [ refused n ↦ refused n | gives u ↦ gives kind ]
+    go (refused n) = refl
+    go (gives u) = refl
 
--- ---- a message that changes nothing
+-- a message that changes nothing
+module _ (o : Observer) where
+  noticed : (kind : GtpuReturnDatagramOutcome) → withKind (gives kind) (step o (judged o (gives o))) ≡ unchanged o (gives kind)
+  noticed kind = go (wellFormed o) refl
+    where
+      go : (b : Bool) → wellFormed o ≡ b → withKind (gives kind) (step o (judged o (gives o))) ≡ unchanged o (gives kind)
+      go true w = rw (← judged-well o (gives o) w, ← judged-well o (gives kind) w)
+      go false w = rw (← judged-malformed o (gives o) w, ← judged-malformed o (gives kind) w)
 
-module _ (o : Observer) (x : Outcome GtpuReturnDatagramOutcome) where
-  judges : (y : Outcome GtpuReturnDatagramOutcome) → y ≡ judged o x → record { outcome = y; observer = o } ≡ unchanged o x
-  judges y e = rw e
-
-  pub unchanged-malformed : wellFormed o ≡ false → record { outcome = refused malformedObserver; observer = o } ≡ unchanged o x
-  unchanged-malformed w = judges _ (judged-malformed o x w)
-
-  pub unchanged-well : wellFormed o ≡ true → record { outcome = x; observer = o } ≡ unchanged o x
-  unchanged-well w = judges _ (judged-well o x w)
+  not-noticed : (n : ℕ) → withKind (refused n) (refusing o n) ≡ unchanged o (refused n)
+  not-noticed n = go (wellFormed o) refl
+    where
+      go : (b : Bool) → wellFormed o ≡ b → withKind (refused n) (refusing o n) ≡ unchanged o (refused n)
+      go true w = ap (withKind (refused n)) (sym (refusing-well o n w)) ∙ ap (λ (x : Outcome GtpuReturnDatagramOutcome). record { outcome = x; observer = o }) (judged-well o (refused n) w)
+      go false w = ap (withKind (refused n)) (sym (refusing-malformed o n w)) ∙ ap (λ (x : Outcome GtpuReturnDatagramOutcome). record { outcome = x; observer = o }) (judged-malformed o (refused n) w)
 
 -- ---- a message by its type
 
@@ -176,16 +194,16 @@ abbrev from-26 : List GtpuReturnDatagramOutcome
 from-26 = ErrorIndication ∷ from-2
 
 module _ (t : ℕ) where
-  pub kind-255 : t ≡ 255 → messageKind t ≡ gives MeasurementTpdu
+  pub kind-255 : t ≡ 255 → gives MeasurementTpdu ≡ messageKind t
   unfolding messageKind
-  kind-255 h = first MeasurementTpdu from-26 t h
+  kind-255 h = sym (first MeasurementTpdu from-26 t h)
 
   not-255 : (t ≡ 255 → ⊥) → messageKind t ≡ kindAmong from-26 t
   unfolding messageKind
   not-255 h = other MeasurementTpdu from-26 t h
 
-  pub kind-26 : t ≡ 26 → messageKind t ≡ gives ErrorIndication
-  kind-26 h = not-255 (λ k. omega arith) ∙ first ErrorIndication from-2 t h
+  pub kind-26 : t ≡ 26 → gives ErrorIndication ≡ messageKind t
+  kind-26 h = sym (not-255 (λ k. omega arith) ∙ first ErrorIndication from-2 t h)
 
   not-26 : (t ≡ 255 → ⊥) → (t ≡ 26 → ⊥) → messageKind t ≡ kindAmong from-2 t
   not-26 h k = not-255 h ∙ other ErrorIndication from-2 t k
@@ -208,26 +226,48 @@ module _ (t : ℕ) where
   kind-other a b c d =
       sym (not-2 a b c ∙ other (Ignored 254) from-31 t (λ e. d (inr e)) ∙ other (Ignored 31) [] t (λ e. d (inl e)))
 
-  module _ (o : Observer) (time : ℕ) (payload : List ℕ) where
+-- what is read of a message
+module _ (t : ℕ) (payload : List ℕ) where
+  abbrev returnedAs : Outcome GtpuReturnDatagramOutcome → Returned
+  returnedAs x = elim x [ refused n ↦ returned.Refused n | gives kind ↦ kindReturned payload kind ]
+
+  pub returned-as : (x : Outcome GtpuReturnDatagramOutcome) → x ≡ messageKind t → returnedAs x ≡ messageReturned t payload
+  unfolding messageReturned
+  returned-as x e = ap returnedAs e
+
+  -- recorded and answered it is the call
+  module _ (o : Observer) (time : ℕ) where
     abbrev pub recordAs : Outcome GtpuReturnDatagramOutcome → MessageStep
     recordAs x = elim x [ refused n ↦ unchanged o (refused n) | gives kind ↦ recordKind o time payload kind ]
 
-    pub message-is : recordReturnMessage o time t payload ≡ recordAs (messageKind t)
+    pub message-as : recordReturnMessage o time t payload ≡ recordAs (messageKind t)
     unfolding recordReturnMessage
-    message-is = refl
+    message-as = refl
 
-    pub message-255 : t ≡ 255 → asMessage MeasurementTpdu (recordReceivedTpdu o time payload) ≡ recordReturnMessage o time t payload
-    message-255 h = sym (message-is ∙ ap recordAs (kind-255 h))
-
-    pub message-26 : t ≡ 26 → asMessage ErrorIndication (recordElements o payload) ≡ recordReturnMessage o time t payload
-    message-26 h = sym (message-is ∙ ap recordAs (kind-26 h))
-
-    pub message-other : (t ≡ 255 → ⊥) → (t ≡ 26 → ⊥) → unchanged o (messageKind t) ≡ recordReturnMessage o time t payload
-    message-other h k = go (messageKind t) refl ∙ sym message-is
+    pub message-is : withKind (messageKind t) (recordReturned o time (messageReturned t payload)) ≡ recordReturnMessage o time t payload
+    message-is = ap (λ (x : Returned). withKind (messageKind t) (recordReturned o time x)) (sym (returned-as (messageKind t) refl)) ∙ go (messageKind t) ∙ sym message-as
       where
-        go : (x : Outcome GtpuReturnDatagramOutcome) → messageKind t ≡ x → unchanged o x ≡ recordAs x
-        go (refused n) e = refl
-        go (gives MeasurementTpdu) e = absurd (h (sym (kind-is t MeasurementTpdu e .0)))
-        go (gives ErrorIndication) e = absurd (k (sym (kind-is t ErrorIndication e .0)))
-        go (gives EchoResponse) e = refl
-        go (gives (Ignored m)) e = refl
+        go : (x : Outcome GtpuReturnDatagramOutcome) → withKind x (recordReturned o time (returnedAs x)) ≡ recordAs x
+        go (refused n) = not-noticed o n
+        go (gives MeasurementTpdu) = ap (withKind (gives MeasurementTpdu)) (received-is o time payload) ∙ as-message MeasurementTpdu (recordReceivedTpdu o time payload)
+        go (gives ErrorIndication) = ap (withKind (gives ErrorIndication)) (elements-recorded o time (elementsOf payload)) ∙ as-message ErrorIndication (recordElements o payload)
+        go (gives EchoResponse) = noticed o EchoResponse
+        go (gives (Ignored m)) = noticed o (Ignored m)
+
+-- a message by its type
+module _ (t : ℕ) (o : Observer) (time : ℕ) (payload : List ℕ) where
+  pub message-255 : t ≡ 255 → asMessage MeasurementTpdu (recordReceivedTpdu o time payload) ≡ recordReturnMessage o time t payload
+  message-255 h = sym (message-as t payload o time ∙ ap (recordAs t payload o time) (sym (kind-255 t h)))
+
+  pub message-26 : t ≡ 26 → asMessage ErrorIndication (recordElements o payload) ≡ recordReturnMessage o time t payload
+  message-26 h = sym (message-as t payload o time ∙ ap (recordAs t payload o time) (sym (kind-26 t h)))
+
+  pub message-other : (t ≡ 255 → ⊥) → (t ≡ 26 → ⊥) → unchanged o (messageKind t) ≡ recordReturnMessage o time t payload
+  message-other h k = go (messageKind t) refl ∙ sym (message-as t payload o time)
+    where
+      go : (x : Outcome GtpuReturnDatagramOutcome) → messageKind t ≡ x → unchanged o x ≡ recordAs t payload o time x
+      go (refused n) e = refl
+      go (gives MeasurementTpdu) e = absurd (h (sym (kind-is t MeasurementTpdu e .0)))
+      go (gives ErrorIndication) e = absurd (k (sym (kind-is t ErrorIndication e .0)))
+      go (gives EchoResponse) e = refl
+      go (gives (Ignored m)) e = refl

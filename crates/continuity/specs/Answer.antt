@@ -1,12 +1,11 @@
 -- The code's answers in these terms: what each case means.
 use Prim.Native.Nat.{ℕ}
-use mathlib.Core.List.{List}
+use mathlib.Core.Path.{_≡_}
 use Rattle.error.specs.Outcome.{Outcome, refused, gives}
-use Rattle.rows.specs.Columns.{Column}
-use Rattle.observer.specs.Answer.{observerOf, left}
-use Rattle.observer.specs.declared.Recorded.{Recorded}
-use Rattle.observer.specs.declared.Recording.{Recording}
-use Rattle.observer.specs.declared.Recording.the-variants as recording
+use Rattle.rows.specs.Columns.{Columns, Sheet}
+use Rattle.observer.specs.Observer.{Observer}
+use Rattle.observer.specs.Answer.{observerOf, lent}
+use Rattle.observer.specs.declared.ObserverCounts.{ObserverCounts}
 use Rattle.continuity.specs.Returns.{MessageStep}
 use Rattle.continuity.specs.declared.GtpuReturnDatagramOutcome.{GtpuReturnDatagramOutcome}
 use Rattle.continuity.specs.declared.MessageRecorded.{MessageRecorded}
@@ -20,20 +19,12 @@ messageMeans (message.Accepted kind) = gives kind
 messageMeans (message.Refused n) = refused n
 
 -- What a message was answered, and the columns as the call left them.
-abbrev pub messageRecorded : MessageRecorded → List ℕ → List ℕ → List ℕ → List ℕ → MessageStep
-messageRecorded r qs ts ls ms = record { outcome = messageMeans (r .answer); observer = observerOf qs ts ls ms (r .counts) }
+abbrev pub messageRecorded : MessageRecorded → Columns → MessageStep
+messageRecorded r columns = record { outcome = messageMeans (r .answer); observer = observerOf columns (r .counts) }
 
--- In a contract: what a message is answered, and the observer that the call leaves.
-abbrev pub messageLeaves : MessageRecorded → Column → Column → Column → Column → MessageStep
-messageLeaves r qs ts ls ms = record { outcome = messageMeans (r .answer); observer = left qs ts ls ms (r .counts) }
-
--- The observer's answer, as the answer to a message of this kind.
-abbrev pub answerOfKind : GtpuReturnDatagramOutcome → Recording → ReturnRecording
-answerOfKind kind recording.Accepted = message.Accepted kind
-answerOfKind kind (recording.Refused n) = message.Refused n
-
-abbrev pub messageOfKind : GtpuReturnDatagramOutcome → Recorded → MessageRecorded
-messageOfKind kind r = record { answer = answerOfKind kind (r .answer); counts = r .counts }
+-- In a contract: `records` of the observer's calls, for a message.
+abbrev pub recordsMessage : Sheet → ObserverCounts → MessageRecorded → (Observer → MessageStep) → Type 0
+recordsMessage s c r definition = messageRecorded r (s .exit) ≡ definition (lent s c)
 
 -- What a T-PDU reads as, in two numbers: its sequence beside 0, or 0 beside the number of the reader's refusal.
 abbrev pub sequenceNumbers : Outcome ℕ → SequenceRead

@@ -2,4 +2,5 @@
 pub mod Kinds
 pub mod Returns
 pub mod Answer
+pub mod Reading
 pub mod Claims

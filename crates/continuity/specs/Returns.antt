@@ -1,5 +1,5 @@
--- The observer's two return calls (document 01, leaf 6; the Rust's `record_received_tpdu` and `record_return_gtpu_datagram`, the second after
--- its header is parsed).
+-- The observer's two return calls (document 01, leaf 6; the Rust's `record_received_tpdu` and
+-- `record_return_gtpu_datagram`, the second after its header is parsed).
 use Prim.Native.Nat.{ℕ}
 use mathlib.Core.List.{List}
 use Rattle.error.specs.Outcome.{Outcome, refused, gives}
@@ -12,7 +12,7 @@ use Rattle.continuity.specs.Kinds.{messageKind}
 use Rattle.continuity.specs.declared.GtpuReturnDatagramOutcome.{GtpuReturnDatagramOutcome}
 use Rattle.continuity.specs.declared.GtpuReturnDatagramOutcome.the-variants.{MeasurementTpdu, ErrorIndication, EchoResponse, Ignored}
 
--- What the observer is told of a T-PDU: the sequence, or the reader's refusal. Its flow and send time are not compared with anything.
+-- What a T-PDU is to the observer: a sequence, or the reader's refusal. Its flow and send time are not used.
 unfoldable pub sequenceRead : List ℕ → Outcome ℕ
 sequenceRead tpdu = elim (readOf tpdu) [ refused n ↦ refused n | gives t ↦ gives (t .measurement .sequence) ]
 
@@ -31,7 +31,8 @@ pub record MessageStep : Type 0 where
 
 -- A step of the observer, as a message of this kind.
 abbrev pub asMessage : GtpuReturnDatagramOutcome → Step → MessageStep
-asMessage kind s = record { outcome = elim (s .outcome) [ refused n ↦ refused n | gives u ↦ gives kind ]; observer = s .observer }
+asMessage kind s =
+    record { outcome = elim (s .outcome) [ refused n ↦ refused n | gives u ↦ gives kind ]; observer = s .observer }
 
 -- A message that changes nothing: only 21 is judged before its outcome.
 abbrev pub unchanged : Observer → Outcome GtpuReturnDatagramOutcome → MessageStep

@@ -1,18 +1,20 @@
-// The observer's two return calls (leaf 6; the Rust's traffic.rs): a T-PDU that came back, and a parsed GTP-U message. What each makes of
-// an observer is defined in specs/Returns.antt, and its contract is that one equation: answer, counts and every column at exit, on
-// refusals too.
+// The observer's two return calls (leaf 6; the Rust's traffic.rs): a T-PDU that came back, and a parsed GTP-U message.
+// What each makes of an observer is defined in specs/Returns.antt, and its contract is that one equation: answer,
+// counts and every column at exit, on refusals too. What came back is read first, by value; then `record_returned`
+// judges 21 and records it.
 use gtpu::ElementsChecked;
 use gtpu::GtpuMessage;
 use observer::ObserverCounts;
 use observer::Recorded;
 use observer::Recording;
 ghost use mathlib.Core.Path.{_≡_};
-ghost use Rattle.gtpu.specs.Message.{gtpuMsgErrorIndication, gtpuMsgGpdu};
-ghost use Rattle.observer.specs.Judge.{refusing};
-ghost use Rattle.observer.specs.Answer.{leaves, lent};
+ghost use Rattle.gtpu.specs.Element.{elementsOf};
+ghost use Rattle.rows.specs.Columns.{sheet};
+ghost use Rattle.observer.specs.Answer.{recordingMeans, records};
 ghost use Rattle.continuity.specs.Kinds.{messageKind};
-ghost use Rattle.continuity.specs.Returns.{sequenceRead, recordReceivedTpdu, recordElements, unchanged, recordReturnMessage};
-ghost use Rattle.continuity.specs.Answer.{messageMeans, messageOfKind, sequenceNumbers, messageLeaves};
+ghost use Rattle.continuity.specs.Returns.{sequenceRead, recordReceivedTpdu, recordReturnMessage};
+ghost use Rattle.continuity.specs.Answer.{messageMeans, sequenceNumbers, recordsMessage};
+ghost use Rattle.continuity.specs.Reading.{tpduReturned, elementsReturned, messageReturned, recordReturned, kindIf};
 ghost use Rattle.continuity.specs.Claims.{KindIsOfType};
 
 // What a returned message was.
@@ -53,123 +55,48 @@ pub fn read_sequence(tpdu: &[u8]) -> SequenceRead
     }
 }
 
-// A T-PDU or a list of elements that is refused by this number: 21 comes first.
-fn refuse(
-    sequences: &[u64],
-    send_timestamps: &[u64],
-    latencies: &[u64],
-    marks: &[u8],
-    counts: ObserverCounts,
-    number: u8,
-) -> Recorded
-    ensures { λ r. ⌜ leaves r sequences «send_timestamps» latencies marks
-        ≡ refusing (lent sequences «send_timestamps» latencies marks counts) number ⌝ }
-{
-    if !observer::well_formed(sequences, send_timestamps, latencies, marks, counts) {
-        return Recorded {
-            answer: Recording::Refused(error::MALFORMED_OBSERVER),
-            counts: counts,
-        };
-    }
-    Recorded {
-        answer: Recording::Refused(number),
-        counts: counts,
-    }
+// What came back, as it was read: reading changes nothing, and 21 is judged after it.
+enum Returned {
+    // A T-PDU of this sequence.
+    Sequence(u64),
+    // An Error Indication whose elements were accepted.
+    ErrorIndication,
+    // A message that is noted or ignored.
+    Noticed,
+    // What was refused by this number.
+    Refused(u8),
 }
 
-// Records a T-PDU that came back. It is read first, which changes nothing; the observer judges 21 before the reader's refusal, and is told the
-// sequence where there is none. Refuses by 21, 1 to 14, 23, 24.
-pub fn record_received_tpdu(
-    sequences: &[u64],
-    send_timestamps: &[u64],
-    latencies: &mut [u64],
-    marks: &mut [u8],
-    counts: ObserverCounts,
-    return_timestamp_ns: u64,
-    tpdu: &[u8],
-) -> Recorded
-    ensures { λ r. ⌜ leaves r sequences «send_timestamps» latencies marks
-        ≡ recordReceivedTpdu (lent sequences «send_timestamps» latencies marks counts)
-        «return_timestamp_ns» (now (tpdu .entry)) ⌝ }
+fn read_tpdu(tpdu: &[u8]) -> Returned
+    ensures { λ r. ⌜ r ≡ tpduReturned (sequenceRead (now (tpdu .entry))) ⌝ }
 {
     let read = read_sequence(tpdu);
     if read.number != 0 {
-        return refuse(
-            sequences,
-            send_timestamps,
-            latencies,
-            marks,
-            counts,
-            read.number,
-        );
+        return Returned::Refused(read.number);
     }
-    observer::record_return(
-        sequences,
-        send_timestamps,
-        latencies,
-        marks,
-        counts,
-        return_timestamp_ns,
-        read.sequence,
-    )
+    Returned::Sequence(read.sequence)
 }
 
-// Records an Error Indication with these elements, which are walked first. Refuses by 21, 25 to 29.
-fn record_elements(
-    sequences: &[u64],
-    send_timestamps: &[u64],
-    latencies: &[u64],
-    marks: &[u8],
-    counts: ObserverCounts,
-    elements: &[u8],
-) -> Recorded
-    ensures { λ r. ⌜ leaves r sequences «send_timestamps» latencies marks
-        ≡ recordElements (lent sequences «send_timestamps» latencies marks counts)
-        (now (elements .entry)) ⌝ }
+fn read_elements(elements: &[u8]) -> Returned
+    ensures { λ r. ⌜ r ≡ elementsReturned (elementsOf (now (elements .entry))) ⌝ }
 {
     match gtpu::validate_error_indication_ies(elements) {
-        ElementsChecked::Refused(number) => refuse(
-            sequences,
-            send_timestamps,
-            latencies,
-            marks,
-            counts,
-            number,
-        ),
-        ElementsChecked::Accepted => observer::record_error_indication(
-            sequences,
-            send_timestamps,
-            latencies,
-            marks,
-            counts,
-        ),
+        ElementsChecked::Refused(number) => Returned::Refused(number),
+        ElementsChecked::Accepted => Returned::ErrorIndication,
     }
 }
 
-// The observer's answer, as the answer to a message of this kind.
-fn message_of_kind(kind: GtpuReturnDatagramOutcome, step: Recorded) -> MessageRecorded
-    ensures { λ r. ⌜ r ≡ messageOfKind kind step ⌝ }
-{
-    let answer = step.answer;
-    let counts = step.counts;
-    match answer {
-        Recording::Refused(number) => MessageRecorded {
-            answer: ReturnRecording::Refused(number),
-            counts: counts,
-        },
-        Recording::Accepted => MessageRecorded {
-            answer: ReturnRecording::Accepted(kind),
-            counts: counts,
-        },
-    }
-}
-
-// The answer to a message of another type than 255 and 26, behind 21.
-fn notice(message_type: u8) -> ReturnRecording
-    requires { ⌜ («message_type» ≡ gtpuMsgGpdu → ⊥) × («message_type» ≡ gtpuMsgErrorIndication → ⊥) ⌝ }
+// What a message is by its type, or 37.
+fn message_kind(message_type: u8) -> ReturnRecording
     ensures { λ r. ⌜ messageMeans r ≡ messageKind «message_type» ⌝ }
 {
     match message_type {
+        gtpu::GTPU_MSG_GPDU => ReturnRecording::Accepted(
+            GtpuReturnDatagramOutcome::MeasurementTpdu,
+        ),
+        gtpu::GTPU_MSG_ERROR_INDICATION => ReturnRecording::Accepted(
+            GtpuReturnDatagramOutcome::ErrorIndication,
+        ),
         gtpu::GTPU_MSG_ECHO_RESPONSE => ReturnRecording::Accepted(
             GtpuReturnDatagramOutcome::EchoResponse,
         ),
@@ -179,34 +106,109 @@ fn notice(message_type: u8) -> ReturnRecording
     }
 }
 
-// A message that changes nothing: 21, then this answer.
-fn leave_unchanged(
-    sequences: &[u64],
-    send_timestamps: &[u64],
-    latencies: &[u64],
-    marks: &[u8],
-    counts: ObserverCounts,
-    answer: ReturnRecording,
-) -> MessageRecorded
-    ensures { λ r. ⌜ messageLeaves r sequences «send_timestamps» latencies marks
-        ≡ unchanged (lent sequences «send_timestamps» latencies marks counts)
-        (messageMeans answer) ⌝ }
+fn read_message(message_type: u8, payload: &[u8]) -> Returned
+    ensures { λ r. ⌜ r ≡ messageReturned «message_type» (now (payload .entry)) ⌝ }
 {
-    if !observer::well_formed(sequences, send_timestamps, latencies, marks, counts) {
-        return MessageRecorded {
-            answer: ReturnRecording::Refused(error::MALFORMED_OBSERVER),
-            counts: counts,
-        };
-    }
-    MessageRecorded {
-        answer: answer,
-        counts: counts,
+    match message_kind(message_type) {
+        ReturnRecording::Refused(number) => Returned::Refused(number),
+        ReturnRecording::Accepted(kind) => match kind {
+            GtpuReturnDatagramOutcome::MeasurementTpdu => read_tpdu(payload),
+            GtpuReturnDatagramOutcome::ErrorIndication => read_elements(payload),
+            GtpuReturnDatagramOutcome::EchoResponse => Returned::Noticed,
+            GtpuReturnDatagramOutcome::Ignored(_) => Returned::Noticed,
+        },
     }
 }
 
-// Records a GTP-U message that came back, after its header is parsed. The observer looks at its type alone, not at its
-// TEID or sequence. Refuses by 21; 255 then as `record_received_tpdu` does, 26 as the walk over its elements does, and
-// unknown types by 37.
+// Records what came back at this time: 21, then what was read.
+fn record_returned(
+    sequences: &[u64],
+    send_timestamps: &[u64],
+    latencies: &mut [u64],
+    marks: &mut [u8],
+    counts: ObserverCounts,
+    return_timestamp_ns: u64,
+    returned: Returned,
+) -> Recorded
+    ensures { λ r. ⌜ records (sheet sequences «send_timestamps» latencies marks) counts r
+        (λ o. recordReturned o «return_timestamp_ns» returned) ⌝ }
+{
+    if !observer::well_formed(sequences, send_timestamps, latencies, marks, counts) {
+        return Recorded {
+            answer: Recording::Refused(error::MALFORMED_OBSERVER),
+            counts: counts,
+        };
+    }
+    match returned {
+        Returned::Sequence(sequence) => counts.returned(rows::arrive(
+            sequences,
+            send_timestamps,
+            latencies,
+            marks,
+            counts.used,
+            return_timestamp_ns,
+            sequence,
+        )),
+        Returned::ErrorIndication => counts.error_indicated(),
+        Returned::Noticed => Recorded {
+            answer: Recording::Accepted,
+            counts: counts,
+        },
+        Returned::Refused(number) => Recorded {
+            answer: Recording::Refused(number),
+            counts: counts,
+        },
+    }
+}
+
+// Records a T-PDU that came back. It is read first, which changes nothing. 21 is judged before a refusal of the reader;
+// if there is none, the sequence is recorded. Refuses by 21, 1 to 14, 23, 24.
+pub fn record_received_tpdu(
+    sequences: &[u64],
+    send_timestamps: &[u64],
+    latencies: &mut [u64],
+    marks: &mut [u8],
+    counts: ObserverCounts,
+    return_timestamp_ns: u64,
+    tpdu: &[u8],
+) -> Recorded
+    ensures { λ r. ⌜ records (sheet sequences «send_timestamps» latencies marks) counts r
+        (λ o. recordReceivedTpdu o «return_timestamp_ns» (now (tpdu .entry))) ⌝ }
+{
+    let returned = read_tpdu(tpdu);
+    record_returned(
+        sequences,
+        send_timestamps,
+        latencies,
+        marks,
+        counts,
+        return_timestamp_ns,
+        returned,
+    )
+}
+
+// The answer to a message of this type, by what it was recorded as.
+fn message_answer(message_type: u8, recorded: Recorded) -> MessageRecorded
+    ensures { λ r. ⌜ (messageMeans (r .answer)
+        ≡ kindIf (recordingMeans (recorded .answer)) (messageKind «message_type»))
+        × (r .counts ≡ recorded .counts) ⌝ }
+{
+    let answer = recorded.answer;
+    let counts = recorded.counts;
+    match answer {
+        Recording::Refused(number) => MessageRecorded {
+            answer: ReturnRecording::Refused(number),
+            counts: counts,
+        },
+        Recording::Accepted => MessageRecorded {
+            answer: message_kind(message_type),
+            counts: counts,
+        },
+    }
+}
+
+// Records a parsed GTP-U message that came back. Its TEID and sequence are not used. Refuses by 21; 255 then as
+// `record_received_tpdu` does, 26 as the walk over its elements does, and unknown types by 37.
 pub fn record_return_gtpu_datagram(
     sequences: &[u64],
     send_timestamps: &[u64],
@@ -217,44 +219,21 @@ pub fn record_return_gtpu_datagram(
     message: GtpuMessage,
     payload: &[u8],
 ) -> MessageRecorded
-    ensures { λ r. ⌜ messageLeaves r sequences «send_timestamps» latencies marks
-        ≡ recordReturnMessage (lent sequences «send_timestamps» latencies marks counts)
-        «return_timestamp_ns» (message .«message_type») (now (payload .entry)) ⌝ }
+    ensures { λ r. ⌜ recordsMessage (sheet sequences «send_timestamps» latencies marks) counts r
+        (λ o. recordReturnMessage o «return_timestamp_ns» (message .«message_type») (now (payload .entry))) ⌝ }
 {
     let message_type = message.message_type;
-    match message_type {
-        gtpu::GTPU_MSG_GPDU => {
-            let step = record_received_tpdu(
-                sequences,
-                send_timestamps,
-                latencies,
-                marks,
-                counts,
-                return_timestamp_ns,
-                payload,
-            );
-            message_of_kind(GtpuReturnDatagramOutcome::MeasurementTpdu, step)
-        }
-        gtpu::GTPU_MSG_ERROR_INDICATION => {
-            let step = record_elements(
-                sequences,
-                send_timestamps,
-                latencies,
-                marks,
-                counts,
-                payload,
-            );
-            message_of_kind(GtpuReturnDatagramOutcome::ErrorIndication, step)
-        }
-        _ => leave_unchanged(
-            sequences,
-            send_timestamps,
-            latencies,
-            marks,
-            counts,
-            notice(message_type),
-        ),
-    }
+    let returned = read_message(message_type, payload);
+    let recorded = record_returned(
+        sequences,
+        send_timestamps,
+        latencies,
+        marks,
+        counts,
+        return_timestamp_ns,
+        returned,
+    );
+    message_answer(message_type, recorded)
 }
 
 // Carries the claim that an accepted message is of a kind that has its type.

@@ -13,17 +13,17 @@ use Rattle.error.specs.Outcome.{gives}
 use Rattle.columns.specs.Columns.{anyMarked}
 use Rattle.columns.specs.Place.{place, holds, found}
 use Rattle.columns.proofs.Search.{both-right, found-place}
-use Rattle.rows.specs.Columns.{columnLengths, capacityOf, Left, left}
-use Rattle.rows.specs.Arriving.{arriving}
+use Rattle.rows.specs.Columns.{Columns, columnLengths, capacityOf, Left}
+use Rattle.rows.specs.Arriving.{returnedAt, arriving}
 use Rattle.rows.specs.declared.Arrival.{Arrival}
 use Rattle.rows.proofs.Within.{held-used}
 use Rattle.rows.proofs.Ways.{arrives-unknown, arrives-early, arrives-again, arrives-late, arrives-in-order}
 use Rattle.observer.specs.Counts.{withUsed, outOfOrderIf}
-use Rattle.observer.specs.Observer.{Row, Observer, columnsIn, capacity, rows, rowAt, withRows, withCounts, sequencesOf}
+use Rattle.observer.specs.Observer.{Row, Observer, capacity, rows, rowAt, withRows, withCounts, sequencesOf}
 use Rattle.observer.specs.Judge.{wellFormed, Step, step}
 use Rattle.observer.specs.Place.{wasSent, rowOf, highestMarked, markedAbove}
 use Rattle.observer.specs.Returning.{returned, recordReturn}
-use Rattle.observer.specs.Answer.{afterArrival, recorded}
+use Rattle.observer.specs.Answer.{observerOf, afterArrival, recorded}
 use Rattle.observer.specs.declared.ObserverCounts.{ObserverCounts}
 use Rattle.observer.specs.declared.Recorded.{Recorded}
 use Rattle.observer.proofs.Rows.{entry-is, column-set, column-same}
@@ -34,28 +34,21 @@ use Rattle.observer.proofs.Calls.{return-unknown, return-early, return-
 -- row k returns: its latency and its mark are stored
 returned-columns : {o : Observer} (w : Well o) (k t : ℕ) (c : ObserverCounts) → c .used ≡ o .counts .used → k < o .counts .used
     → withRows (set (rows o) k (returned t (rowAt k (rows o)))) (withCounts c o)
-    ≡ record {
-      sequences = o .sequences;
-      sendTimes = o .sendTimes;
-      latencies = set (o .latencies) k (t - getD (o .sendTimes) k 0);
-      marks = set (o .marks) k 1;
-      counts = c;
-    }
+    ≡ observerOf (returnedAt k t (o .columns)) c
 unfolding withRows
 returned-columns {o} w k t c e h =
     let r : Row = returned t (rowAt k (rows o)) in
     let f = w .fronts in
-    let sent : rowAt k (rows o) .sent ≡ getD (o .sendTimes) k 0 = entry-is (λ r. r .sent) (rows o) (o .counts .used) (o .sendTimes) (f .sendTimes) (f .count) k h in
+    let sent : rowAt k (rows o) .«send_timestamp_ns» ≡ getD (o .columns .«send_timestamps») k 0 = entry-is (λ r. r .«send_timestamp_ns») (rows o) (o .counts .used) (o .columns .«send_timestamps») (f .«send_timestamps») (f .count) k h in
     λ i.
-    record {
-      sequences = column-same (λ r. r .sequence) (rows o) (o .sequences) (f .count) (f .sequences) k r refl i;
-      sendTimes = column-same (λ r. r .sent) (rows o) (o .sendTimes) (f .count) (f .sendTimes) k r refl i;
+    observerOf (record {
+      sequences = column-same (λ r. r .sequence) (rows o) (o .columns .sequences) (f .count) (f .sequences) k r refl i;
+      «send_timestamps» = column-same (λ r. r .«send_timestamp_ns») (rows o) (o .columns .«send_timestamps») (f .count) (f .«send_timestamps») k r refl i;
       latencies =
-          (column-set (λ r. r .latency) (rows o) (o .latencies) (f .count) (f .latencies) k r h
-          ∙ ap (λ (s : ℕ). set (o .latencies) k (t - s)) sent) i;
-      marks = column-set (λ r. r .mark) (rows o) (o .marks) (f .count) (f .marks) k r h i;
-      counts = withUsed ((length-set (rows o) k r ∙ f .count ∙ sym e) i) c;
-    }
+          (column-set (λ r. r .latency) (rows o) (o .columns .latencies) (f .count) (f .latencies) k r h
+          ∙ ap (λ (s : ℕ). set (o .columns .latencies) k (t - s)) sent) i;
+      marks = column-set (λ r. r .mark) (rows o) (o .columns .marks) (f .count) (f .marks) k r h i;
+    }) (withUsed ((length-set (rows o) k r ∙ f .count ∙ sym e) i) c)
 
 used-kept : (late : Bool) (c : ObserverCounts) → outOfOrderIf late c .used ≡ c .used
 used-kept true c = refl
@@ -63,7 +56,7 @@ used-kept false c = refl
 
 -- what an arrival is answered by, and the columns as it leaves them
 abbrev pub arrivalStep : ObserverCounts → Left Arrival → Step
-arrivalStep c a = recorded (afterArrival c (a .answer)) (a .columns .sequences) (a .columns .sendTimes) (a .columns .latencies) (a .columns .marks)
+arrivalStep c a = recorded (afterArrival c (a .answer)) (a .columns)
 
 module _ {o : Observer} (w : Well o) (q t : ℕ) where
   abbrev n : ℕ
@@ -71,23 +64,23 @@ module _ {o : Observer} (w : Well o) (q t : ℕ) where
 
   -- where the search ends
   abbrev k : ℕ
-  k = found q (take n (o .sequences))
+  k = found q (take n (o .columns .sequences))
 
-  at : k ≡ place q (take n (o .sequences))
-  at = found-place q (take n (o .sequences)) (w .rises)
+  at : k ≡ place q (take n (o .columns .sequences))
+  at = found-place q (take n (o .columns .sequences)) (w .rises)
 
-  fits : n ≤ capacityOf (columnLengths (columnsIn o))
+  fits : n ≤ capacityOf (columnLengths (o .columns))
   unfolding capacity
   fits = w .fits
 
-  unknown : holds q k (take n (o .sequences)) ≡ false → arrivalStep (o .counts) (arriving n t q (columnsIn o)) ≡ recordReturn o t q
+  unknown : holds q k (take n (o .columns .sequences)) ≡ false → arrivalStep (o .counts) (arriving n t q (o .columns)) ≡ recordReturn o t q
   unknown e =
-      ap (arrivalStep (o .counts)) (sym (arrives-unknown n t q (columnsIn o) fits k refl e))
+      ap (arrivalStep (o .counts)) (sym (arrives-unknown n t q (o .columns) fits k refl e))
       ∙ return-unknown o (w .accepted) q t (held-is w q k at ∙ e)
 
-  module _ (h : holds q k (take n (o .sequences)) ≡ true) where
+  module _ (h : holds q k (take n (o .columns .sequences)) ≡ true) where
     below : k < n
-    below = held-used q k n (o .sequences) h
+    below = held-used q k n (o .columns .sequences) h
 
     known : wasSent q (rows o) ≡ true
     known = held-is w q k at ∙ h
@@ -95,53 +88,44 @@ module _ {o : Observer} (w : Well o) (q t : ℕ) where
     row-is : rowOf q (rows o) ≡ rowAt k (rows o)
     row-is = ap (λ (i : ℕ). rowAt i (rows o)) (place-is w q k at)
 
-    sent-is : rowOf q (rows o) .sent ≡ getD (o .sendTimes) k 0
+    sent-is : rowOf q (rows o) .«send_timestamp_ns» ≡ getD (o .columns .«send_timestamps») k 0
     sent-is =
-        ap (λ (r : Row). r .sent) row-is
-        ∙ entry-is (λ r. r .sent) (rows o) (o .counts .used) (o .sendTimes) (w .fronts .sendTimes) (w .fronts .count) k below
+        ap (λ (r : Row). r .«send_timestamp_ns») row-is
+        ∙ entry-is (λ r. r .«send_timestamp_ns») (rows o) (o .counts .used) (o .columns .«send_timestamps») (w .fronts .«send_timestamps») (w .fronts .count) k below
 
-    mark-is : rowOf q (rows o) .mark ≡ getD (o .marks) k 0
+    mark-is : rowOf q (rows o) .mark ≡ getD (o .columns .marks) k 0
     mark-is =
         ap (λ (r : Row). r .mark) row-is
-        ∙ entry-is (λ r. r .mark) (rows o) (o .counts .used) (o .marks) (w .fronts .marks) (w .fronts .count) k below
+        ∙ entry-is (λ r. r .mark) (rows o) (o .counts .used) (o .columns .marks) (w .fronts .marks) (w .fronts .count) k below
 
     sequence-is : q ≡ getD (sequencesOf (rows o)) k 0
     unfolding holds
     sequence-is =
-        sym (eqb-true (getD (take (o .counts .used) (o .sequences)) k 0) q (both-right (ltb k (length (take (o .counts .used) (o .sequences)))) _ h))
+        sym (eqb-true (getD (take (o .counts .used) (o .columns .sequences)) k 0) q (both-right (ltb k (length (take (o .counts .used) (o .columns .sequences)))) _ h))
         ∙ ap (λ (l : List ℕ). getD l k 0) (sym (w .fronts .sequences))
 
-    late-is : ltb q (highestMarked (rows o)) ≡ anyMarked (drop (k + 1) (take (o .counts .used) (o .marks)))
+    late-is : ltb q (highestMarked (rows o)) ≡ anyMarked (drop (k + 1) (take (o .counts .used) (o .columns .marks)))
     late-is =
         below-highest q (rows o)
         ∙ ap (λ (x : ℕ). markedAbove x (rows o)) sequence-is
         ∙ above-behind (rows o) k (rw (w .fronts .sequences) (w .rises)) (omega (arith, w .fronts .count, below))
         ∙ ap (λ (l : List ℕ). anyMarked (drop (suc k) l)) (w .fronts .marks)
-        ∙ ap (λ (i : ℕ). anyMarked (drop i (take (o .counts .used) (o .marks)))) (sym (add-one k))
+        ∙ ap (λ (i : ℕ). anyMarked (drop i (take (o .counts .used) (o .columns .marks)))) (sym (add-one k))
 
-    early : t < getD (o .sendTimes) k 0 → arrivalStep (o .counts) (arriving n t q (columnsIn o)) ≡ recordReturn o t q
+    early : t < getD (o .columns .«send_timestamps») k 0 → arrivalStep (o .counts) (arriving n t q (o .columns)) ≡ recordReturn o t q
     early g =
-        ap (arrivalStep (o .counts)) (sym (arrives-early n t q (columnsIn o) fits k refl h g))
+        ap (arrivalStep (o .counts)) (sym (arrives-early n t q (o .columns) fits k refl h g))
         ∙ return-early o (w .accepted) q t known (omega (arith, sent-is))
 
-    module _ (g : getD (o .sendTimes) k 0 ≤ t) where
-      duplicate : eqb (getD (o .marks) k 0) 1 ≡ true → arrivalStep (o .counts) (arriving n t q (columnsIn o)) ≡ recordReturn o t q
+    module _ (g : getD (o .columns .«send_timestamps») k 0 ≤ t) where
+      duplicate : eqb (getD (o .columns .marks) k 0) 1 ≡ true → arrivalStep (o .counts) (arriving n t q (o .columns)) ≡ recordReturn o t q
       duplicate m =
-          ap (arrivalStep (o .counts)) (sym (arrives-again n t q (columnsIn o) fits k refl h g m))
+          ap (arrivalStep (o .counts)) (sym (arrives-again n t q (o .columns) fits k refl h g m))
           ∙ return-duplicate o (w .accepted) q t known (omega (arith, sent-is)) (mark-is ∙ eqb-true _ 1 m)
 
       -- the row as it then is, and the counts by whether some row behind it is marked
-      first : eqb (getD (o .marks) k 0) 1 ≡ false → (late : Bool) → anyMarked (drop (k + 1) (take n (o .marks))) ≡ late
-          → step o
-          (gives
-          (record {
-            sequences = o .sequences;
-            sendTimes = o .sendTimes;
-            latencies = set (o .latencies) k (t - getD (o .sendTimes) k 0);
-            marks = set (o .marks) k 1;
-            counts = outOfOrderIf late (o .counts);
-          }))
-          ≡ recordReturn o t q
+      first : eqb (getD (o .columns .marks) k 0) 1 ≡ false → (late : Bool) → anyMarked (drop (k + 1) (take n (o .columns .marks))) ≡ late
+          → step o (gives (observerOf (returnedAt k t (o .columns)) (outOfOrderIf late (o .counts)))) ≡ recordReturn o t q
       first m late l =
           let row : ℕ → ObserverCounts → Observer = λ i x. withRows (set (rows o) i (returned t (rowAt i (rows o)))) (withCounts x o) in
           ap (λ (x : Observer). step o (gives x))
@@ -150,23 +134,23 @@ module _ {o : Observer} (w : Well o) (q t : ℕ) where
           ∙ ap (λ (i : ℕ). row i (outOfOrderIf (ltb q (highestMarked (rows o))) (o .counts))) (sym (place-is w q k at)))
           ∙ return-first o (w .accepted) q t known (omega (arith, sent-is)) (λ x. eqb-false _ 1 m (sym mark-is ∙ x))
 
-      first-is : eqb (getD (o .marks) k 0) 1 ≡ false → (late : Bool) → anyMarked (drop (k + 1) (take n (o .marks))) ≡ late
-          → arrivalStep (o .counts) (arriving n t q (columnsIn o)) ≡ recordReturn o t q
-      first-is m true l = ap (arrivalStep (o .counts)) (sym (arrives-late n t q (columnsIn o) fits k refl h g m l)) ∙ first m true l
-      first-is m false l = ap (arrivalStep (o .counts)) (sym (arrives-in-order n t q (columnsIn o) fits k refl h g m l)) ∙ first m false l
+      first-is : eqb (getD (o .columns .marks) k 0) 1 ≡ false → (late : Bool) → anyMarked (drop (k + 1) (take n (o .columns .marks))) ≡ late
+          → arrivalStep (o .counts) (arriving n t q (o .columns)) ≡ recordReturn o t q
+      first-is m true l = ap (arrivalStep (o .counts)) (sym (arrives-late n t q (o .columns) fits k refl h g m l)) ∙ first m true l
+      first-is m false l = ap (arrivalStep (o .counts)) (sym (arrives-in-order n t q (o .columns) fits k refl h g m l)) ∙ first m false l
 
-  pub arrival-is-return : arrivalStep (o .counts) (arriving n t q (columnsIn o)) ≡ recordReturn o t q
-  arrival-is-return = go (holds q k (take n (o .sequences))) (ltb t (getD (o .sendTimes) k 0)) (eqb (getD (o .marks) k 0) 1) refl refl refl
+  pub arrival-is-return : arrivalStep (o .counts) (arriving n t q (o .columns)) ≡ recordReturn o t q
+  arrival-is-return = go (holds q k (take n (o .columns .sequences))) (ltb t (getD (o .columns .«send_timestamps») k 0)) (eqb (getD (o .columns .marks) k 0) 1) refl refl refl
     where
-      go : (has reversed marked : Bool) → holds q k (take n (o .sequences)) ≡ has → ltb t (getD (o .sendTimes) k 0) ≡ reversed
-          → eqb (getD (o .marks) k 0) 1 ≡ marked → arrivalStep (o .counts) (arriving n t q (columnsIn o)) ≡ recordReturn o t q
+      go : (has reversed marked : Bool) → holds q k (take n (o .columns .sequences)) ≡ has → ltb t (getD (o .columns .«send_timestamps») k 0) ≡ reversed
+          → eqb (getD (o .columns .marks) k 0) 1 ≡ marked → arrivalStep (o .counts) (arriving n t q (o .columns)) ≡ recordReturn o t q
       go false reversed marked e f m = unknown e
       go true true marked e f m = early e (ltb-true _ _ f)
       go true false true e f m = duplicate e (ltb-false _ _ f) m
       go true false false e f m = first-is e (ltb-false _ _ f) m _ refl
 
 -- the code's call, and its answer
-pub arrived-is : (o : Observer) (t q : ℕ) (a : Arrival) (r : Recorded) (qs ts ls ms : List ℕ) → wellFormed o ≡ true
-    → left a qs ts ls ms ≡ arriving (o .counts .used) t q (columnsIn o) → r ≡ afterArrival (o .counts) a → recorded r qs ts ls ms ≡ recordReturn o t q
-arrived-is o t q a r qs ts ls ms w x y =
-    ap (λ (z : Recorded). recorded z qs ts ls ms) y ∙ ap (arrivalStep (o .counts)) x ∙ arrival-is-return (well o w) q t
+pub return-is : (o : Observer) (t q : ℕ) (a : Arrival) (r : Recorded) (c : Columns) → wellFormed o ≡ true
+    → record { answer = a; columns = c } ≡ arriving (o .counts .used) t q (o .columns) → r ≡ afterArrival (o .counts) a → recorded r c ≡ recordReturn o t q
+return-is o t q a r c w x y =
+    ap (λ (z : Recorded). recorded z c) y ∙ ap (arrivalStep (o .counts)) x ∙ arrival-is-return (well o w) q t

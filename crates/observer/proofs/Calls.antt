@@ -14,7 +14,7 @@ use Rattle.observer.specs.Observer.{Observer, capacity, rows, sentRow, w
 use Rattle.observer.specs.Judge.{wellFormed, judged, step, refusing}
 use Rattle.observer.specs.Place.{placeOf, wasSent, rowOf, highestMarked}
 use Rattle.observer.specs.Sending.{resent, entered, sendingCauses, recordSent}
-use Rattle.observer.specs.Returning.{returned, arrivalCauses, arrived, arrival, recordReturn, recordErrorIndication}
+use Rattle.observer.specs.Returning.{returned, returnCauses, afterReturn, recordReturn, recordErrorIndication}
 use Rattle.observer.proofs.Rows.{putIn}
 
 -- ---- 21
@@ -39,7 +39,7 @@ pub indication-malformed : (o : Observer) → wellFormed o ≡ false → step o 
 unfolding recordErrorIndication
 indication-malformed o e = ap (step o) (judged-malformed o _ e)
 
--- a refusal behind 21
+-- a refusal after 21
 pub refusing-malformed : (o : Observer) (n : ℕ) → wellFormed o ≡ false → step o (refused malformedObserver) ≡ refusing o n
 refusing-malformed o n e = ap (step o) (judged-malformed o _ e)
 
@@ -89,23 +89,23 @@ module _ (o : Observer) (w : wellFormed o ≡ true) (q t : ℕ) where
 -- ---- a return
 
 module _ (o : Observer) (w : wellFormed o ≡ true) (q t : ℕ) where
-  arrives : (x : Outcome Observer) → x ≡ arrival o q t → step o x ≡ recordReturn o t q
+  arrives : (x : Outcome Observer) → x ≡ firstCause (returnCauses o q t) (gives (afterReturn o q t)) → step o x ≡ recordReturn o t q
   unfolding recordReturn
   arrives x e = ap (step o) (e ∙ judged-well o _ w)
 
   -- the sequence is not on the sheet
   pub return-unknown : wasSent q (rows o) ≡ false → step o (refused sequenceWasNotSent) ≡ recordReturn o t q
-  unfolding arrival arrivalCauses
+  unfolding returnCauses
   return-unknown e = arrives _ (refuses _ (here (ap not e)))
 
   -- it is
   module _ (s : wasSent q (rows o) ≡ true) where
-    pub return-early : t < rowOf q (rows o) .sent → step o (refused timestampReversed) ≡ recordReturn o t q
-    unfolding arrival arrivalCauses
+    pub return-early : t < rowOf q (rows o) .«send_timestamp_ns» → step o (refused timestampReversed) ≡ recordReturn o t q
+    unfolding returnCauses
     return-early h = arrives _ (refuses _ (later (ap not s) (here (lt-ltb _ _ h))))
 
-    abbrev arrivedIf : Bool → Observer
-    arrivedIf marked =
+    abbrev returnedIf : Bool → Observer
+    returnedIf marked =
         elim marked [
           | true ↦ withCounts (oneDuplicate (o .counts)) o
           | false ↦
@@ -113,20 +113,20 @@ module _ (o : Observer) (w : wellFormed o ≡ true) (q t : ℕ) where
               (withCounts (outOfOrderIf (ltb q (highestMarked (rows o))) (o .counts)) o)
         ]
 
-    taken : (marked : Bool) → rowOf q (rows o) .sent ≤ t → eqb (rowOf q (rows o) .mark) 1 ≡ marked
-        → step o (gives (arrivedIf marked)) ≡ recordReturn o t q
-    unfolding arrival arrivalCauses arrived
+    taken : (marked : Bool) → rowOf q (rows o) .«send_timestamp_ns» ≤ t → eqb (rowOf q (rows o) .mark) 1 ≡ marked
+        → step o (gives (returnedIf marked)) ≡ recordReturn o t q
+    unfolding returnCauses afterReturn
     taken marked h e =
         arrives _
-        (ap (λ (x : Observer). gives x) (sym (ap arrivedIf e)) ∙ passes _ (past (ap not s) (past (le-ltb _ _ h) none)))
+        (ap (λ (x : Observer). gives x) (sym (ap returnedIf e)) ∙ passes _ (past (ap not s) (past (le-ltb _ _ h) none)))
 
     -- its row is marked
-    pub return-duplicate : rowOf q (rows o) .sent ≤ t → rowOf q (rows o) .mark ≡ 1
+    pub return-duplicate : rowOf q (rows o) .«send_timestamp_ns» ≤ t → rowOf q (rows o) .mark ≡ 1
         → step o (gives (withCounts (oneDuplicate (o .counts)) o)) ≡ recordReturn o t q
     return-duplicate h m = taken true h (eq-eqb _ _ m)
 
     -- it is not, and is now
-    pub return-first : rowOf q (rows o) .sent ≤ t → (rowOf q (rows o) .mark ≡ 1 → ⊥)
+    pub return-first : rowOf q (rows o) .«send_timestamp_ns» ≤ t → (rowOf q (rows o) .mark ≡ 1 → ⊥)
         → step o
         (gives
         (withRows (set (rows o) (placeOf q (rows o)) (returned t (rowOf q (rows o))))

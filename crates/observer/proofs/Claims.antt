@@ -8,7 +8,7 @@ use lib.Dec.{eqb, ltb}
 use lib.ListN.{length, getD, set, length-set, length-map}
 use borrow.Author.Tests.{eqb-true, eqb-false, eq-eqb, lt-ltb, le-leb, ltb-true, ltb-false}
 use Rattle.error.proofs.Tests.{and-both}
-use Rattle.observer.specs.Counts.{fresh, withUsed, oneDuplicate, outOfOrderIf, oneErrorIndication}
+use Rattle.observer.specs.Counts.{withUsed, oneDuplicate, outOfOrderIf, oneErrorIndication}
 use Rattle.observer.specs.Observer.{Row, Observer, capacity, rows, sequencesOf}
 use Rattle.columns.specs.Columns.{rising}
 use Rattle.observer.specs.Judge.{wellFormed, Step}
@@ -16,9 +16,11 @@ use Rattle.columns.specs.Place.{holds}
 use Rattle.observer.specs.Place.{placeOf, wasSent, rowOf, highestMarked}
 use Rattle.observer.specs.Sending.{resent, recordSent}
 use Rattle.observer.specs.Returning.{returned, recordReturn}
-use Rattle.observer.specs.Answer.{observerOf}
+use Rattle.observer.specs.declared.ObserverCounts.{ObserverCounts}
 use Rattle.observer.specs.Claims.{PutBack, FreshIsWell, Call, sending, returning, indicating, recordCall, CallsKeepWell, SearchFinds, FullOnlyWhenFull, FullAtRow2049, SentAgain, BelowHighestMarked}
 use Rattle.columns.proofs.Search.{both-right, rising-at, place-at, held-within}
+use Rattle.rows.specs.Columns.{columnLengths}
+use Rattle.rows.proofs.Within.{holds-2048}
 use Rattle.observer.proofs.Rows.{rows-are, rows-with, counts-with, field-at}
 use Rattle.observer.proofs.OutOfOrder.{below-highest}
 use Rattle.observer.proofs.Calls.{sent-again, sent-full, sent-new, return-unknown, return-early, return-duplicate, return-first, indication-counted}
@@ -28,8 +30,10 @@ pub put-back : PutBack
 put-back = rows-with
 
 pub fresh-is-well : FreshIsWell
-unfolding wellFormed rows
-fresh-is-well qs ts ls ms = and-both _ _ (le-leb 0 (capacity (observerOf qs ts ls ms fresh)) (omega arith)) refl
+unfolding wellFormed rows capacity
+fresh-is-well o e =
+    let none : o .counts .used ≡ 0 = ap (λ (c : ObserverCounts). c .used) e in
+    rw none (and-both _ _ (le-leb 0 (capacity o) (omega arith)) refl)
 
 pub below-highest-marked : BelowHighestMarked
 below-highest-marked = below-highest
@@ -59,9 +63,9 @@ module _ (o : Observer) (w : wellFormed o ≡ true) where
       go false false e f = kept (sent-new o w q t e (eqb-false _ _ f)) (put-well o q t rows-well-at count (eqb-false _ _ f) e)
 
   keeps-arrival : (q t : ℕ) → wellFormed (recordReturn o t q .observer) ≡ true
-  keeps-arrival q t = go (wasSent q (rows o)) (ltb t (rowOf q (rows o) .sent)) (eqb (rowOf q (rows o) .mark) 1) refl refl refl
+  keeps-arrival q t = go (wasSent q (rows o)) (ltb t (rowOf q (rows o) .«send_timestamp_ns»)) (eqb (rowOf q (rows o) .mark) 1) refl refl refl
     where
-      go : (known early marked : Bool) → wasSent q (rows o) ≡ known → ltb t (rowOf q (rows o) .sent) ≡ early → eqb (rowOf q (rows o) .mark) 1 ≡ marked
+      go : (known early marked : Bool) → wasSent q (rows o) ≡ known → ltb t (rowOf q (rows o) .«send_timestamp_ns») ≡ early → eqb (rowOf q (rows o) .mark) 1 ≡ marked
           → wellFormed (recordReturn o t q .observer) ≡ true
       go false early marked e f g = kept (return-unknown o w q t e) w
       go true true marked e f g = kept (return-early o w q t e (ltb-true _ _ f)) w
@@ -123,9 +127,9 @@ full-only-when-full o q t w e =
 
 pub full-at-row-2049 : FullAtRow2049
 unfolding capacity
-full-at-row-2049 o q t w e a b c d =
+full-at-row-2049 o q t w e long =
     let n = full-only-when-full o q t w e in
-    let most : capacity o ≡ 2048 = omega arith in
+    let most : capacity o ≡ 2048 = holds-2048 (columnLengths (o .columns)) long in
     record { up-to-2048 = λ h. n .room (λ f. omega arith); not-2049 = λ h. n .full (h ∙ sym most) }
 
 pub sent-again-time : SentAgain

@@ -7,28 +7,30 @@ use native.Mathlib.Omega.{arith}
 use lib.ListN.{length, getD, set, take, drop, take-append-drop, length-set, length-take, length-map, length-append, length-drop}
 use lib.Seq.{set-append-left, map-set-same, take-take, take-append-seam, getD-take, slice}
 use Rattle.observer.specs.Counts.{withUsed}
-use Rattle.observer.specs.Observer.{Row, Observer, columnsIn, capacity, rowsOf, rows, sentRow, rowAt, column, withRows}
+use Rattle.observer.specs.Observer.{Row, Observer, capacity, rowsOf, rows, sentRow, rowAt, column, withRows}
 use Rattle.columns.specs.Columns.{inserted}
+use Rattle.rows.specs.Columns.{Columns, columnsOf}
 use Rattle.columns.proofs.Insertion.{inserted-is}
 use Rattle.rows.proofs.Within.{Within, within}
 
 -- every column has this many entries
-pub room-for : (n : ℕ) (o : Observer) → n ≤ capacity o → Within n (columnsIn o)
+pub room-for : (n : ℕ) (o : Observer) → n ≤ capacity o → Within n (o .columns)
 unfolding capacity
-room-for n o h = within n (columnsIn o) h
+room-for n o h = within n (o .columns) h
 
 -- ---- the used rows
 
 -- each field of the rows is the front of its column
-pub record Fronts (n : ℕ) (rs : List Row) (a b c d : List ℕ) : Type 0 where
+pub record Fronts (n : ℕ) (rs : List Row) (c : Columns) : Type 0 where
   pub count : length rs ≡ n
-  pub sequences : map (λ r. r .sequence) rs ≡ take n a
-  pub sendTimes : map (λ r. r .sent) rs ≡ take n b
-  pub latencies : map (λ r. r .latency) rs ≡ take n c
-  pub marks : map (λ r. r .mark) rs ≡ take n d
+  pub sequences : map (λ r. r .sequence) rs ≡ take n (c .sequences)
+  pub «send_timestamps» : map (λ r. r .«send_timestamp_ns») rs ≡ take n (c .«send_timestamps»)
+  pub latencies : map (λ r. r .latency) rs ≡ take n (c .latencies)
+  pub marks : map (λ r. r .mark) rs ≡ take n (c .marks)
 
-fronts : (n : ℕ) (a b c d : List ℕ) → n ≤ length a → n ≤ length b → n ≤ length c → n ≤ length d → Fronts n (take n (rowsOf a b c d)) a b c d
-fronts zero a b c d h i j k = record { count = refl; sequences = refl; sendTimes = refl; latencies = refl; marks = refl }
+fronts : (n : ℕ) (a b c d : List ℕ) → n ≤ length a → n ≤ length b → n ≤ length c → n ≤ length d
+    → Fronts n (take n (rowsOf (columnsOf a b c d))) (columnsOf a b c d)
+fronts zero a b c d h i j k = record { count = refl; sequences = refl; «send_timestamps» = refl; latencies = refl; marks = refl }
 fronts (suc n) [] b c d h i j k = absurd (not-suc-le-zero h)
 fronts (suc n) (q ∷ a) [] c d h i j k = absurd (not-suc-le-zero i)
 fronts (suc n) (q ∷ a) (t ∷ b) [] d h i j k = absurd (not-suc-le-zero j)
@@ -38,17 +40,17 @@ fronts (suc n) (q ∷ a) (t ∷ b) (l ∷ c) (m ∷ d) h i j k =
     record {
       count = ap suc (f .count);
       sequences = ap (λ (x : List ℕ). q ∷ x) (f .sequences);
-      sendTimes = ap (λ (x : List ℕ). t ∷ x) (f .sendTimes);
+      «send_timestamps» = ap (λ (x : List ℕ). t ∷ x) (f .«send_timestamps»);
       latencies = ap (λ (x : List ℕ). l ∷ x) (f .latencies);
       marks = ap (λ (x : List ℕ). m ∷ x) (f .marks);
     }
 
 pub rows-are : (o : Observer) → o .counts .used ≤ capacity o
-    → Fronts (o .counts .used) (rows o) (o .sequences) (o .sendTimes) (o .latencies) (o .marks)
+    → Fronts (o .counts .used) (rows o) (o .columns)
 unfolding rows
 rows-are o fits =
     let w = room-for (o .counts .used) o fits in
-    fronts (o .counts .used) (o .sequences) (o .sendTimes) (o .latencies) (o .marks) (w .sequences) (w .sendTimes) (w .latencies) (w .marks)
+    fronts (o .counts .used) (o .columns .sequences) (o .columns .«send_timestamps») (o .columns .latencies) (o .columns .marks) (w .sequences) (w .«send_timestamps») (w .latencies) (w .marks)
 
 pub field-at : (field : Row → ℕ) (rs : List Row) (k : ℕ) → k < length rs → getD (map field rs) k 0 ≡ field (rowAt k rs)
 field-at field [] k h = absurd (omega arith)
@@ -64,8 +66,8 @@ entry-is field rs n old e l k h =
 -- ---- rows put back
 
 rowsOf-front : (rs : List Row) (a b c d : List ℕ)
-    → rowsOf (map (λ r. r .sequence) rs ++ a) (map (λ r. r .sent) rs ++ b) (map (λ r. r .latency) rs ++ c) (map (λ r. r .mark) rs ++ d)
-    ≡ rs ++ rowsOf a b c d
+    → rowsOf (columnsOf (map (λ r. r .sequence) rs ++ a) (map (λ r. r .«send_timestamp_ns») rs ++ b) (map (λ r. r .latency) rs ++ c) (map (λ r. r .mark) rs ++ d))
+    ≡ rs ++ rowsOf (columnsOf a b c d)
 rowsOf-front [] a b c d = refl
 rowsOf-front (r ∷ rs) a b c d = ap (λ (l : List Row). r ∷ l) (rowsOf-front rs a b c d)
 
@@ -74,7 +76,7 @@ pub rows-with : (rs : List Row) (o : Observer) → rows (withRows rs o) ≡ rs
 unfolding rows withRows
 rows-with rs o =
     ap (take (length rs))
-    (rowsOf-front rs (drop (length rs) (o .sequences)) (drop (length rs) (o .sendTimes)) (drop (length rs) (o .latencies)) (drop (length rs) (o .marks)))
+    (rowsOf-front rs (drop (length rs) (o .columns .sequences)) (drop (length rs) (o .columns .«send_timestamps»)) (drop (length rs) (o .columns .latencies)) (drop (length rs) (o .columns .marks)))
     ∙ take-append-seam rs _
 
 pub counts-with : (rs : List Row) (o : Observer) → withRows rs o .counts ≡ withUsed (length rs) (o .counts)
@@ -97,10 +99,10 @@ unfolding withRows capacity
 capacity-with rs o h =
     let w = room-for (length rs) o h in
     rw (
-      length-column (λ r. r .sequence) rs (o .sequences) (w .sequences),
-      length-column (λ r. r .sent) rs (o .sendTimes) (w .sendTimes),
-      length-column (λ r. r .latency) rs (o .latencies) (w .latencies),
-      length-column (λ r. r .mark) rs (o .marks) (w .marks),
+      length-column (λ r. r .sequence) rs (o .columns .sequences) (w .sequences),
+      length-column (λ r. r .«send_timestamp_ns») rs (o .columns .«send_timestamps») (w .«send_timestamps»),
+      length-column (λ r. r .latency) rs (o .columns .latencies) (w .latencies),
+      length-column (λ r. r .mark) rs (o .columns .marks) (w .marks),
     )
 
 -- ---- column by column

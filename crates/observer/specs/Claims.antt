@@ -7,6 +7,7 @@ use lib.Dec.{ltb}
 use lib.ListN.{length, set, take, drop}
 use Rattle.error.specs.Number.{observerFull}
 use Rattle.error.specs.Outcome.{refused, gives}
+use Rattle.rows.specs.Columns.{columnLengths, EachHas}
 use Rattle.observer.specs.Counts.{fresh}
 use Rattle.observer.specs.Observer.{Row, Observer, capacity, rows, rowAt, sentRow, withRows}
 use Rattle.observer.specs.Judge.{wellFormed, Step}
@@ -14,15 +15,14 @@ use Rattle.observer.specs.Place.{placeOf, wasSent, rowOf, highestMarked,
 use Rattle.observer.specs.Sending.{resent, recordSent}
 use Rattle.observer.specs.Returning.{recordReturn, recordErrorIndication}
 use Rattle.observer.specs.InTurn.{inTurn}
-use Rattle.observer.specs.Answer.{observerOf}
 
 -- The rows that are put back are the used rows, whatever the columns held and however long they are.
 abbrev pub PutBack : Type 0
 PutBack = (rs : List Row) (o : Observer) → rows (withRows rs o) ≡ rs
 
--- Counts of 0 make a well-formed observer of columns of any contents and any lengths.
+-- A fresh observer is well formed, with columns of any contents and any lengths.
 abbrev pub FreshIsWell : Type 0
-FreshIsWell = (qs ts ls ms : List ℕ) → wellFormed (observerOf qs ts ls ms fresh) ≡ true
+FreshIsWell = (o : Observer) → o .counts ≡ fresh → wellFormed o ≡ true
 
 -- A call, with what it is handed.
 pub data Call : Type 0 where
@@ -39,15 +39,17 @@ recordCall o indicating = recordErrorIndication o
 abbrev pub afterCalls : Observer → List Call → Observer
 afterCalls o calls = inTurn recordCall o calls .observer
 
--- Every call, accepted or refused, leaves a well-formed observer well formed. So 21 is never due on one that is fresh and that only these
--- calls have written since.
+-- Every call, accepted or refused, leaves a well-formed observer well formed. So 21 is never due on one that is fresh
+-- and that only these calls have written since.
 abbrev pub CallsKeepWell : Type 0
 CallsKeepWell = (o : Observer) (calls : List Call) → wellFormed o ≡ true → wellFormed (afterCalls o calls) ≡ true
 
 -- The search finds a sequence exactly where a used row has it.
 pub record Finds (o : Observer) : Type 0 where
-  pub every-row : (k : ℕ) → k < length (rows o) → (wasSent (rowAt k (rows o) .sequence) (rows o) ≡ true) × (placeOf (rowAt k (rows o) .sequence) (rows o) ≡ k)
-  pub no-other : (q : ℕ) → wasSent q (rows o) ≡ true → (placeOf q (rows o) < length (rows o)) × (rowOf q (rows o) .sequence ≡ q)
+  pub every-row : (k : ℕ) → k < length (rows o)
+      → (wasSent (rowAt k (rows o) .sequence) (rows o) ≡ true) × (placeOf (rowAt k (rows o) .sequence) (rows o) ≡ k)
+  pub no-other : (q : ℕ) → wasSent q (rows o) ≡ true
+      → (placeOf q (rows o) < length (rows o)) × (rowOf q (rows o) .sequence ≡ q)
 
 abbrev pub SearchFinds : Type 0
 SearchFinds = (o : Observer) → wellFormed o ≡ true → Finds o
@@ -57,7 +59,8 @@ pub record NewSequence (o : Observer) (q t : ℕ) : Type 0 where
   pub full : o .counts .used ≡ capacity o → recordSent o q t .outcome ≡ refused observerFull
   pub room : (o .counts .used ≡ capacity o → ⊥) → recordSent o q t .outcome ≡ gives tt
   pub enters : (o .counts .used ≡ capacity o → ⊥)
-      → rows (recordSent o q t .observer) ≡ take (placeOf q (rows o)) (rows o) ++ sentRow q t ∷ drop (placeOf q (rows o)) (rows o)
+      → rows (recordSent o q t .observer)
+      ≡ take (placeOf q (rows o)) (rows o) ++ sentRow q t ∷ drop (placeOf q (rows o)) (rows o)
 
 abbrev pub FullOnlyWhenFull : Type 0
 FullOnlyWhenFull = (o : Observer) (q t : ℕ) → wellFormed o ≡ true → wasSent q (rows o) ≡ false → NewSequence o q t
@@ -69,7 +72,7 @@ pub record Holds2048 (o : Observer) (q t : ℕ) : Type 0 where
 
 abbrev pub FullAtRow2049 : Type 0
 FullAtRow2049 = (o : Observer) (q t : ℕ) → wellFormed o ≡ true → wasSent q (rows o) ≡ false
-    → 2048 ≤ length (o .sequences) → 2048 ≤ length (o .sendTimes) → 2048 ≤ length (o .latencies) → 2048 ≤ length (o .marks) → Holds2048 o q t
+    → EachHas 2048 (columnLengths (o .columns)) → Holds2048 o q t
 
 -- A sequence that was sent before is never refused by 22: it "only replaces its send time", also where no row is free.
 pub record OnlyTime (o : Observer) (q t : ℕ) : Type 0 where
@@ -80,6 +83,7 @@ pub record OnlyTime (o : Observer) (q t : ℕ) : Type 0 where
 abbrev pub SentAgain : Type 0
 SentAgain = (o : Observer) (q t : ℕ) → wellFormed o ≡ true → wasSent q (rows o) ≡ true → OnlyTime o q t
 
--- "below the highest marked sequence" (leaf 6) is "a row of higher sequence is marked" (the tally), on every list of rows.
+-- "below the highest marked sequence" (leaf 6) is "a row of higher sequence is marked" (the tally), on every list of
+-- rows.
 abbrev pub BelowHighestMarked : Type 0
 BelowHighestMarked = (q : ℕ) (rs : List Row) → ltb q (highestMarked rs) ≡ markedAbove q rs

@@ -1,5 +1,6 @@
--- The counts beside the columns. Document 01, leaf 6: "Beside it stand the used count and counters for duplicates, out-of-order returns and
--- error indications, which saturate." The record is the declared struct of the code; calls change it by the named updates below.
+-- The counts beside the columns. Document 01, leaf 6: "Beside it stand the used count and counters for duplicates,
+-- out-of-order returns and error indications, which saturate." The record is the declared struct of the code; calls
+-- change it by the named updates below.
 use Prim.Native.Nat.{ℕ}
 use mathlib.Core.Bool.{Bool, true, false}
 use Rattle.counter.specs.Counter.{oneMore}

@@ -1,5 +1,5 @@
--- Single calls in turn. "Each call gets the sheet as the last one left it, refused or not" (document 01, "The tally"). The Rust has no
--- batch calls; ours are single calls in turn, behind what is judged for the whole batch.
+-- Single calls in turn. "Each call gets the sheet as the last one left it, refused or not" (document 01, "The tally").
+-- The Rust has no batch calls; ours are single calls in turn, after what is judged for the whole batch.
 use Prim.Native.Nat.{ℕ}
 use mathlib.Core.List.{List, [], _∷_}
 use Rattle.error.specs.Outcome.{outcomeNumber}

@@ -34,12 +34,12 @@ abbrev pub step : Observer → Outcome Observer → Step
 step o (refused n) = record { outcome = refused n; observer = o }
 step o (gives next) = record { outcome = gives tt; observer = next }
 
--- a refusal by this number, behind 21
+-- a refusal by this number, after 21
 abbrev pub refusing : Observer → ℕ → Step
 refusing o n = step o (judged o (refused n))
 
--- A call whose input is read first, which changes nothing. "A return is judged 21, 1 to 14, 23, 24": 21 comes before a refusal of the reader, and
--- the rest is the call's.
+-- A call whose input is read first, which changes nothing. "A return is judged 21, 1 to 14, 23, 24": 21 comes before a
+-- refusal of the reader, and the rest is the call's.
 abbrev pub afterReading : {A : Type 0} → Observer → Outcome A → (A → Step) → Step
 afterReading o (refused n) call = refusing o n
 afterReading o (gives x) call = call x

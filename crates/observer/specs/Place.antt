@@ -21,7 +21,8 @@ rowOf q rs = rowAt (placeOf q rs) rs
 -- "the highest marked sequence"; 0, which no sequence is below, if none is marked
 abbrev pub highestMarked : List Row → ℕ
 highestMarked [] = 0
-highestMarked (r ∷ rs) = elim (eqb (r .mark) 1) [ true ↦ max (r .sequence) (highestMarked rs) | false ↦ highestMarked rs ]
+highestMarked (r ∷ rs) =
+    elim (eqb (r .mark) 1) [ true ↦ max (r .sequence) (highestMarked rs) | false ↦ highestMarked rs ]
 
 -- Some row of a higher sequence is marked: the same on every list of rows (specs/Claims.antt).
 abbrev pub markedAbove : ℕ → List Row → Bool

@@ -1,12 +1,12 @@
--- Returns and error indications: document 01, leaf 6. A return is that of a sequence here: a T-PDU is read, and the elements of a message are
--- walked, before these calls, and what is refused there does not reach them (`afterReading`).
+-- Returns and error indications: document 01, leaf 6. A return is that of a sequence here: a T-PDU is read, and the
+-- elements of a message are walked, first, and what is refused there is not recorded (`afterReading`).
 use Prim.Native.Nat.{ℕ, _-_}
 use mathlib.Core.List.{List, [], _∷_}
 use mathlib.Core.Bool.{true, false, not}
 use lib.Dec.{eqb, ltb}
 use lib.ListN.{set}
 use Rattle.error.specs.Number.{sequenceWasNotSent, timestampReversed}
-use Rattle.error.specs.Outcome.{Outcome, gives, Cause, _⇒_, firstCause}
+use Rattle.error.specs.Outcome.{gives, Cause, _⇒_, firstCause}
 use Rattle.observer.specs.Counts.{oneDuplicate, outOfOrderIf, oneErrorIndication}
 use Rattle.observer.specs.Observer.{Row, Observer, rows, withRows, withCounts}
 use Rattle.observer.specs.Judge.{judged, Step, step}
@@ -14,18 +14,23 @@ use Rattle.observer.specs.Place.{placeOf, wasSent, rowOf, highestMarked}
 
 -- A row at its first return: "mark 1 and as latency its time less the send time" (document 01, "The tally").
 abbrev pub returned : ℕ → Row → Row
-returned t r = record { sequence = r .sequence; sent = r .sent; latency = t - r .sent; mark = 1 }
+returned t r = record {
+  sequence = r .sequence;
+  «send_timestamp_ns» = r .«send_timestamp_ns»;
+  latency = t - r .«send_timestamp_ns»;
+  mark = 1;
+}
 
 -- "returned sequence not on the sheet; returned before sent"
-unfoldable pub arrivalCauses : Observer → ℕ → ℕ → List Cause
-arrivalCauses o q t =
+unfoldable pub returnCauses : Observer → ℕ → ℕ → List Cause
+returnCauses o q t =
     (not (wasSent q (rows o)) ⇒ sequenceWasNotSent)
-    ∷ (ltb t (rowOf q (rows o) .sent) ⇒ timestampReversed)
+    ∷ (ltb t (rowOf q (rows o) .«send_timestamp_ns») ⇒ timestampReversed)
     ∷ []
 
 -- "then duplicate, then out of order (below the highest marked sequence). A duplicate changes its counter only."
-unfoldable pub arrived : Observer → ℕ → ℕ → Observer
-arrived o q t =
+unfoldable pub afterReturn : Observer → ℕ → ℕ → Observer
+afterReturn o q t =
     elim (eqb (rowOf q (rows o) .mark) 1) [
       | true ↦ withCounts (oneDuplicate (o .counts)) o
       | false ↦
@@ -33,13 +38,9 @@ arrived o q t =
           (withCounts (outOfOrderIf (ltb q (highestMarked (rows o))) (o .counts)) o)
     ]
 
--- A sequence that was read arrives at this time.
-unfoldable pub arrival : Observer → ℕ → ℕ → Outcome Observer
-arrival o q t = firstCause (arrivalCauses o q t) (gives (arrived o q t))
-
 -- This sequence returns at this time. "A return is judged 21, .. 23, 24, then duplicate, then out of order".
 unfoldable pub recordReturn : Observer → ℕ → ℕ → Step
-recordReturn o t q = step o (judged o (arrival o q t))
+recordReturn o t q = step o (judged o (firstCause (returnCauses o q t) (gives (afterReturn o q t))))
 
 -- An Error Indication comes, whose elements leaf 8's walk accepts: 21, "and then the counter".
 unfoldable pub recordErrorIndication : Observer → Step

@@ -12,7 +12,7 @@ use Rattle.observer.specs.Place.{placeOf, wasSent, rowOf}
 
 -- "A sequence sent again only replaces its send time."
 abbrev pub resent : ℕ → Row → Row
-resent t r = record { sequence = r .sequence; sent = t; latency = r .latency; mark = r .mark }
+resent t r = record { sequence = r .sequence; «send_timestamp_ns» = t; latency = r .latency; mark = r .mark }
 
 -- The rows with a packet entered. "A new sent row .. shifts later used rows by one".
 unfoldable pub entered : ℕ → ℕ → List Row → List Row

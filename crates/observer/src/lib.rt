@@ -1,15 +1,16 @@
 // The observer: document 01's run sheet (leaf 6; `ContinuityObserver` of the Rust's traffic.rs). The Rust's maps are
-// columns here, lent by the caller and sorted by sequence; the used count and the counters go in by value and come back
-// beside the answer. Each call judges the columns first (21); what it then does to a row is the crate `rows`. What a call
-// makes of an observer is defined in specs/, and its contract is that one equation: answer, counts and every column at
-// exit, on refusals too.
+// columns here, lent by the caller and sorted by sequence; the used count and the counters go in by value and come
+// back beside the answer. Each call judges the columns first (21); what it then does to a row is the crate `rows`.
+// What a call makes of an observer is defined in specs/, and its contract is that one equation (`records`): answer,
+// counts and every column at exit, on refusals too. The crates above have the calls for returns and for whole plans.
 ghost use mathlib.Core.Path.{_≡_};
+ghost use Rattle.error.specs.Outcome.{outcomeNumber};
+ghost use Rattle.rows.specs.Columns.{sheet};
 ghost use Rattle.observer.specs.Counts.{oneDuplicate, oneOutOfOrder, oneErrorIndication, withUsed};
 ghost use Rattle.observer.specs.Judge.{wellFormed};
 ghost use Rattle.observer.specs.Sending.{recordSent};
-ghost use Rattle.observer.specs.Returning.{recordReturn, recordErrorIndication};
 ghost use Rattle.observer.specs.Claims.{PutBack, FreshIsWell, CallsKeepWell, SearchFinds, FullOnlyWhenFull, FullAtRow2049, SentAgain, BelowHighestMarked};
-ghost use Rattle.observer.specs.Answer.{acceptance, refusal, afterEntry, afterArrival, leaves, lent};
+ghost use Rattle.observer.specs.Answer.{recordingMeans, acceptance, refusal, afterEntry, afterArrival, lent, records};
 use rows::Arrival;
 use rows::Entry;
 
@@ -91,7 +92,7 @@ impl ObserverCounts {
         }
     }
 
-    // The answer where this came of a packet that was sent.
+    // The answer to sending, by what became of the packet.
     pub fn entered(self, entry: Entry) -> Recorded
         ensures { λ r. ⌜ r ≡ afterEntry self entry ⌝ }
     {
@@ -102,8 +103,8 @@ impl ObserverCounts {
         }
     }
 
-    // The answer where this came of a sequence that returned.
-    pub fn arrived(self, arrival: Arrival) -> Recorded
+    // The answer to a return, by what became of the sequence.
+    pub fn returned(self, arrival: Arrival) -> Recorded
         ensures { λ r. ⌜ r ≡ afterArrival self arrival ⌝ }
     {
         match arrival {
@@ -114,6 +115,13 @@ impl ObserverCounts {
             Arrival::Reversed => self.refused(error::TIMESTAMP_REVERSED),
             Arrival::Malformed => self.refused(error::MALFORMED_OBSERVER),
         }
+    }
+
+    // The answer to an Error Indication whose elements were accepted.
+    pub fn error_indicated(self) -> Recorded
+        ensures { λ r. ⌜ r ≡ acceptance (oneErrorIndication self) ⌝ }
+    {
+        self.one_error_indication().accepted()
     }
 }
 
@@ -129,6 +137,16 @@ pub struct Recorded {
     pub counts: ObserverCounts,
 }
 
+// The number of an answer: 0, or the refusal's.
+pub fn answer_number(answer: Recording) -> u8
+    ensures { λ r. ⌜ r ≡ outcomeNumber (recordingMeans answer) ⌝ }
+{
+    match answer {
+        Recording::Accepted => 0,
+        Recording::Refused(number) => number,
+    }
+}
+
 // Whether no call refuses the columns and counts by 21: the used rows fit, rise, and have marks of 0 or 1.
 pub fn well_formed(
     sequences: &[u64],
@@ -137,7 +155,7 @@ pub fn well_formed(
     marks: &[u8],
     counts: ObserverCounts,
 ) -> bool
-    ensures { λ r. ⌜ r ≡ wellFormed (lent sequences «send_timestamps» latencies marks counts) ⌝ }
+    ensures { λ r. ⌜ r ≡ wellFormed (lent (sheet sequences «send_timestamps» latencies marks) counts) ⌝ }
 {
     let used = counts.used;
     let room = rows::capacity(
@@ -164,9 +182,8 @@ pub fn record_sent(
     sequence: u64,
     send_timestamp_ns: u64,
 ) -> Recorded
-    ensures { λ r. ⌜ leaves r sequences «send_timestamps» latencies marks
-        ≡ recordSent (lent sequences «send_timestamps» latencies marks counts)
-        sequence «send_timestamp_ns» ⌝ }
+    ensures { λ r. ⌜ records (sheet sequences «send_timestamps» latencies marks) counts r
+        (λ o. recordSent o sequence «send_timestamp_ns») ⌝ }
 {
     if !well_formed(sequences, send_timestamps, latencies, marks, counts) {
         return counts.refused(error::MALFORMED_OBSERVER);
@@ -182,52 +199,6 @@ pub fn record_sent(
     ))
 }
 
-// Records the return of a sequence: its first return marks its row and gives it a latency, a later one is counted as a duplicate. Refuses by 21,
-// 23, 24.
-pub fn record_return(
-    sequences: &[u64],
-    send_timestamps: &[u64],
-    latencies: &mut [u64],
-    marks: &mut [u8],
-    counts: ObserverCounts,
-    return_timestamp_ns: u64,
-    sequence: u64,
-) -> Recorded
-    ensures { λ r. ⌜ leaves r sequences «send_timestamps» latencies marks
-        ≡ recordReturn (lent sequences «send_timestamps» latencies marks counts)
-        «return_timestamp_ns» sequence ⌝ }
-{
-    if !well_formed(sequences, send_timestamps, latencies, marks, counts) {
-        return counts.refused(error::MALFORMED_OBSERVER);
-    }
-    counts.arrived(rows::arrive(
-        sequences,
-        send_timestamps,
-        latencies,
-        marks,
-        counts.used,
-        return_timestamp_ns,
-        sequence,
-    ))
-}
-
-// Records an Error Indication, whose elements were accepted. Refuses by 21.
-pub fn record_error_indication(
-    sequences: &[u64],
-    send_timestamps: &[u64],
-    latencies: &[u64],
-    marks: &[u8],
-    counts: ObserverCounts,
-) -> Recorded
-    ensures { λ r. ⌜ leaves r sequences «send_timestamps» latencies marks
-        ≡ recordErrorIndication (lent sequences «send_timestamps» latencies marks counts) ⌝ }
-{
-    if !well_formed(sequences, send_timestamps, latencies, marks, counts) {
-        return counts.refused(error::MALFORMED_OBSERVER);
-    }
-    counts.one_error_indication().accepted()
-}
-
 // Carries that 21 is never due on a sheet that was fresh and that only these calls have written since.
 pub fn calls_keep_well_formed()
     ensures { λ _. ⌜ PutBack × FreshIsWell × CallsKeepWell ⌝ }
@@ -238,7 +209,8 @@ pub fn full_at_row_2049()
     ensures { λ _. ⌜ FullOnlyWhenFull × FullAtRow2049 × SentAgain ⌝ }
 {}
 
-// Carries that the search finds a sequence exactly where a used row has it, and that both readings of "out of order" agree.
+// Carries that the search finds a sequence exactly where a used row has it, and that both readings of "out of order"
+// agree.
 pub fn search_finds()
     ensures { λ _. ⌜ SearchFinds × BelowHighestMarked ⌝ }
 {}

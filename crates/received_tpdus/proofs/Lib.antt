@@ -1,3 +1,2 @@
--- A list of returns, one after the other; and how it is read.
-pub mod Arrivals
+-- A list of T-PDUs, read and recorded one after the other.
 pub mod Received

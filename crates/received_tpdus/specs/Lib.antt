@@ -1,3 +1,2 @@
 -- A list of T-PDUs that came back, taken in one call.
 pub mod Received
-pub mod Arrivals

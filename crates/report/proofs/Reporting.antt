@@ -35,29 +35,29 @@ meant (Summary s) = refl
 module _ {o : Observer} (w : Well o) where
   -- the latencies that the loop gathers
   abbrev pub gathered : List ℕ
-  gathered = markedOf (take (o .counts .used) (o .latencies)) (take (o .counts .used) (o .marks))
+  gathered = markedOf (take (o .counts .used) (o .columns .latencies)) (take (o .counts .used) (o .columns .marks))
 
   pub few-gathered : length gathered ≤ o .counts .used
   few-gathered =
       omega (
         arith,
-        few-marked (take (o .counts .used) (o .latencies)) (take (o .counts .used) (o .marks)),
-        length-take (o .counts .used) (o .latencies),
+        few-marked (take (o .counts .used) (o .columns .latencies)) (take (o .counts .used) (o .columns .marks)),
+        length-take (o .counts .used) (o .columns .latencies),
       )
 
   latencies-are : latenciesOf (rows o) ≡ gathered
   latencies-are = rw (marked-of (rows o), w .fronts .latencies, w .fronts .marks)
 
-  longest-is : (end : ℕ) → greatest (map (λ x. x .packets) (runs end (rows o))) ≡ longestIn 0 (take (o .counts .used) (o .marks))
+  longest-is : (end : ℕ) → greatest (map (λ x. x .packets) (runs end (rows o))) ≡ longestIn 0 (take (o .counts .used) (o .columns .marks))
   longest-is end = longest-of end (rows o) ∙ ap (longestIn 0) (w .fronts .marks)
 
   outage-is : (end : ℕ) → greatest (map (λ x. x .duration) (runs end (rows o)))
-      ≡ outageIn end 0 0 (take (o .counts .used) (o .sendTimes)) (take (o .counts .used) (o .marks))
-  outage-is end = outage-of end (rows o) ∙ rw (w .fronts .sendTimes, w .fronts .marks)
+      ≡ outageIn end 0 0 (take (o .counts .used) (o .columns .«send_timestamps»)) (take (o .counts .used) (o .columns .marks))
+  outage-is end = outage-of end (rows o) ∙ rw (w .fronts .«send_timestamps», w .fronts .marks)
 
   pub reported : (start end : ℕ) (budget : PacketContinuityBudget) (n run outage : ℕ) (latency : Latency)
-      → n ≡ length gathered → run ≡ longestIn 0 (take (o .counts .used) (o .marks))
-      → outage ≡ outageIn end 0 0 (take (o .counts .used) (o .sendTimes)) (take (o .counts .used) (o .marks)) → latencyMeans latency ≡ latencyOf gathered
+      → n ≡ length gathered → run ≡ longestIn 0 (take (o .counts .used) (o .columns .marks))
+      → outage ≡ outageIn end 0 0 (take (o .counts .used) (o .columns .«send_timestamps»)) (take (o .counts .used) (o .columns .marks)) → latencyMeans latency ≡ latencyOf gathered
       → gives
       (record {
         «window_start_ns» = start;

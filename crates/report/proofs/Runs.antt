@@ -80,9 +80,9 @@ pub longest-of : (end : ℕ) (rs : List Row) → packetsOf (runsIn end false rs)
 longest-of end rs = longest-is end rs .outside
 
 record OutageIs (end : ℕ) (rs : List Row) : Type 0 where
-  pub outside : (since : ℕ) → durationOf (runsIn end false rs) ≡ outageIn end 0 since (map (λ r. r .sent) rs) (map (λ r. r .mark) rs)
+  pub outside : (since : ℕ) → durationOf (runsIn end false rs) ≡ outageIn end 0 since (map (λ r. r .«send_timestamp_ns») rs) (map (λ r. r .mark) rs)
   pub inside : (k since : ℕ)
-      → max (runEnd end rs - since) (durationOf (runsIn end true rs)) ≡ outageIn end (suc k) since (map (λ r. r .sent) rs) (map (λ r. r .mark) rs)
+      → max (runEnd end rs - since) (durationOf (runsIn end true rs)) ≡ outageIn end (suc k) since (map (λ r. r .«send_timestamp_ns») rs) (map (λ r. r .mark) rs)
 
 outage-is : (end : ℕ) (rs : List Row) → OutageIs end rs
 outage-is end [] = record { outside = λ since. refl; inside = λ k since. rw (eqb·suc-zero k, gapOf) (omega arith) }
@@ -92,13 +92,13 @@ outage-is end (r ∷ rs) = go (eqb (r .mark) 1) refl (outage-is end rs)
     go true e i =
         record {
           outside = λ since. rw (e, runsIn, outageIn) (omega (arith, i .outside 0));
-          inside = λ k since. rw (e, runsIn, outageIn, runEnd, eqb·suc-zero k, gapOf) (ap (max (r .sent - since)) (i .outside 0));
+          inside = λ k since. rw (e, runsIn, outageIn, runEnd, eqb·suc-zero k, gapOf) (ap (max (r .«send_timestamp_ns» - since)) (i .outside 0));
         }
     go false e i =
         record {
-          outside = λ since. rw (e, runsIn, outageIn) (i .inside 0 (r .sent));
+          outside = λ since. rw (e, runsIn, outageIn) (i .inside 0 (r .«send_timestamp_ns»));
           inside = λ k since. rw (e, runsIn, outageIn, runEnd, eqb·suc-zero k, sinceOf) (i .inside (suc k) since);
         }
 
-pub outage-of : (end : ℕ) (rs : List Row) → durationOf (runsIn end false rs) ≡ outageIn end 0 0 (map (λ r. r .sent) rs) (map (λ r. r .mark) rs)
+pub outage-of : (end : ℕ) (rs : List Row) → durationOf (runsIn end false rs) ≡ outageIn end 0 0 (map (λ r. r .«send_timestamp_ns») rs) (map (λ r. r .mark) rs)
 outage-of end rs = outage-is end rs .outside 0

@@ -1,4 +1,5 @@
--- What the report's loops compute over the columns, with what they carry: for their contracts. Proved to be leaf 7's definitions in proofs/.
+-- What the report's loops compute over the columns, with what they carry: for their contracts. Proved to be leaf 7's
+-- definitions in proofs/.
 use Prim.Native.Nat.{ℕ, suc, _+_, _-_, _*_, _/_, _≤_, min, max}
 use mathlib.Core.Path.{_≡_}
 use mathlib.Core.List.{List, [], _∷_}
@@ -43,7 +44,8 @@ pub record Gathers (xs : List ℕ) (g : Gathered) : Type 0 where
 
 -- the summary of n latencies
 abbrev pub summaryOf : ℕ → ℕ → ℕ → ℕ → Option LatencySummary
-summaryOf n low high sum = elim (eqb n 0) [ true ↦ none | false ↦ some (record { «min_ns» = low; «max_ns» = high; «avg_ns» = sum / n }) ]
+summaryOf n low high sum =
+    elim (eqb n 0) [ true ↦ none | false ↦ some (record { «min_ns» = low; «max_ns» = high; «avg_ns» = sum / n }) ]
 
 -- how long a run of n rows lasts that began at `since`; no run, no time
 abbrev pub gapOf : ℕ → ℕ → ℕ → ℕ

@@ -1,4 +1,5 @@
--- The report (the Rust's `ContinuityObserver::report`): document 01, leaf 7, over the used rows and the counts of an observer.
+-- The report (the Rust's `ContinuityObserver::report`): document 01, leaf 7, over the used rows and the counts of an
+-- observer.
 use Prim.Native.Nat.{ℕ, suc, _+_, _-_, _/_, min, max}
 use mathlib.Core.List.{List, [], _∷_, map}
 use mathlib.Core.Bool.{Bool, true, false, _&&_}
@@ -55,11 +56,12 @@ leading (r ∷ rs) = elim (eqb (r .mark) 1) [ true ↦ 0 | false ↦ suc (leadin
 -- "the send time of the marked row after it, or .. window end if none"
 abbrev pub runEnd : ℕ → List Row → ℕ
 runEnd windowEnd [] = windowEnd
-runEnd windowEnd (r ∷ rs) = elim (eqb (r .mark) 1) [ true ↦ r .sent | false ↦ runEnd windowEnd rs ]
+runEnd windowEnd (r ∷ rs) = elim (eqb (r .mark) 1) [ true ↦ r .«send_timestamp_ns» | false ↦ runEnd windowEnd rs ]
 
--- The runs, where `within` says whether an unmarked row stands just in front: one begins at each unmarked row where none does. "A run of
--- unmarked rows lasts from its first send time to the send time of the marked row after it, or to window end if none, never below 0."
--- Only rows count, and no sequence numbers between them; send times may fall from row to row.
+-- The runs. `within` says whether the row just before is unmarked: a run begins at each unmarked row that does not
+-- follow another. "A run of unmarked rows lasts from its first send time to the send time of the marked row after it,
+-- or to window end if none, never below 0." Only rows count, and no sequence numbers between them; send times may fall
+-- from row to row.
 abbrev pub runsIn : ℕ → Bool → List Row → List Run
 runsIn windowEnd within [] = []
 runsIn windowEnd within (r ∷ rs) =
@@ -68,7 +70,9 @@ runsIn windowEnd within (r ∷ rs) =
       | false ↦
           elim within [
             | true ↦ runsIn windowEnd true rs
-            | false ↦ record { packets = suc (leading rs); duration = runEnd windowEnd rs - r .sent } ∷ runsIn windowEnd true rs
+            | false ↦
+                record { packets = suc (leading rs); duration = runEnd windowEnd rs - r .«send_timestamp_ns» }
+                ∷ runsIn windowEnd true rs
           ]
     ]
 
@@ -81,10 +85,11 @@ runs windowEnd rs = runsIn windowEnd false rs
 abbrev pub withinBudget : PacketContinuityBudget → ℕ → ℕ → ℕ → ℕ → Bool
 withinBudget budget lost run outage indications =
     leb lost (budget .«max_lost_packets»)
-    && (leb run (budget .«max_consecutive_lost_packets») && (leb outage (budget .«outage_budget_ns») && eqb indications 0))
+    && (leb run (budget .«max_consecutive_lost_packets»)
+    && (leb outage (budget .«outage_budget_ns») && eqb indications 0))
 
--- The report on these rows and counts, for a window and a budget. "Lost is sent less returned." "Longest count and longest duration may be
--- different runs." "Forwarding: returned above 0."
+-- The report on these rows and counts, for a window and a budget. "Lost is sent less returned." "Longest count and
+-- longest duration may be different runs." "Forwarding: returned above 0."
 unfoldable pub reportOf : List Row → ObserverCounts → ℕ → ℕ → PacketContinuityBudget → PacketContinuityReport
 reportOf rs counts windowStart windowEnd budget =
     let sent : ℕ = length rs in

@@ -1,9 +1,11 @@
-// The report on a run: document 01's leaf 7 (`ContinuityObserver::report` of the Rust's traffic.rs). One pass over the rows gathers the
-// latencies, whose sum takes two words, and one the runs of lost packets. What the report says is defined in specs/Report.antt.
+// The report on a run: document 01's leaf 7 (`ContinuityObserver::report` of the Rust's traffic.rs). One pass over the
+// rows gathers the latencies, whose sum takes two words, and one the runs of lost packets. What the report says is
+// defined in specs/Report.antt.
 ghost use mathlib.Core.Path.{_≡_};
 ghost use Prim.Native.Nat.{_≤_, _<_, _+_, _/_, max};
 ghost use lib.ListN.{length, take};
 ghost use Rattle.evidence.specs.Latency.{latencyMeans};
+ghost use Rattle.rows.specs.Columns.{sheet};
 ghost use Rattle.observer.specs.Answer.{lent};
 ghost use Rattle.report.specs.Report.{withinBudget, reporting};
 ghost use Rattle.report.specs.Answer.{reportedMeans};
@@ -55,7 +57,8 @@ fn least_so_far(count: u64, low: u64, x: u64) -> u64
 // One latency more.
 fn with_latency(g: Gathered, x: u64) -> Gathered
     requires { ⌜ (g .count < 2048) × (g .upper < 2048) ⌝ }
-    ensures { λ r. ⌜ (r .count ≡ g .count + 1) × (r .low ≡ leastSoFar (g .count) (g .low) x) × (r .high ≡ max (g .high) x)
+    ensures { λ r. ⌜ (r .count ≡ g .count + 1) × (r .low ≡ leastSoFar (g .count) (g .low) x)
+        × (r .high ≡ max (g .high) x)
         × (wordsOf (r .upper) (r .lower) ≡ wordsOf (g .upper) (g .lower) + x) × (r .upper ≤ g .upper + 1) ⌝ }
 {
     let low = least_so_far(g.count, g.low, x);
@@ -149,7 +152,8 @@ fn began(n: u64, since: u64, sent: u64) -> u64
 fn longest_runs(send_timestamps: &[u64], marks: &[u8], used: usize, end: u64) -> LongestRuns
     requires { ⌜ (used ≤ length (now «send_timestamps»)) × (used ≤ length (now marks)) ⌝ }
     ensures { λ r. ⌜ (r .packets ≡ longestIn 0 (take used (now (marks .entry))))
-        × (r .duration ≡ outageIn end 0 0 (take used (now («send_timestamps» .entry))) (take used (now (marks .entry)))) ⌝ }
+        × (r .duration ≡ outageIn end 0 0 (take used (now («send_timestamps» .entry)))
+        (take used (now (marks .entry)))) ⌝ }
 {
     let mut packets: u64 = 0;
     let mut duration: u64 = 0;
@@ -202,7 +206,7 @@ pub fn report(
     budget: PacketContinuityBudget,
 ) -> Reported
     ensures { λ r. ⌜ reportedMeans r
-        ≡ reporting (lent sequences «send_timestamps» latencies marks counts)
+        ≡ reporting (lent (sheet sequences «send_timestamps» latencies marks) counts)
         «window_start_ns» «window_end_ns» budget ⌝ }
 {
     if !observer::well_formed(sequences, send_timestamps, latencies, marks, counts) {

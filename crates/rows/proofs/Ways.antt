@@ -107,15 +107,15 @@ module _ (n t q : ℕ) (c : Columns) where
                 ]
           ]
 
-      arriving-at : (early marked late : Bool) → ltb t (getD (c .sendTimes) k 0) ≡ early → eqb (getD (c .marks) k 0) 1 ≡ marked
+      arriving-at : (early marked late : Bool) → ltb t (getD (c .«send_timestamps») k 0) ≡ early → eqb (getD (c .marks) k 0) 1 ≡ marked
           → anyMarked (drop (k + 1) (take n (c .marks))) ≡ late → arrivingAtIf early marked late ≡ arriving n t q c
       unfolding arrivingAt
       arriving-at early marked late e f g = sym (λ i. arrivingAtIf (e i) (f i) (g i)) ∙ arriving-from true has
 
-      pub arrives-early : t < getD (c .sendTimes) k 0 → record { answer = arrival.Reversed; columns = c } ≡ arriving n t q c
+      pub arrives-early : t < getD (c .«send_timestamps») k 0 → record { answer = arrival.Reversed; columns = c } ≡ arriving n t q c
       arrives-early h = arriving-at true (eqb (getD (c .marks) k 0) 1) _ (lt-ltb t _ h) refl refl
 
-      module _ (h : getD (c .sendTimes) k 0 ≤ t) where
+      module _ (h : getD (c .«send_timestamps») k 0 ≤ t) where
         pub arrives-again : eqb (getD (c .marks) k 0) 1 ≡ true → record { answer = arrival.Duplicate; columns = c } ≡ arriving n t q c
         arrives-again e = arriving-at false true _ (le-ltb t _ h) e refl
 

@@ -1,5 +1,5 @@
--- A sequence returns to the columns, of which n rows are in use. On a sheet that 21 does not refuse this is document
--- 01's return (observer, specs/Returning.antt), which is proved there.
+-- A sequence returns; n rows of the columns are in use. Where 21 does not refuse, this is document 01's return, as
+-- observer proves (specs/Returning.antt).
 use Prim.Native.Nat.{ℕ, _+_, _-_}
 use mathlib.Core.List.{List}
 use mathlib.Core.Bool.{true, false}
@@ -15,15 +15,15 @@ use Rattle.rows.specs.declared.Arrival.the-variants.{InOrder, OutOfOrder
 abbrev pub returnedAt : ℕ → ℕ → Columns → Columns
 returnedAt k t c = record {
   sequences = c .sequences;
-  sendTimes = c .sendTimes;
-  latencies = set (c .latencies) k (t - getD (c .sendTimes) k 0);
+  «send_timestamps» = c .«send_timestamps»;
+  latencies = set (c .latencies) k (t - getD (c .«send_timestamps») k 0);
   marks = set (c .marks) k 1;
 }
 
 -- The sequence is that of row k.
 unfoldable pub arrivingAt : ℕ → ℕ → ℕ → Columns → Left Arrival
 arrivingAt n k t c =
-    elim (ltb t (getD (c .sendTimes) k 0)) [
+    elim (ltb t (getD (c .«send_timestamps») k 0)) [
       | true ↦ record { answer = Reversed; columns = c }
       | false ↦
           elim (eqb (getD (c .marks) k 0) 1) [

@@ -1,5 +1,7 @@
--- The four columns of a run sheet, and how many rows they hold.
-use Prim.Native.Nat.{ℕ, min}
+-- The columns of a run sheet, and how many rows they hold. A call is lent them one by one; all below speaks of one
+-- record.
+use Prim.Native.Nat.{ℕ, _≤_, min}
+use mathlib.Core.Path.{_≡_}
 use mathlib.Core.List.{List, [], _∷_}
 use lib.ListN.{length}
 use denote.Triple.Both.{Both}
@@ -8,28 +10,30 @@ use denote.Ref.{RefT}
 -- "Lent columns: sequence, send time, latency .., mark".
 pub record Columns : Type 0 where
   pub sequences : List ℕ
-  pub sendTimes : List ℕ
+  pub «send_timestamps» : List ℕ
   pub latencies : List ℕ
   pub marks : List ℕ
 
 abbrev pub columnsOf : List ℕ → List ℕ → List ℕ → List ℕ → Columns
-columnsOf qs ts ls ms = record { sequences = qs; sendTimes = ts; latencies = ls; marks = ms }
+columnsOf qs ts ls ms = record { sequences = qs; «send_timestamps» = ts; latencies = ls; marks = ms }
 
 abbrev pub columnLengths : Columns → List ℕ
-columnLengths c = length (c .sequences) ∷ length (c .sendTimes) ∷ length (c .latencies) ∷ length (c .marks) ∷ []
+columnLengths c = length (c .sequences) ∷ length (c .«send_timestamps») ∷ length (c .latencies) ∷ length (c .marks) ∷ []
 
 -- "Capacity is the shortest column, at most 2,048."
 abbrev pub capacityOf : List ℕ → ℕ
 capacityOf [] = 2048
 capacityOf (n ∷ lengths) = min n (capacityOf lengths)
 
+-- Each of these lengths is at least n.
+abbrev pub EachHas : ℕ → List ℕ → Type 0
+EachHas n [] = Unit {0}
+EachHas n (m ∷ lengths) = (n ≤ m) × EachHas n lengths
+
 -- What a call answers, and the columns as it leaves them.
 pub record Left (Answer : Type 0) : Type 0 where
   pub answer : Answer
   pub columns : Columns
-
-abbrev pub left : {Answer : Type 0} → Answer → List ℕ → List ℕ → List ℕ → List ℕ → Left Answer
-left a qs ts ls ms = record { answer = a; columns = columnsOf qs ts ls ms }
 
 -- ---- in contracts
 
@@ -37,10 +41,16 @@ left a qs ts ls ms = record { answer = a; columns = columnsOf qs ts ls ms }
 abbrev pub Column : Type 0
 Column = Both (RefT (List ℕ)) (RefT (List ℕ))
 
--- The columns as they are lent.
-abbrev pub lent : Column → Column → Column → Column → Columns
-lent qs ts ls ms = columnsOf (qs .entry .now) (ts .entry .now) (ls .entry .now) (ms .entry .now)
+-- All of them, likewise.
+abbrev pub Sheet : Type 0
+Sheet = Both Columns Columns
 
--- The answer, and the columns when the call returns.
-abbrev pub leaves : {Answer : Type 0} → Answer → Column → Column → Column → Column → Left Answer
-leaves a qs ts ls ms = left a (qs .exit .now) (ts .exit .now) (ls .exit .now) (ms .exit .now)
+abbrev pub sheet : Column → Column → Column → Column → Sheet
+sheet qs ts ls ms = record {
+  entry = columnsOf (qs .entry .now) (ts .entry .now) (ls .entry .now) (ms .entry .now);
+  exit = columnsOf (qs .exit .now) (ts .exit .now) (ls .exit .now) (ms .exit .now);
+}
+
+-- The answer and the columns when the call returns are what the definition gives for the columns that it was lent.
+abbrev pub answers : {Answer : Type 0} → Sheet → Answer → (Columns → Left Answer) → Type 0
+answers s a definition = record { answer = a; columns = s .exit } ≡ definition (s .entry)

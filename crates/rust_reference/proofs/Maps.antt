@@ -106,7 +106,7 @@ KeysAbove q (e ∷ m) = (q < e .key) × KeysAbove q m
 
 sent-append : (a b : List Row) → sentOf (a ++ b) ≡ sentOf a ++ sentOf b
 sent-append [] b = refl
-sent-append (r ∷ a) b = ap (λ (m : List Entry). record { key = r .sequence; value = r .sent } ∷ m) (sent-append a b)
+sent-append (r ∷ a) b = ap (λ (m : List Entry). record { key = r .sequence; value = r .«send_timestamp_ns» } ∷ m) (sent-append a b)
 
 received-append : (a b : List Row) → receivedOf (a ++ b) ≡ receivedOf a ++ receivedOf b
 received-append [] b = refl
@@ -233,17 +233,17 @@ module _ (q : ℕ) (before : List Row) (r : Row) (after : List Row) (b : Below q
   abbrev whole : List Row
   whole = before ++ r ∷ after
 
-  pub get-found : get q (sentOf whole) ≡ Some (r .sent)
+  pub get-found : get q (sentOf whole) ≡ Some (r .«send_timestamp_ns»)
   get-found =
       ap (get q) (sent-append before (r ∷ after)) ∙ get-past q (sentOf before) (sentOf (r ∷ after)) (sent-below q before b)
-      ∙ get-here q (record { key = r .sequence; value = r .sent }) (sentOf after) s
+      ∙ get-here q (record { key = r .sequence; value = r .«send_timestamp_ns» }) (sentOf after) s
 
   -- a sequence sent again
   pub insert-found : (t : ℕ) → insert q t (sentOf whole) ≡ sentOf (before ++ resent t r ∷ after)
   insert-found t =
       ap (insert q t) (sent-append before (r ∷ after)) ∙ insert-past q t (sentOf before) (sentOf (r ∷ after)) (sent-below q before b)
       ∙ ap (λ (m : List Entry). sentOf before ++ m)
-      (insert-here q t (record { key = r .sequence; value = r .sent }) (sentOf after) s ∙ ap (λ (k : ℕ). record { key = k; value = t } ∷ sentOf after) (sym s))
+      (insert-here q t (record { key = r .sequence; value = r .«send_timestamp_ns» }) (sentOf after) s ∙ ap (λ (k : ℕ). record { key = k; value = t } ∷ sentOf after) (sym s))
       ∙ sym (sent-append before (resent t r ∷ after))
 
   pub received-resent : (t : ℕ) → receivedOf (before ++ resent t r ∷ after) ≡ receivedOf whole
@@ -263,13 +263,13 @@ module _ (q : ℕ) (before : List Row) (r : Row) (after : List Row) (b : Below q
       by true = ap (λ (o : Option ℕ). «is_some_and» o (λ value. true)) (get-here q e (receivedOf after) s)
       by false = ap (λ (o : Option ℕ). «is_some_and» o (λ value. true)) (get-above q (receivedOf after) (received-above q after a))
 
-  pub insert-received : (t : ℕ) → eqb (r .mark) 1 ≡ false → insert q (t - r .sent) (receivedOf whole) ≡ receivedOf (before ++ returned t r ∷ after)
+  pub insert-received : (t : ℕ) → eqb (r .mark) 1 ≡ false → insert q (t - r .«send_timestamp_ns») (receivedOf whole) ≡ receivedOf (before ++ returned t r ∷ after)
   insert-received t m =
-      ap (insert q (t - r .sent)) (received-append before (r ∷ after))
-      ∙ insert-past q (t - r .sent) (receivedOf before) (receivedOf (r ∷ after)) (received-below q before b)
-      ∙ ap (λ (m : List Entry). receivedOf before ++ insert q (t - r .sent) m) unmarked
+      ap (insert q (t - r .«send_timestamp_ns»)) (received-append before (r ∷ after))
+      ∙ insert-past q (t - r .«send_timestamp_ns») (receivedOf before) (receivedOf (r ∷ after)) (received-below q before b)
+      ∙ ap (λ (m : List Entry). receivedOf before ++ insert q (t - r .«send_timestamp_ns») m) unmarked
       ∙ ap (λ (m : List Entry). receivedOf before ++ m)
-      (insert-above q (t - r .sent) (receivedOf after) (received-above q after a) ∙ ap (λ (k : ℕ). record { key = k; value = t - r .sent } ∷ receivedOf after) (sym s))
+      (insert-above q (t - r .«send_timestamp_ns») (receivedOf after) (received-above q after a) ∙ ap (λ (k : ℕ). record { key = k; value = t - r .«send_timestamp_ns» } ∷ receivedOf after) (sym s))
       ∙ sym (received-append before (returned t r ∷ after))
     where
       unmarked : receivedOf (r ∷ after) ≡ receivedOf after

@@ -51,16 +51,18 @@ use Rattle.rust_reference.proofs.Maps.{Located, found, absent, locate, 
 
 pub new-same : New
 unfolding rows
-new-same qs ts ls ms = record {
-  well = fresh-is-well qs ts ls ms;
-  sent = refl;
-  received = refl;
-  latencies = tt;
-  highest = refl;
-  duplicates = refl;
-  out-of-order = refl;
-  indications = refl;
-}
+new-same o e =
+    let none : rows o ≡ [] = rw (ap (λ (c : ObserverCounts). c .used) e) in
+    record {
+      well = fresh-is-well o e;
+      sent = ap sentOf (sym none);
+      received = ap receivedOf (sym none);
+      latencies = tt;
+      highest = refl;
+      duplicates = ap (λ (c : ObserverCounts). c .«duplicate_packets») (sym e);
+      out-of-order = ap (λ (c : ObserverCounts). c .«out_of_order_packets») (sym e);
+      indications = ap (λ (c : ObserverCounts). c .«gtpu_error_indications») (sym e);
+    }
 
 pub every-same : EverySheet
 every-same o w f = record {
@@ -242,8 +244,8 @@ module _ (rust : ContinuityObserver) (o : Observer) (same : Same rust o) (t : �
       rw none-there
       (refused-as (InvalidPacket error.received-sequence-was-not-sent) (recordReturn o t q) (return-unknown o (same .well) q t w))
   arrives (found before r after e b s a p w) =
-      let there : get q (rust .sent) ≡ Some (r .sent) = ap (get q) (same .sent ∙ ap sentOf e) ∙ get-found q before r after b s a in
-      rw there (by (ltb t (r .sent)) refl)
+      let there : get q (rust .sent) ≡ Some (r .«send_timestamp_ns») = ap (get q) (same .sent ∙ ap sentOf e) ∙ get-found q before r after b s a in
+      rw there (by (ltb t (r .«send_timestamp_ns»)) refl)
     where
       row-is : rowOf q (rows o) ≡ r
       row-is = row-found q (rows o) before p r after e
@@ -254,35 +256,35 @@ module _ (rust : ContinuityObserver) (o : Observer) (same : Same rust o) (t : �
       put : set (rows o) (placeOf q (rows o)) (returned t (rowOf q (rows o))) ≡ before ++ returned t r ∷ after
       put = ap (λ (x : Row). set (rows o) (placeOf q (rows o)) (returned t x)) row-is ∙ set-found q (rows o) before p (returned t r) r after e
 
-      judged-by : (again : Bool) → eqb (r .mark) 1 ≡ again → r .sent ≤ t
+      judged-by : (again : Bool) → eqb (r .mark) 1 ≡ again → r .«send_timestamp_ns» ≤ t
           → AsStep o (elim again [
             | true ↦ record { result = Ok tt; observer = duplicate rust }
-            | false ↦ record { result = Ok tt; observer = «first_return» rust q (t - r .sent) }
+            | false ↦ record { result = Ok tt; observer = «first_return» rust q (t - r .«send_timestamp_ns») }
           ]) (recordReturn o t q)
       judged-by true m h = duplicate-as (return-duplicate o (same .well) q t w (rw row-is h) (rw row-is (eqb-true (r .mark) 1 m)))
       judged-by false m h =
-          first-as (t - r .sent) (before ++ returned t r ∷ after) (omega arith)
+          first-as (t - r .«send_timestamp_ns») (before ++ returned t r ∷ after) (omega arith)
           (omega (arith, ap length e, length-append before (returned t r ∷ after), length-append before (r ∷ after), used-fits rust o same q t))
           (ap (λ (l : List Row). step o (gives (withRows l (withCounts (outOfOrderIf late (o .counts)) o)))) (sym put)
           ∙ return-first o (same .well) q t w (rw row-is h) (rw row-is (eqb-false (r .mark) 1 m)))
           (sent-returned q before r after b s a t ∙ ap sentOf (sym e))
-          (ap (λ (l : List Row). insert q (t - r .sent) (receivedOf l)) e ∙ insert-received q before r after b s a t m)
+          (ap (λ (l : List Row). insert q (t - r .«send_timestamp_ns») (receivedOf l)) e ∙ insert-received q before r after b s a t m)
 
-      by : (early : Bool) → ltb t (r .sent) ≡ early
-          → AsStep o (tried («ok_or» («checked_sub» t (r .sent)) TimestampReversed) rust λ latency-ns.
+      by : (early : Bool) → ltb t (r .«send_timestamp_ns») ≡ early
+          → AsStep o (tried («ok_or» («checked_sub» t (r .«send_timestamp_ns»)) TimestampReversed) rust λ latency-ns.
           elim («contains_key» q (rust .received)) [
             | true ↦ record { result = Ok tt; observer = duplicate rust }
             | false ↦ record { result = Ok tt; observer = «first_return» rust q latency-ns }
           ]) (recordReturn o t q)
       by true h =
-          rw (checked-under t (r .sent) (ltb-true t (r .sent) h))
-          (refused-as TimestampReversed (recordReturn o t q) (return-early o (same .well) q t w (rw row-is (ltb-true t (r .sent) h))))
+          rw (checked-under t (r .«send_timestamp_ns») (ltb-true t (r .«send_timestamp_ns») h))
+          (refused-as TimestampReversed (recordReturn o t q) (return-early o (same .well) q t w (rw row-is (ltb-true t (r .«send_timestamp_ns») h))))
       by false h =
-          rw (checked-fits t (r .sent) (ltb-false t (r .sent) h))
+          rw (checked-fits t (r .«send_timestamp_ns») (ltb-false t (r .«send_timestamp_ns») h))
           (subst (λ (x : Bool). AsStep o (elim x [
             | true ↦ record { result = Ok tt; observer = duplicate rust }
-            | false ↦ record { result = Ok tt; observer = «first_return» rust q (t - r .sent) }
-          ]) (recordReturn o t q)) (sym marked) (judged-by (eqb (r .mark) 1) refl (ltb-false t (r .sent) h)))
+            | false ↦ record { result = Ok tt; observer = «first_return» rust q (t - r .«send_timestamp_ns») }
+          ]) (recordReturn o t q)) (sym marked) (judged-by (eqb (r .mark) 1) refl (ltb-false t (r .«send_timestamp_ns») h)))
 
 -- what the T-PDU reads as, for the observer
 sequence-read : (tpdu : List ℕ) (x : Result measurement.DecodedTpdu) → outcomeBy tpduOf x ≡ readOf tpdu → outcomeBy (λ d. d .measurement .sequence) x ≡ sequenceRead tpdu

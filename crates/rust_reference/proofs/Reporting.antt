@@ -138,7 +138,7 @@ abbrev marks : List Row → List ℕ
 marks rs = map (λ r. r .mark) rs
 
 abbrev sends : List Row → List ℕ
-sends rs = map (λ r. r .sent) rs
+sends rs = map (λ r. r .«send_timestamp_ns») rs
 
 -- the set of received sequences has those of the marked rows
 abbrev Agrees : List ℕ → List Row → Type 0
@@ -207,19 +207,19 @@ gap-loop (r ∷ rs) received end n since most long g h =
         ≡ record {
           max-count = max most (elim t [ true ↦ max n (longestIn 0 (marks rs)) | false ↦ longestIn (suc n) (marks rs) ]);
           max-duration = max long (elim t [
-            | true ↦ max (gapOf n since (r .sent)) (outageIn end 0 0 (sends rs) (marks rs))
-            | false ↦ outageIn end (suc n) (sinceOf n since (r .sent)) (sends rs) (marks rs)
+            | true ↦ max (gapOf n since (r .«send_timestamp_ns»)) (outageIn end 0 0 (sends rs) (marks rs))
+            | false ↦ outageIn end (suc n) (sinceOf n since (r .«send_timestamp_ns»)) (sends rs) (marks rs)
           ]);
         }
     by true e true f ih =
-        let gap : gapOf n since (r .sent) ≡ r .sent - since = rw (ne-eqb n 0 (λ z. omega (arith, ltb-true 0 n f)), gapOf) in
+        let gap : gapOf n since (r .«send_timestamp_ns») ≡ r .«send_timestamp_ns» - since = rw (ne-eqb n 0 (λ z. omega (arith, ltb-true 0 n f)), gapOf) in
         let free = since-free end since 0 (sends rs) (marks rs) in
         rw (e, f, «for_sent»)
-        (ih 0 since (max most n) (max long (r .sent - since)) (omega arith)
+        (ih 0 since (max most n) (max long (r .«send_timestamp_ns» - since)) (omega arith)
         ∙ ap₂ (λ (c d : ℕ). record { max-count = c; max-duration = d }) (omega arith) (omega (arith, gap, free)))
     by true e false f ih =
         let z : n ≡ 0 = omega (arith, ltb-false 0 n f) in
-        let gap : gapOf n since (r .sent) ≡ 0 = rw (eq-eqb n 0 z, gapOf) in
+        let gap : gapOf n since (r .«send_timestamp_ns») ≡ 0 = rw (eq-eqb n 0 z, gapOf) in
         let free = since-free end since 0 (sends rs) (marks rs) in
         let at : outageIn end n since (sends rs) (marks rs) ≡ outageIn end 0 since (sends rs) (marks rs) = ap (λ (k : ℕ). outageIn end k since (sends rs) (marks rs)) z in
         let run : longestIn n (marks rs) ≡ longestIn 0 (marks rs) = ap (λ (k : ℕ). longestIn k (marks rs)) z in
@@ -228,7 +228,7 @@ gap-loop (r ∷ rs) received end n since most long g h =
         ∙ ap₂ (λ (c d : ℕ). record { max-count = c; max-duration = d }) (omega (arith, run)) (omega (arith, gap, free, at)))
     by false e u f ih =
         let one : «saturating_add» n 1 ≡ suc n = unfold «saturating_add» in omega arith in
-        rw (e, «for_sent») (rw one (ih (suc n) (sinceOf n since (r .sent)) most long (omega arith)))
+        rw (e, «for_sent») (rw one (ih (suc n) (sinceOf n since (r .«send_timestamp_ns»)) most long (omega arith)))
 
 gap-of : (rs : List Row) (end : ℕ) → Agrees (keys (receivedOf rs)) rs → length rs ≤ 2048
     → «gap_summary» (sentOf rs) (receivedOf rs) end

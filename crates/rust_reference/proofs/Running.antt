@@ -15,7 +15,8 @@ use Rattle.continuity.specs.Returns.{recordReceivedTpdu, recordReturnMessage}
 use Rattle.report.specs.Report.{reporting}
 use Rattle.observer.proofs.Judging.{well}
 use Rattle.observer.proofs.Keeping.{well-rows}
-use Rattle.observer.specs.Answer.{observerOf}
+use Rattle.rows.specs.Columns.{columnLengths}
+use Rattle.rows.proofs.Within.{holds-2048}
 use Rattle.observer.specs.Counts.{fresh}
 use Rattle.rust_reference.specs.Claims.{NoneAdded, AllTyped, NoneAddedIn, Runs, RunsUpTo2048}
 use Rattle.rust_reference.specs.Sheet.{sentOf, Same}
@@ -66,7 +67,7 @@ related rust o same (call ∷ calls) typed added =
     one-more rust o call calls (s .0) (related (rustAfterCall rust call) (afterCall o call) (s .1) calls (typed .1) (added .1))
 
 pub runs-same : Runs
-runs-same qs ts ls ms calls typed added = related new (observerOf qs ts ls ms fresh) (new-same qs ts ls ms) calls typed added
+runs-same o fresh calls typed added = related new o (new-same o fresh) calls typed added
 
 -- ---- up to 2,048 sequences
 
@@ -209,4 +210,4 @@ related-free rust o same room (call ∷ calls) typed h =
 
 pub runs-of-2048 : RunsUpTo2048
 unfolding capacity
-runs-of-2048 qs ts ls ms a b c d calls typed h = related-free new (observerOf qs ts ls ms fresh) (new-same qs ts ls ms) (omega arith) calls typed h
+runs-of-2048 o fresh long calls typed h = related-free new o (new-same o fresh) (holds-2048 (columnLengths (o .columns)) long) calls typed h

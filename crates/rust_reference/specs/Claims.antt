@@ -24,7 +24,7 @@ use Rattle.measurement_damage.specs.Echo.{echoOf}
 use Rattle.plan.specs.Plan.{intervalOf, judgePlan}
 use Rattle.traffic.specs.Generate.{firstSequence, generateOf}
 use Rattle.plan.specs.declared.TrafficPlan.{TrafficPlan}
-use Rattle.observer.specs.Answer.{observerOf}
+use Rattle.rows.specs.Columns.{columnLengths, EachHas}
 use Rattle.observer.specs.Counts.{fresh}
 use Rattle.observer.specs.Judge.{wellFormed}
 use Rattle.observer.specs.Observer.{Observer, rows}
@@ -153,7 +153,7 @@ Generate = (flow : InnerIpFlow) (plan : TrafficPlan) (next : ℕ) → InRange fl
 -- `Same` relates the Rust's observer and a sheet. A fresh sheet of any columns is related to the Rust's new observer,
 -- and each call on related ones has the same answer and leaves them related.
 abbrev pub New : Type 0
-New = (qs ts ls ms : List ℕ) → Same traffic.new (observerOf qs ts ls ms fresh)
+New = (o : Observer) → o .counts ≡ fresh → Same traffic.new o
 
 -- Every sheet on which 21 is not due, and whose latencies are u64s, is related to an observer of the Rust, whether or
 -- not calls lead there.
@@ -209,15 +209,13 @@ SameRun o calls =
 
 -- Every list of calls on a fresh sheet of any columns.
 abbrev pub Runs : Type 0
-Runs = (qs ts ls ms : List ℕ) (calls : List Call) → AllTyped calls → NoneAddedIn (observerOf qs ts ls ms fresh) calls
-    → SameRun (observerOf qs ts ls ms fresh) calls
+Runs = (o : Observer) → o .counts ≡ fresh → (calls : List Call) → AllTyped calls → NoneAddedIn o calls → SameRun o calls
 
 -- "runs up to 2,048 sequences": with columns of 2,048 entries, all that is asked is that the Rust's map of what was
 -- sent ends with no more than these.
 abbrev pub RunsUpTo2048 : Type 0
-RunsUpTo2048 = (qs ts ls ms : List ℕ) → 2048 ≤ length qs → 2048 ≤ length ts → 2048 ≤ length ls → 2048 ≤ length ms
-    → (calls : List Call) → AllTyped calls → length (rustAfter traffic.new calls .sent) ≤ 2048
-    → SameRun (observerOf qs ts ls ms fresh) calls
+RunsUpTo2048 = (o : Observer) → o .counts ≡ fresh → EachHas 2048 (columnLengths (o .columns)) → (calls : List Call)
+    → AllTyped calls → length (rustAfter traffic.new calls .sent) ≤ 2048 → SameRun o calls
 
 -- ---- reflector.rs
 

@@ -14,7 +14,7 @@ use Rattle.rust_reference.specs.Traffic.{ContinuityObserver}
 -- The map of what was sent: an entry for each used row, its send time.
 abbrev pub sentOf : List Row → List Entry
 sentOf [] = []
-sentOf (r ∷ rs) = record { key = r .sequence; value = r .sent } ∷ sentOf rs
+sentOf (r ∷ rs) = record { key = r .sequence; value = r .«send_timestamp_ns» } ∷ sentOf rs
 
 -- The map of what was received: an entry for each marked row, its latency.
 abbrev pub receivedOf : List Row → List Entry

@@ -79,6 +79,8 @@ module _ (o : Observer) (plan : TrafficPlan) (next : ℕ) where
 
 pub all-or-nothing : AllOrNothing
 all-or-nothing = record {
+  entered-where-room = λ o plan next packets w j h.
+      ap (λ (s : Step). s .outcome) (sym (ap (step o) (entering-whole o packets h) ∙ plan-judged o plan next w (gives packets) j));
   entered-whole = λ o plan next g. entered o plan next (way o plan next) g;
   full-only-if-full = λ o plan next g. full-only o plan next (way o plan next) g;
   refused-whole = λ o plan next n g. unchanged o plan next (way o plan next) n g;

@@ -23,6 +23,7 @@ use Rattle.columns.specs.Place.{place, holds}
 use Rattle.observer.specs.Place.{placeOf, wasSent, rowOf}
 use Rattle.observer.specs.Sending.{resent, recordSent}
 use Rattle.observer.specs.InTurn.{Steps, inTurn}
+use Rattle.rows.specs.Columns.{Columns}
 use Rattle.observer.specs.Answer.{observerOf, recorded}
 use Rattle.sent_plan.specs.SendingPlan.{sendPacket, sendInTurn, rowsNeeded, freeRows, enteringCauses, entering, recordSentPlan}
 use Rattle.observer.specs.Claims.{sending}
@@ -312,13 +313,13 @@ module _ (o : Observer) (packets : List MeasurementHeader) where
 
 -- the code's test, in the column: n rows are needed
 module _ {o : Observer} (w : Well o) (plan : TrafficPlan) (next n room : ℕ)
-    (is : n + place (next + plan .«packet_count») (take (o .counts .used) (o .sequences)) ≡ plan .«packet_count» + place next (take (o .counts .used) (o .sequences)))
+    (is : n + place (next + plan .«packet_count») (take (o .counts .used) (o .columns .sequences)) ≡ plan .«packet_count» + place next (take (o .counts .used) (o .columns .sequences)))
     (all : room ≡ capacity o) where
   needed-is : rowsNeeded (rows o) (packetsOf plan next) ≡ n
   needed-is =
       let z : next + 0 ≡ next = omega arith in
-      let first : placeOf (next + 0) (rows o) ≡ place next (take (o .counts .used) (o .sequences)) = ap (λ (q : ℕ). placeOf q (rows o)) z ∙ ap (place next) (w .fronts .sequences) in
-      let last : placeOf (next + 0 + plan .«packet_count») (rows o) ≡ place (next + plan .«packet_count») (take (o .counts .used) (o .sequences)) =
+      let first : placeOf (next + 0) (rows o) ≡ place next (take (o .counts .used) (o .columns .sequences)) = ap (λ (q : ℕ). placeOf q (rows o)) z ∙ ap (place next) (w .fronts .sequences) in
+      let last : placeOf (next + 0 + plan .«packet_count») (rows o) ≡ place (next + plan .«packet_count») (take (o .counts .used) (o .columns .sequences)) =
       ap (λ (q : ℕ). placeOf (q + plan .«packet_count») (rows o)) z ∙ ap (place (next + plan .«packet_count»)) (w .fronts .sequences) in
       omega (arith, counted plan next o (w .accepted), is, first, last)
 
@@ -363,12 +364,12 @@ module _ (plan : TrafficPlan) (next : ℕ) where
       ap (λ (n : ℕ). packetsFrom plan next n k) e ∙ ap (λ (x : ℕ). packetAt plan next k ∷ packetsFrom plan next (plan .«packet_count» - (k + 1)) x) (sym (add-one k))
 
   -- packet k is sent
-  module _ (r : Recorded) (qs ts ls ms : List ℕ) (o : Observer) (k time : ℕ) (e : recorded r qs ts ls ms ≡ recordSent o (next + k) time) where
-    pub sent-well : wellFormed o ≡ true → wellFormed (observerOf qs ts ls ms (r .counts)) ≡ true
+  module _ (r : Recorded) (c : Columns) (o : Observer) (k time : ℕ) (e : recorded r c ≡ recordSent o (next + k) time) where
+    pub sent-well : wellFormed o ≡ true → wellFormed (observerOf c (r .counts)) ≡ true
     sent-well w = ap (λ (s : Step). wellFormed (s .observer)) e ∙ calls-keep-well o (sending (next + k) time ∷ []) w
 
     pub sent-on : time ≡ timeAt plan k → k < plan .«packet_count» → (whole : Observer) → sendInTurn o (leftFrom k) .observer ≡ whole
-        → sendInTurn (observerOf qs ts ls ms (r .counts)) (leftFrom (k + 1)) .observer ≡ whole
+        → sendInTurn (observerOf c (r .counts)) (leftFrom (k + 1)) .observer ≡ whole
     sent-on et h whole on =
         ap (λ (s : Step). sendInTurn (s .observer) (leftFrom (k + 1)) .observer) e
         ∙ ap (λ (x : ℕ). sendInTurn (recordSent o (next + k) x .observer) (leftFrom (k + 1)) .observer) et

@@ -1,14 +1,17 @@
 -- What is claimed of entering a plan: all of it or nothing. proofs/PlanClaims.antt proves it.
-use Prim.Native.Nat.{ℕ}
+use Prim.Native.Nat.{ℕ, _≤_}
 use mathlib.Core.Path.{_≡_}
-use mathlib.Core.List.{List·Memᴰ}
+use mathlib.Core.Bool.{true}
+use mathlib.Core.List.{List, List·Memᴰ}
 use lib.ListN.{replicate}
 use Rattle.error.specs.Number.{observerFull}
 use Rattle.error.specs.Outcome.{refused, gives}
+use Rattle.measurement.specs.declared.MeasurementHeader.{MeasurementHeader}
 use Rattle.plan.specs.Plan.{packetsOf, judgePlan}
 use Rattle.plan.specs.declared.TrafficPlan.{TrafficPlan}
-use Rattle.observer.specs.Observer.{Observer}
-use Rattle.sent_plan.specs.SendingPlan.{sendInTurn, recordSentPlan}
+use Rattle.observer.specs.Observer.{Observer, rows}
+use Rattle.observer.specs.Judge.{wellFormed}
+use Rattle.sent_plan.specs.SendingPlan.{sendInTurn, rowsNeeded, freeRows, recordSentPlan}
 
 -- A plan that was entered: the generator's judge gives its packets, the single calls in turn refuse none of them, and
 -- the observer is the one that they leave.
@@ -33,7 +36,15 @@ abbrev pub RefusedWhole : Type 0
 RefusedWhole = (o : Observer) (plan : TrafficPlan) (next n : ℕ)
     → recordSentPlan o plan next .outcome ≡ refused n → recordSentPlan o plan next .observer ≡ o
 
+-- A plan that the generator's judge accepts is entered wherever its packets find rows: on every sheet that 21 does not
+-- refuse, fresh or not.
+abbrev pub EnteredWhereRoom : Type 0
+EnteredWhereRoom = (o : Observer) (plan : TrafficPlan) (next : ℕ) (packets : List MeasurementHeader)
+    → wellFormed o ≡ true → judgePlan plan next .outcome ≡ gives packets → rowsNeeded (rows o) packets ≤ freeRows o
+    → recordSentPlan o plan next .outcome ≡ gives tt
+
 pub record AllOrNothing : Type 0 where
+  pub entered-where-room : EnteredWhereRoom
   pub entered-whole : EnteredWhole
   pub full-only-if-full : FullOnlyIfFull
   pub refused-whole : RefusedWhole

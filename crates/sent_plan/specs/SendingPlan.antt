@@ -44,8 +44,5 @@ entering o packets = firstCause (enteringCauses o packets) (gives (sendInTurn o 
 -- generator's, and is not changed here.
 unfoldable pub recordSentPlan : Observer → TrafficPlan → ℕ → Step
 recordSentPlan o plan next =
-    step o (judged o (elim (judgePlan plan next .outcome) [ refused n ↦ refused n | gives packets ↦ entering o packets ]))
-
--- The packets of a plan that was accepted, on an observer that was judged: for the contract of a private function.
-abbrev pub enteringStep : Observer → List MeasurementHeader → Step
-enteringStep o packets = step o (entering o packets)
+    step o
+    (judged o (elim (judgePlan plan next .outcome) [ refused n ↦ refused n | gives packets ↦ entering o packets ]))

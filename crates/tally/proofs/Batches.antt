@@ -19,8 +19,9 @@ use Rattle.observer.specs.Judge.{wellFormed, judged, Step, step, afterReading}
 use Rattle.observer.specs.Place.{wasSent}
 use Rattle.observer.specs.Sending.{recordSent}
 use Rattle.observer.specs.Returning.{recordReturn}
-use Rattle.observer.specs.InTurn.{Steps, inTurn}
-use Rattle.received_tpdus.specs.Received.{arrivedIn}
+use Rattle.observer.specs.InTurn.{inTurn}
+use Rattle.received_tpdus.specs.Received.{takeReturns}
+use Rattle.received_tpdus.specs.Received as received
 use Rattle.sent_plan.specs.SendingPlan.{sendInTurn, rowsNeeded, freeRows}
 use Rattle.observer.proofs.Calls.{judged-malformed, judged-well, refusing-malformed, return-malformed, sent-malformed, sent-again, sent-full, sent-new}
 use Rattle.sent_plan.proofs.SendingPlan.{one-refused, entering-whole, plan-judged}
@@ -113,10 +114,16 @@ returns-taken o times lengths bytes returned numbers = go (wellFormed o) refl
     rs : List Received
     rs = receivedOf times (take (returnsIn times lengths returned numbers) (tpdusOf lengths bytes))
 
-    go : (b : Bool) → wellFormed o ≡ b → arrivedIn o numbers (judged o (gives (inTurn recordReceived o rs))) .observer ≡ receiveAll o (map handedTpdu rs)
-    go true w = ap (λ (x : Outcome Steps). arrivedIn o numbers x .observer) (sym (judged-well o (gives (inTurn recordReceived o rs)) w)) ∙ takes o rs
+    given : Outcome received.ReturnsTaken
+    given = gives (takeReturns o times (take (returnsIn times lengths returned numbers) (tpdusOf lengths bytes)) returned numbers)
+
+    leftBy : Outcome received.ReturnsTaken → Observer
+    leftBy x = elim x as (λ (y : Outcome received.ReturnsTaken). received.ReturnsTaken) [ refused n ↦ record { outcome = refused n; returned = returned; numbers = numbers; observer = o } | gives taken ↦ taken ] .observer
+
+    go : (b : Bool) → wellFormed o ≡ b → leftBy (judged o given) ≡ receiveAll o (map handedTpdu rs)
+    go true w = ap leftBy (sym (judged-well o given w)) ∙ takes o rs
     go false w =
-        ap (λ (x : Outcome Steps). arrivedIn o numbers x .observer) (sym (judged-malformed o (gives (inTurn recordReceived o rs)) w))
+        ap leftBy (sym (judged-malformed o given w))
         ∙ left-by-all o (left-by o w) rs
         ∙ takes o rs
 

@@ -21,7 +21,8 @@ use Rattle.observer.specs.Observer.{Observer, capacity, rows, withRows}
 use Rattle.observer.specs.Judge.{wellFormed, judged, afterReading}
 use Rattle.columns.specs.Place.{holds}
 use Rattle.observer.specs.Sending.{entered, sendingCauses, recordSent}
-use Rattle.observer.specs.Returning.{arrivalCauses, arrived, arrival, recordReturn}
+use Rattle.observer.specs.Returning.{returnCauses, afterReturn, recordReturn}
+use Rattle.rows.specs.Columns.{columnsOf}
 use Rattle.observer.specs.Answer.{observerOf}
 use Rattle.continuity.specs.Returns.{sequenceRead, recordReceivedTpdu}
 use Rattle.report.specs.Report.{reportOf, reporting}
@@ -45,7 +46,7 @@ range4 q t g h = record {
 -- the observer of five rows, some of them used: sequences, send times, latencies, marks
 abbrev observed : List ℕ → List ℕ → List ℕ → List ℕ → ℕ → Observer
 observed qs ts ls ms used =
-    observerOf qs ts ls ms (record { used = used; «duplicate_packets» = 0; «out_of_order_packets» = 0; «gtpu_error_indications» = 0 })
+    observerOf (columnsOf qs ts ls ms) (record { used = used; «duplicate_packets» = 0; «out_of_order_packets» = 0; «gtpu_error_indications» = 0 })
 
 abbrev one : Observer
 one = observed (1 ∷ 9 ∷ 9 ∷ 9 ∷ 9 ∷ []) (0 ∷ 9 ∷ 9 ∷ 9 ∷ 9 ∷ []) (0 ∷ 9 ∷ 9 ∷ 9 ∷ 9 ∷ []) (0 ∷ 9 ∷ 9 ∷ 9 ∷ 9 ∷ []) 1
@@ -107,11 +108,11 @@ read-as o q sentAt time g h =
     (reads-back-alone ipv4Flow q sentAt (range4 q sentAt g h))
 
 return-2 : recordReturn sent 50 2 .observer ≡ with2
-unfolding firstCause capacity rows withRows wellFormed judged holds arrivalCauses arrived arrival recordReturn
+unfolding firstCause capacity rows withRows wellFormed judged holds returnCauses afterReturn recordReturn
 return-2 = refl
 
 return-5 : recordReturn with2 60 5 .observer ≡ with2And5
-unfolding firstCause capacity rows withRows wellFormed judged holds arrivalCauses arrived arrival recordReturn
+unfolding firstCause capacity rows withRows wellFormed judged holds returnCauses afterReturn recordReturn
 return-5 = refl
 
 returned-2 : returns sentFive 2 10 50 ≡ with2

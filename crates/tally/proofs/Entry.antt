@@ -18,7 +18,6 @@ use Rattle.observer.specs.Judge.{wellFormed, Step, step}
 use Rattle.columns.specs.Place.{holds}
 use Rattle.observer.specs.Place.{placeOf, wasSent}
 use Rattle.observer.specs.Sending.{recordSent}
-use Rattle.observer.specs.Answer.{observerOf}
 use Rattle.observer.specs.Claims.{sending}
 use Rattle.observer.specs.declared.ObserverCounts.{ObserverCounts}
 use Rattle.columns.proofs.Search.{place-at}
@@ -127,9 +126,7 @@ module _ (plan : TrafficPlan) (next : ℕ) where
       }
 
   fresh-well : (o : Observer) (c : ObserverCounts) → c ≡ o .counts → c ≡ fresh → wellFormed o ≡ true
-  fresh-well o c e f =
-      ap (λ (x : ObserverCounts). wellFormed (observerOf (o .sequences) (o .sendTimes) (o .latencies) (o .marks) x)) (sym e ∙ f)
-      ∙ fresh-is-well (o .sequences) (o .sendTimes) (o .latencies) (o .marks)
+  fresh-well o c e f = fresh-is-well o (sym e ∙ f)
 
   fresh-rows : (o : Observer) → o .counts .used ≡ 0 → rows o ≡ []
   unfolding rows

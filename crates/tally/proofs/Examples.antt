@@ -32,7 +32,7 @@ use Rattle.columns.specs.Place.{holds}
 use Rattle.observer.specs.Sending as sending
 use Rattle.observer.specs.Sending.{sendingCauses, recordSent}
 use Rattle.observer.specs.Returning as returning
-use Rattle.observer.specs.Returning.{arrivalCauses, arrival, recordReturn}
+use Rattle.observer.specs.Returning.{returnCauses, recordReturn}
 use Rattle.continuity.specs.Kinds.{messageKind}
 use Rattle.continuity.specs.Returns.{sequenceRead, recordReceivedTpdu, recordReturnMessage, asMessage}
 use Rattle.continuity.specs.declared.GtpuReturnDatagramOutcome.the-variants.{MeasurementTpdu}
@@ -74,12 +74,12 @@ answer-is tpduCall tpdu x e = ap (λ (y : Outcome ℕ). isRefused (step-of y .ou
 answer-is messageCall tpdu x e = ap (λ (y : Outcome ℕ). isRefused (asMessage MeasurementTpdu (step-of y) .outcome)) e
 
 takes-1 : (call : Call) → answer-of call (gives 1) ≡ false
-unfolding answer-of firstCause packetsOf packetsFrom capacity rows withRows wellFormed judged holds sending.entered sendingCauses recordSent arrivalCauses returning.arrived arrival recordReturn oneMore
+unfolding answer-of firstCause packetsOf packetsFrom capacity rows withRows wellFormed judged holds sending.entered sendingCauses recordSent returnCauses returning.afterReturn recordReturn oneMore
 takes-1 tpduCall = refl
 takes-1 messageCall = refl
 
 refuses-12 : answer-of tpduCall (refused 12) ≡ true
-unfolding answer-of firstCause packetsOf packetsFrom capacity rows withRows wellFormed judged holds sending.entered sendingCauses recordSent arrivalCauses returning.arrived arrival recordReturn oneMore
+unfolding answer-of firstCause packetsOf packetsFrom capacity rows withRows wellFormed judged holds sending.entered sendingCauses recordSent returnCauses returning.afterReturn recordReturn oneMore
 refuses-12 = refl
 
 sequence-given : (tpdu : List ℕ) (d : DecodedTpdu) → readOf tpdu ≡ gives d → sequenceRead tpdu ≡ gives (d .measurement .sequence)

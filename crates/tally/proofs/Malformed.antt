@@ -15,7 +15,7 @@ use Rattle.continuity.specs.Kinds.{messageKind}
 use Rattle.continuity.specs.Returns.{sequenceRead, recordReceivedTpdu, MessageStep, asMessage, unchanged, recordKind, recordReturnMessage}
 use Rattle.continuity.specs.declared.GtpuReturnDatagramOutcome.{GtpuReturnDatagramOutcome}
 use Rattle.continuity.specs.declared.GtpuReturnDatagramOutcome.the-variants.{MeasurementTpdu, ErrorIndication, EchoResponse, Ignored}
-use Rattle.received_tpdus.specs.Received.{recordReceivedTpdus}
+use Rattle.received_tpdus.proofs.Received.{received-malformed}
 use Rattle.report.specs.Report.{reporting}
 use Rattle.tally.specs.Malformed.{MalformedFirst}
 
@@ -57,12 +57,12 @@ module _ (o : Observer) (bad : wellFormed o ≡ false) where
       by (gives kind) = by-kind time payload kind
 
 pub malformed-first : MalformedFirst
-unfolding recordSentPlan recordReceivedTpdus reporting
+unfolding recordSentPlan reporting
 malformed-first o bad = record {
   sending = λ q t. sym (sent-malformed o q t bad);
   sending-a-plan = λ plan next. ap (step o) (sym (judged-malformed o _ bad));
   receiving = received o bad;
-  receiving-a-list = λ times lengths bytes returned numbers. rw (← judged-malformed o _ bad, ← judged-malformed o _ bad);
+  receiving-a-list = λ times lengths bytes returned numbers. sym (received-malformed o times lengths bytes returned numbers bad);
   returning = message o bad;
   report = λ start end budget. sym (judged-malformed o _ bad);
 }

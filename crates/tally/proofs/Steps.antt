@@ -106,8 +106,8 @@ module _ {q n : ℕ} {o : Observer} (i : Ready q n o) (t k : ℕ) (h : k < n) wh
   still-well : wellFormed (call .observer) ≡ true
   still-well = calls-keep-well o (returning t (row .sequence) ∷ []) (i .well)
 
-  sent-is : rowOf (row .sequence) (rows o) .sent ≡ row .sent
-  sent-is = ap (λ (r : Row). r .sent) row-is
+  sent-is : rowOf (row .sequence) (rows o) .«send_timestamp_ns» ≡ row .«send_timestamp_ns»
+  sent-is = ap (λ (r : Row). r .«send_timestamp_ns») row-is
 
   mark-is : rowOf (row .sequence) (rows o) .mark ≡ row .mark
   mark-is = ap (λ (r : Row). r .mark) row-is
@@ -147,19 +147,19 @@ module _ {q n : ℕ} {o : Observer} (i : Ready q n o) (t k : ℕ) (h : k < n) wh
   kept : {x : Step} → x ≡ call → wellFormed (x .observer) ≡ true
   kept e = subst (λ (s : Step). wellFormed (s .observer) ≡ true) (sym e) still-well
 
-  pub return-answers : Answers q n o (ofStep call) (elim (ltb t (row .sent)) [ true ↦ readOff o | false ↦ counted (readOff o) k t row ])
-  return-answers = go (ltb t (row .sent)) (eqb (row .mark) 1) refl refl
+  pub return-answers : Answers q n o (ofStep call) (elim (ltb t (row .«send_timestamp_ns»)) [ true ↦ readOff o | false ↦ counted (readOff o) k t row ])
+  return-answers = go (ltb t (row .«send_timestamp_ns»)) (eqb (row .mark) 1) refl refl
     where
-      go : (early again : Bool) → ltb t (row .sent) ≡ early → eqb (row .mark) 1 ≡ again
+      go : (early again : Bool) → ltb t (row .«send_timestamp_ns») ≡ early → eqb (row .mark) 1 ≡ again
           → Answers q n o (ofStep call) (elim early [ true ↦ readOff o | false ↦ counted (readOff o) k t row ])
       go true again e f =
-          taken-as (return-early o (i .well) (row .sequence) t (found .0) (omega (arith, sent-is, ltb-true t (row .sent) e)))
+          taken-as (return-early o (i .well) (row .sequence) t (found .0) (omega (arith, sent-is, ltb-true t (row .«send_timestamp_ns») e)))
           (record { ready = i; is = refl; unchanged = λ u. refl })
       go false true e f =
-          let law = return-duplicate o (i .well) (row .sequence) t (found .0) (omega (arith, sent-is, ltb-false t (row .sent) e)) (mark-is ∙ eqb-true (row .mark) 1 f) in
+          let law = return-duplicate o (i .well) (row .sequence) t (found .0) (omega (arith, sent-is, ltb-false t (row .«send_timestamp_ns») e)) (mark-is ∙ eqb-true (row .mark) 1 f) in
           taken-as law (record { ready = ready-duplicate (kept law); is = duplicate-is f; unchanged = λ u. absurd (no u) })
       go false false e f =
-          let law = return-first o (i .well) (row .sequence) t (found .0) (omega (arith, sent-is, ltb-false t (row .sent) e)) (λ m. eqb-false (row .mark) 1 f (sym mark-is ∙ m)) in
+          let law = return-first o (i .well) (row .sequence) t (found .0) (omega (arith, sent-is, ltb-false t (row .«send_timestamp_ns») e)) (λ m. eqb-false (row .mark) 1 f (sym mark-is ∙ m)) in
           taken-as law (record { ready = ready-first (kept law); is = next-is f; unchanged = λ u. absurd (no u) })
 
 -- ---- the two calls, with what was read
@@ -188,7 +188,7 @@ module _ (a : Tally) (r : Fed) where
   tally-refused m e = rw (e, tallyReturn)
 
   pub tally-given : (d : DecodedTpdu) → readOf (r .arrived) ≡ gives d
-      → elim (ltb (r .time) (rowOfPacket (r .packet) (a .rows) .sent)) [ true ↦ a | false ↦ counted a (r .packet) (r .time) (rowOfPacket (r .packet) (a .rows)) ]
+      → elim (ltb (r .time) (rowOfPacket (r .packet) (a .rows) .«send_timestamp_ns»)) [ true ↦ a | false ↦ counted a (r .packet) (r .time) (rowOfPacket (r .packet) (a .rows)) ]
       ≡ tallyReturn a r
   unfolding tallyReturn
   tally-given d e = rw (e, tallyReturn)

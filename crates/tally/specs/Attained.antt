@@ -16,6 +16,7 @@ use Rattle.plan.specs.Claims.{Acceptable}
 use Rattle.plan.specs.declared.TrafficPlan.{TrafficPlan}
 use Rattle.observer.specs.Counts.{fresh}
 use Rattle.observer.specs.Observer.{Observer, capacity, rows}
+use Rattle.tally.specs.Tally.{eachColumn}
 use Rattle.observer.specs.Answer.{observerOf}
 use Rattle.tally.specs.Tally.{rowFor}
 use Rattle.tally.specs.Cases.{ipv4Flow, ipv6Flow}
@@ -71,7 +72,7 @@ examplePlan = record { «packet_count» = 1; «target_rate_pps» = 1; «first_se
 
 -- columns of one row, of any contents
 abbrev pub exampleObserver : Observer
-exampleObserver = observerOf (7 ∷ []) (7 ∷ []) (7 ∷ []) (7 ∷ []) fresh
+exampleObserver = observerOf (eachColumn (7 ∷ [])) fresh
 
 -- What each leg ends with: what reaches each echo, and what arrives.
 abbrev pub legEnds : {sent arrived : List ℕ} {n : ℕ} → Travelled sent n arrived → List (List ℕ)

@@ -32,7 +32,7 @@ handedTpdu r = record { call = tpduCall; time = r .time; tpdu = r .tpdu }
 -- A list of returns, taken in one call: on a malformed sheet too, which every single call leaves as it was.
 abbrev pub ReturnsTaken : Type 0
 ReturnsTaken = (o : Observer) (times lengths bytes returned numbers : List ℕ)
-    → recordReceivedTpdus o times lengths bytes returned numbers .arrived .observer
+    → recordReceivedTpdus o times lengths bytes returned numbers .observer
     ≡ receiveAll o
     (map handedTpdu (receivedOf times (take (returnsIn times lengths returned numbers) (tpdusOf lengths bytes))))
 

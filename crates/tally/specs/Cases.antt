@@ -20,6 +20,7 @@ use Rattle.gtpu.specs.Element.{elementsOf}
 use Rattle.observer.specs.Counts.{fresh}
 use Rattle.observer.specs.Observer.{Observer}
 use Rattle.observer.specs.Sending.{recordSent}
+use Rattle.tally.specs.Tally.{eachColumn}
 use Rattle.observer.specs.Answer.{observerOf}
 use Rattle.continuity.specs.Returns.{recordReceivedTpdu}
 use Rattle.report.specs.Report.{reporting}
@@ -77,7 +78,7 @@ sends o (q ∷ qs) [] = o
 sends o (q ∷ qs) (t ∷ ts) = sends (recordSent o q t .observer) qs ts
 
 abbrev pub freshObserver : Observer
-freshObserver = observerOf (replicate 5 9) (replicate 5 9) (replicate 5 9) (replicate 5 9) fresh
+freshObserver = observerOf (eachColumn (replicate 5 9)) fresh
 
 abbrev pub sentFive : Observer
 sentFive = sends freshObserver (1 ∷ 2 ∷ 3 ∷ 4 ∷ 5 ∷ []) (0 ∷ 10 ∷ 20 ∷ 30 ∷ 40 ∷ [])

@@ -26,10 +26,7 @@ pub record Refuses21 (o : Observer) : Type 0 where
       → recordReceivedTpdu o time tpdu ≡ record { outcome = refused malformedObserver; observer = o }
   pub receiving-a-list : (times lengths bytes returned numbers : List ℕ)
       → recordReceivedTpdus o times lengths bytes returned numbers
-      ≡ record {
-        returned = returned;
-        arrived = record { outcome = refused malformedObserver; numbers = numbers; observer = o };
-      }
+      ≡ record { outcome = refused malformedObserver; returned = returned; numbers = numbers; observer = o }
   pub returning : (time messageType : ℕ) (payload : List ℕ)
       → recordReturnMessage o time messageType payload ≡ record { outcome = refused malformedObserver; observer = o }
   pub report : (windowStart windowEnd : ℕ) (budget : PacketContinuityBudget)

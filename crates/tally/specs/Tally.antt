@@ -12,7 +12,8 @@ use Rattle.evidence.specs.declared.PacketContinuityReport.{PacketContinuityRepo
 use Rattle.measurement.specs.declared.MeasurementHeader.{MeasurementHeader}
 use Rattle.measurement_reading.specs.Read.{readOf}
 use Rattle.counter.specs.Counter.{oneMore}
-use Rattle.observer.specs.Observer.{Row}
+use Rattle.rows.specs.Columns.{Columns, columnsOf}
+use Rattle.observer.specs.Observer.{Row, rowOfFields}
 use Rattle.observer.specs.declared.ObserverCounts.{ObserverCounts}
 use Rattle.report.specs.Report.{reportOf}
 
@@ -25,7 +26,7 @@ pub record Tally : Type 0 where
 
 -- "a row for each packet, with its sequence and send time, latency 0, mark 0"
 abbrev pub rowFor : MeasurementHeader → Row
-rowFor packet = record { sequence = packet .sequence; sent = packet .«send_timestamp_ns»; latency = 0; mark = 0 }
+rowFor packet = rowOfFields (packet .sequence) (packet .«send_timestamp_ns») 0 0
 
 -- "It has, in plan order, a row for each packet .., and the sheet's counters at 0."
 abbrev pub tallyOf : List MeasurementHeader → Tally
@@ -43,7 +44,7 @@ isRefused (gives x) = false
 
 -- the row of packet k (no list of returns here has a k past the last)
 abbrev pub rowOfPacket : ℕ → List Row → Row
-rowOfPacket k rows = getD rows k (record { sequence = 0; sent = 0; latency = 0; mark = 0 })
+rowOfPacket k rows = getD rows k (rowOfFields 0 0 0 0)
 
 -- "a row of higher sequence is marked"
 abbrev pub higherMarked : ℕ → List Row → Bool
@@ -52,7 +53,7 @@ higherMarked q (r ∷ rows) = (ltb q (r .sequence) && eqb (r .mark) 1) || higher
 
 -- "the row gets mark 1 and as latency its time less the send time"
 abbrev pub marked : ℕ → Row → Row
-marked time r = record { sequence = r .sequence; sent = r .sent; latency = time - r .sent; mark = 1 }
+marked time r = rowOfFields (r .sequence) (r .«send_timestamp_ns») (time - r .«send_timestamp_ns») 1
 
 -- "If its row is marked, duplicates rise by 1. Else out-of-order returns rise by 1 if a row of higher sequence is
 -- marked; then the row gets mark 1 and .. latency .. Counters saturate."
@@ -80,7 +81,7 @@ counted a k time r =
 unfoldable pub tallyReturn : Tally → Fed → Tally
 tallyReturn a r =
     let row : Row = rowOfPacket (r .packet) (a .rows) in
-    elim (isRefused (readOf (r .arrived)) || ltb (r .time) (row .sent)) [
+    elim (isRefused (readOf (r .arrived)) || ltb (r .time) (row .«send_timestamp_ns»)) [
       | true ↦ a
       | false ↦ counted a (r .packet) (r .time) row
     ]
@@ -101,3 +102,7 @@ countsOf a = record {
 -- "Its report is leaf 7 on these."
 abbrev pub tallyReport : Tally → ℕ → ℕ → PacketContinuityBudget → PacketContinuityReport
 tallyReport a windowStart windowEnd budget = reportOf (a .rows) (countsOf a) windowStart windowEnd budget
+
+-- Columns that are all the same, for examples.
+abbrev pub eachColumn : List ℕ → Columns
+eachColumn l = columnsOf l l l l

@@ -21,4 +21,5 @@ saysItself (gives report) = verdictNumbers (verdictOf report)
 abbrev pub OwnBudget : Type 0
 OwnBudget =
     (o : Observer) (windowStart windowEnd : ℕ) (budget : PacketContinuityBudget)
-    → judging (reportNumbers (reporting o windowStart windowEnd budget)) budget ≡ saysItself (reporting o windowStart windowEnd budget)
+    → judging (reportNumbers (reporting o windowStart windowEnd budget)) budget
+    ≡ saysItself (reporting o windowStart windowEnd budget)

@@ -5,11 +5,13 @@ use mathlib.Core.List.{List}
 use mathlib.Core.Bool.{true, false}
 use mathlib.Core.Option.{Option, some, none}
 use Rattle.error.specs.Outcome.{Outcome, refused, gives, outcomeNumber}
+use Rattle.observer.specs.Observer.{Observer}
 use Rattle.observer.specs.Judge.{Step}
+use Rattle.observer.specs.Answer.{lent}
 use Rattle.observer.specs.declared.ObserverCounts.{ObserverCounts}
 use Rattle.continuity.specs.Returns.{MessageStep}
-use Rattle.received_tpdus.specs.Received.{ReceivedAll}
-use Rattle.rows.specs.Columns.{Column}
+use Rattle.received_tpdus.specs.Received.{ReturnsTaken}
+use Rattle.rows.specs.Columns.{Columns, Column, Sheet}
 use Rattle.continuity.specs.declared.GtpuReturnDatagramOutcome.{GtpuReturnDatagramOutcome}
 use Rattle.continuity.specs.declared.GtpuReturnDatagramOutcome.the-variants.{MeasurementTpdu, ErrorIndication, EchoResponse, Ignored}
 use Rattle.evidence.specs.Budget.{zeroLoss}
@@ -26,17 +28,14 @@ use Rattle.testkit_sheet.specs.declared.TestkitReturnsRecorded.{TestkitR
 abbrev pub recordedNumbers : Outcome (Unit {0}) → ObserverCounts → TestkitRecorded
 recordedNumbers outcome counts = record { number = outcomeNumber outcome; counts = counts }
 
--- The answer and the four columns of an observer's call, as its step has them.
-pub record RecordedStep (r : TestkitRecorded) (qs ts ls ms : List ℕ) (s : Step) : Type 0 where
+-- The answer and the columns of an observer's call, as its step has them.
+pub record RecordedStep (r : TestkitRecorded) (columns : Columns) (s : Step) : Type 0 where
   pub answer : r ≡ recordedNumbers (s .outcome) (s .observer .counts)
-  pub sequences : qs ≡ s .observer .sequences
-  pub send-times : ts ≡ s .observer .sendTimes
-  pub latencies : ls ≡ s .observer .latencies
-  pub marks : ms ≡ s .observer .marks
+  pub same-columns : columns ≡ s .observer .columns
 
--- In contracts a lent column stands for what it holds when the call returns.
-abbrev pub RecordedLeft : TestkitRecorded → Column → Column → Column → Column → Step → Type 0
-RecordedLeft r qs ts ls ms = RecordedStep r (qs .exit .now) (ts .exit .now) (ls .exit .now) (ms .exit .now)
+-- In contracts: the answer and the columns when the call returns, by the definition for the observer that it was lent.
+abbrev pub Records : Sheet → ObserverCounts → TestkitRecorded → (Observer → Step) → Type 0
+Records s c r definition = RecordedStep r (s .exit) (definition (lent s c))
 
 abbrev pub countGiven : Outcome ℕ → ℕ
 countGiven (refused n) = 0
@@ -44,21 +43,22 @@ countGiven (gives count) = count
 
 -- A list of returns: 0 and how many there were, or the number of a refusal of the whole list and 0.
 abbrev pub returnsNumbers : Outcome ℕ → ObserverCounts → TestkitReturnsRecorded
-returnsNumbers outcome counts = record { number = outcomeNumber outcome; returns = countGiven outcome; counts = counts }
+returnsNumbers outcome counts =
+    record { number = outcomeNumber outcome; returns = countGiven outcome; counts = counts }
 
--- Its answer, the two columns that are lent for it, and the four of the sheet.
-pub record ReturnsNumbers (r : TestkitReturnsRecorded) (returned numbers qs ts ls ms : List ℕ) (s : ReceivedAll) : Type 0 where
-  pub answer : r ≡ returnsNumbers (s .arrived .outcome) (s .arrived .observer .counts)
+-- Its answer, the two columns that are lent for it, and those of the sheet.
+pub record ReturnsStep (r : TestkitReturnsRecorded) (returned numbers : List ℕ) (columns : Columns) (s : ReturnsTaken)
+    : Type 0 where
+  pub answer : r ≡ returnsNumbers (s .outcome) (s .observer .counts)
   pub returns-read : returned ≡ s .returned
-  pub returns-answered : numbers ≡ s .arrived .numbers
-  pub sequences : qs ≡ s .arrived .observer .sequences
-  pub send-times : ts ≡ s .arrived .observer .sendTimes
-  pub latencies : ls ≡ s .arrived .observer .latencies
-  pub marks : ms ≡ s .arrived .observer .marks
+  pub returns-answered : numbers ≡ s .numbers
+  pub same-columns : columns ≡ s .observer .columns
 
-abbrev pub ReturnsLeft : TestkitReturnsRecorded → Column → Column → Column → Column → Column → Column → ReceivedAll → Type 0
-ReturnsLeft r returned numbers qs ts ls ms =
-    ReturnsNumbers r (returned .exit .now) (numbers .exit .now) (qs .exit .now) (ts .exit .now) (ls .exit .now) (ms .exit .now)
+abbrev pub RecordsReturns : Sheet → ObserverCounts → TestkitReturnsRecorded → Column → Column
+    → (Observer → List ℕ → List ℕ → ReturnsTaken) → Type 0
+RecordsReturns s c r returned numbers definition =
+    ReturnsStep r (returned .exit .now) (numbers .exit .now) (s .exit)
+    (definition (lent s c) (returned .entry .now) (numbers .entry .now))
 
 -- What a datagram was: 0 where it was refused.
 abbrev pub codeOf : GtpuReturnDatagramOutcome → ℕ
@@ -83,19 +83,20 @@ ignoredType (refused n) = 0
 ignoredType (gives was) = typeOf was
 
 abbrev pub datagramNumbers : Outcome GtpuReturnDatagramOutcome → ObserverCounts → TestkitDatagramRecorded
-datagramNumbers outcome counts =
-    record { number = outcomeNumber outcome; outcome = outcomeCode outcome; «message_type» = ignoredType outcome; counts = counts }
+datagramNumbers outcome counts = record {
+  number = outcomeNumber outcome;
+  outcome = outcomeCode outcome;
+  «message_type» = ignoredType outcome;
+  counts = counts;
+}
 
--- The answer to a datagram and the four columns, as its step has them.
-pub record DatagramStep (r : TestkitDatagramRecorded) (qs ts ls ms : List ℕ) (s : MessageStep) : Type 0 where
+-- The answer to a datagram and the columns, as its step has them.
+pub record DatagramStep (r : TestkitDatagramRecorded) (columns : Columns) (s : MessageStep) : Type 0 where
   pub answer : r ≡ datagramNumbers (s .outcome) (s .observer .counts)
-  pub sequences : qs ≡ s .observer .sequences
-  pub send-times : ts ≡ s .observer .sendTimes
-  pub latencies : ls ≡ s .observer .latencies
-  pub marks : ms ≡ s .observer .marks
+  pub same-columns : columns ≡ s .observer .columns
 
-abbrev pub DatagramLeft : TestkitDatagramRecorded → Column → Column → Column → Column → MessageStep → Type 0
-DatagramLeft r qs ts ls ms = DatagramStep r (qs .exit .now) (ts .exit .now) (ls .exit .now) (ms .exit .now)
+abbrev pub RecordsDatagram : Sheet → ObserverCounts → TestkitDatagramRecorded → (Observer → MessageStep) → Type 0
+RecordsDatagram s c r definition = DatagramStep r (s .exit) (definition (lent s c))
 
 -- Latencies: absent is false and zeros.
 abbrev pub latencyNumbers : Option LatencySummary → LatencyNumbers

@@ -31,11 +31,14 @@ heldTo r budget = record {
   «gtpu_error_indications» = r .«gtpu_error_indications»;
   «max_consecutive_lost_packets» = r .«max_consecutive_lost_packets»;
   «max_gap_duration_ns» = r .«max_gap_duration_ns»;
-  latency = latencyGiven (r .«has_latency») (record { «min_ns» = r .«min_ns»; «max_ns» = r .«max_ns»; «avg_ns» = r .«avg_ns» });
+  latency =
+      latencyGiven (r .«has_latency»)
+      (record { «min_ns» = r .«min_ns»; «max_ns» = r .«max_ns»; «avg_ns» = r .«avg_ns» });
   budget = budget;
   «forwarding_proven» = ltb 0 (r .«received_packets»);
   «packet_continuity_proven» =
-      withinBudget budget (r .«lost_packets») (r .«max_consecutive_lost_packets») (r .«max_gap_duration_ns») (r .«gtpu_error_indications»);
+      withinBudget budget (r .«lost_packets») (r .«max_consecutive_lost_packets») (r .«max_gap_duration_ns»)
+      (r .«gtpu_error_indications»);
 }
 
 -- A verdict in numbers: 0 pass, else its reason; the report's number and the budget's, 0 where it has none.

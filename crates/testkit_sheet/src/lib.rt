@@ -12,7 +12,6 @@ use gtpu::GtpuMessage;
 use gtpu::SequenceNumber;
 use observer::ObserverCounts;
 use observer::Recorded;
-use observer::Recording;
 use plan::TrafficPlan;
 use received_tpdus::ReturnsRecorded;
 use received_tpdus::ReturnsRecording;
@@ -21,6 +20,7 @@ use report::Reported;
 use verdict::Verdict;
 ghost use mathlib.Core.Path.{_≡_};
 ghost use Rattle.error.specs.Outcome.{refused, gives, outcomeNumber};
+ghost use Rattle.rows.specs.Columns.{sheet};
 ghost use Rattle.observer.specs.Sending.{recordSent};
 ghost use Rattle.observer.specs.Answer.{recordingMeans, lent};
 ghost use Rattle.sent_plan.specs.SendingPlan.{recordSentPlan};
@@ -29,7 +29,7 @@ ghost use Rattle.continuity.specs.Answer.{messageMeans};
 ghost use Rattle.received_tpdus.specs.Received.{returnsMeans, recordReceivedTpdus};
 ghost use Rattle.evidence.specs.Latency.{latencyMeans};
 ghost use Rattle.report.specs.Report.{reporting};
-ghost use Rattle.testkit_sheet.specs.Interface.{recordedNumbers, countGiven, returnsNumbers, outcomeCode, ignoredType, datagramNumbers, latencyNumbers, reportNumbers, RecordedLeft, DatagramLeft, ReturnsLeft};
+ghost use Rattle.testkit_sheet.specs.Interface.{recordedNumbers, countGiven, returnsNumbers, outcomeCode, ignoredType, datagramNumbers, latencyNumbers, reportNumbers, Records, RecordsDatagram, RecordsReturns};
 ghost use Rattle.testkit_sheet.specs.Claims.{OwnBudget};
 ghost use Rattle.testkit_sheet.specs.Verdict.{latencyGiven, heldTo, verdictNumbers, judging};
 
@@ -40,22 +40,13 @@ pub struct TestkitRecorded {
     pub counts: ObserverCounts,
 }
 
-fn recording_number(answer: Recording) -> u8
-    ensures { λ r. ⌜ r ≡ outcomeNumber (recordingMeans answer) ⌝ }
-{
-    match answer {
-        Recording::Accepted => 0,
-        Recording::Refused(number) => number,
-    }
-}
-
 fn recorded_numbers(recorded: Recorded) -> TestkitRecorded
     ensures { λ r. ⌜ r ≡ recordedNumbers (recordingMeans (recorded .answer)) (recorded .counts) ⌝ }
 {
     let answer = recorded.answer;
     let counts = recorded.counts;
     TestkitRecorded {
-        number: recording_number(answer),
+        number: observer::answer_number(answer),
         counts: counts,
     }
 }
@@ -71,8 +62,8 @@ pub extern "C" fn testkit_record_sent(
     sequence: u64,
     send_timestamp_ns: u64,
 ) -> TestkitRecorded
-    ensures { λ r. ⌜ RecordedLeft r sequences «send_timestamps» latencies marks
-        (recordSent (lent sequences «send_timestamps» latencies marks counts) sequence «send_timestamp_ns») ⌝ }
+    ensures { λ r. ⌜ Records (sheet sequences «send_timestamps» latencies marks) counts r
+        (λ o. recordSent o sequence «send_timestamp_ns») ⌝ }
 {
     recorded_numbers(observer::record_sent(
         sequences,
@@ -96,8 +87,8 @@ pub extern "C" fn testkit_record_received_tpdu(
     return_timestamp_ns: u64,
     tpdu: &[u8],
 ) -> TestkitRecorded
-    ensures { λ r. ⌜ RecordedLeft r sequences «send_timestamps» latencies marks
-        (recordReceivedTpdu (lent sequences «send_timestamps» latencies marks counts) «return_timestamp_ns» (now (tpdu .entry))) ⌝ }
+    ensures { λ r. ⌜ Records (sheet sequences «send_timestamps» latencies marks) counts r
+        (λ o. recordReceivedTpdu o «return_timestamp_ns» (now (tpdu .entry))) ⌝ }
 {
     recorded_numbers(continuity::record_received_tpdu(
         sequences,
@@ -121,9 +112,8 @@ pub extern "C" fn testkit_record_sent_plan(
     plan: TrafficPlan,
     next_sequence: u64,
 ) -> TestkitRecorded
-    ensures { λ r. ⌜ RecordedLeft r sequences «send_timestamps» latencies marks
-        (recordSentPlan (lent sequences «send_timestamps» latencies marks counts)
-        plan «next_sequence») ⌝ }
+    ensures { λ r. ⌜ Records (sheet sequences «send_timestamps» latencies marks) counts r
+        (λ o. recordSentPlan o plan «next_sequence») ⌝ }
 {
     recorded_numbers(sent_plan::record_sent_plan(
         sequences,
@@ -189,9 +179,8 @@ pub extern "C" fn testkit_record_received_tpdus(
     returned: &mut [u64],
     numbers: &mut [u8],
 ) -> TestkitReturnsRecorded
-    ensures { λ r. ⌜ ReturnsLeft r returned numbers sequences «send_timestamps» latencies marks
-        (recordReceivedTpdus (lent sequences «send_timestamps» latencies marks counts)
-        (now («return_timestamps» .entry)) (now (lengths .entry)) (now (tpdus .entry)) (now (returned .entry)) (now (numbers .entry))) ⌝ }
+    ensures { λ r. ⌜ RecordsReturns (sheet sequences «send_timestamps» latencies marks) counts r returned numbers
+        (λ o. recordReceivedTpdus o (now («return_timestamps» .entry)) (now (lengths .entry)) (now (tpdus .entry))) ⌝ }
 {
     returns_numbers(received_tpdus::record_received_tpdus(
         sequences,
@@ -290,8 +279,8 @@ pub extern "C" fn testkit_record_return_gtpu_datagram(
     message_type: u8,
     payload: &[u8],
 ) -> TestkitDatagramRecorded
-    ensures { λ r. ⌜ DatagramLeft r sequences «send_timestamps» latencies marks
-        (recordReturnMessage (lent sequences «send_timestamps» latencies marks counts) «return_timestamp_ns» «message_type» (now (payload .entry))) ⌝ }
+    ensures { λ r. ⌜ RecordsDatagram (sheet sequences «send_timestamps» latencies marks) counts r
+        (λ o. recordReturnMessage o «return_timestamp_ns» «message_type» (now (payload .entry))) ⌝ }
 {
     datagram_numbers(continuity::record_return_gtpu_datagram(
         sequences,
@@ -423,7 +412,8 @@ pub extern "C" fn testkit_report(
     window_end_ns: u64,
     budget: PacketContinuityBudget,
 ) -> TestkitContinuityReport
-    ensures { λ r. ⌜ r ≡ reportNumbers (reporting (lent sequences «send_timestamps» latencies marks counts) «window_start_ns» «window_end_ns» budget) ⌝ }
+    ensures { λ r. ⌜ r ≡ reportNumbers (reporting (lent (sheet sequences «send_timestamps» latencies marks) counts)
+        «window_start_ns» «window_end_ns» budget) ⌝ }
 {
     let reported = report::report(
         sequences,

@@ -3,6 +3,7 @@ use mathlib.Core.Path.{sym, _∙_}
 use borrow.Author.Needs.{needs}
 use borrow.Author.Tests.{not-true, not-false}
 use Rattle.observer.specs.Observer.{Observer}
+use Rattle.rows.specs.Columns.{columnsOf}
 use Rattle.observer.specs.Answer.{observerOf}
 use Rattle.observer.proofs.Calls.{sent-malformed}
 use Rattle.observer.proofs.Entering.{entered-is}
@@ -14,7 +15,7 @@ abbrev start : tie.After-well-formed → tie.Start
 start c = c .before .before .before .before .before .before .before .before .before
 
 abbrev observer : tie.Start → Observer
-observer c = observerOf (c .args .sequences .now) (c .args .send-timestamps .now) (c .args .latencies .now) (c .args .marks .now) (c .args .counts)
+observer c = observerOf (columnsOf (c .args .sequences .now) (c .args .send-timestamps .now) (c .args .latencies .now) (c .args .marks .now)) (c .args .counts)
 
 well-formed-requires : tie.Need-well-formed-requires
 well-formed-requires c κs = search needs
@@ -63,7 +64,7 @@ returns-2 c =
     let put = c .before .before .before .before .before .before .before .before .before in
     let well = put .before .before .before .before .before in
     let s = start (well .before) in
-    entered-is (observer s) (s .args .sequence) (s .args .send-timestamp-ns) (put .enter .result) (c .entered .result) _ _ _ _
+    entered-is (observer s) (s .args .sequence) (s .args .send-timestamp-ns) (put .enter .result) (c .entered .result) _
     (sym (well .before .well-formed .ensures) ∙ not-false _ (well .if1 .left)) (put .enter .ensures) (c .entered .ensures)
 
 pub record-sent-spec : {M : Type 1} → statement M

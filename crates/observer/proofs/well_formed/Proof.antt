@@ -3,13 +3,14 @@ use mathlib.Core.Path.{sym}
 use native.Mathlib.Omega.{arith}
 use borrow.Author.Needs.{needs}
 use Rattle.observer.specs.Observer.{Observer, capacity}
+use Rattle.rows.specs.Columns.{columnsOf}
 use Rattle.observer.specs.Answer.{observerOf}
 use Rattle.observer.proofs.Judging.{overfull, on-columns}
 use Rattle.observer.proofs.well_formed.Statement.{statement}
 use Rattle.observer.proofs.well_formed.Tie as tie
 
 abbrev observer : tie.Start → Observer
-observer c = observerOf (c .args .sequences .now) (c .args .send-timestamps .now) (c .args .latencies .now) (c .args .marks .now) (c .args .counts)
+observer c = observerOf (columnsOf (c .args .sequences .now) (c .args .send-timestamps .now) (c .args .latencies .now) (c .args .marks .now)) (c .args .counts)
 
 capacity-requires : tie.Need-capacity-requires
 capacity-requires c κs = search needs

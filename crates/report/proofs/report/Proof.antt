@@ -5,6 +5,7 @@ use native.Mathlib.Omega.{arith}
 use borrow.Author.Needs.{needs}
 use borrow.Author.Tests.{not-true, not-false}
 use Rattle.observer.specs.Observer.{Observer}
+use Rattle.rows.specs.Columns.{columnsOf}
 use Rattle.observer.specs.Answer.{observerOf}
 use Rattle.observer.proofs.Judging.{Well, well}
 use Rattle.report.proofs.Latencies.{summary-of}
@@ -17,7 +18,7 @@ abbrev start : tie.After-well-formed → tie.Start
 start c = c .before .before .before .before .before
 
 abbrev observer : tie.Start → Observer
-observer c = observerOf (c .args .sequences .now) (c .args .send-timestamps .now) (c .args .latencies .now) (c .args .marks .now) (c .args .counts)
+observer c = observerOf (columnsOf (c .args .sequences .now) (c .args .send-timestamps .now) (c .args .latencies .now) (c .args .marks .now)) (c .args .counts)
 
 well-at : (c : tie.Else1) → Well (observer (start (c .before)))
 well-at c = well (observer (start (c .before))) (sym (c .before .well-formed .ensures) ∙ not-false _ (c .if1 .left))

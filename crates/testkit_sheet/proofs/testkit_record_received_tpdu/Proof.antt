@@ -19,8 +19,7 @@ same-length-2 c = search needs
 returns : tie.Need-returns
 returns c =
     let b = c .before .before .before .before .before in
-    stepped (c .recorded-numbers .result) (b .record-received-tpdu .result) _ _ (b .record-received-tpdu .last .1 .1 .0)
-    (b .record-received-tpdu .last .1 .1 .1 .0) _ (b .record-received-tpdu .ensures) (c .recorded-numbers .ensures)
+    stepped (c .recorded-numbers .result) (b .record-received-tpdu .result) _ _ (b .record-received-tpdu .ensures) (c .recorded-numbers .ensures)
 
 pub testkit-record-received-tpdu-spec : {M : Type 1} → statement M
 testkit-record-received-tpdu-spec =

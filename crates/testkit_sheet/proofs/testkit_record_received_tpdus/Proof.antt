@@ -25,7 +25,7 @@ same-length-4 c = search needs
 returns : tie.Need-returns
 returns c =
     let b = c .before .before .before .before .before .before .before .before .before in
-    returns-stepped (c .returns-numbers .result) (b .record-received-tpdus .result) _ _ _ _ _ _ _ (b .record-received-tpdus .ensures)
+    returns-stepped (c .returns-numbers .result) (b .record-received-tpdus .result) _ _ _ _ (b .record-received-tpdus .ensures)
     (c .returns-numbers .ensures)
 
 pub testkit-record-received-tpdus-spec : {M : Type 1} → statement M

@@ -25,8 +25,7 @@ same-length-4 c = search needs
 returns : tie.Need-returns
 returns c =
     let b = c .before .before .before .before .before .before .before .before .before in
-    stepped (c .recorded-numbers .result) (b .record-sent .result) (b .record-sent .last .0) (b .record-sent .last .1 .0) (b .record-sent .last .1 .1 .0)
-    (b .record-sent .last .1 .1 .1 .0) _ (b .record-sent .ensures) (c .recorded-numbers .ensures)
+    stepped (c .recorded-numbers .result) (b .record-sent .result) _ _ (b .record-sent .ensures) (c .recorded-numbers .ensures)
 
 pub testkit-record-sent-spec : {M : Type 1} → statement M
 testkit-record-sent-spec =

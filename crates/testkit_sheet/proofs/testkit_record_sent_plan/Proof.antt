@@ -25,8 +25,7 @@ same-length-4 c = search needs
 returns : tie.Need-returns
 returns c =
     let b = c .before .before .before .before .before .before .before .before .before in
-    stepped (c .recorded-numbers .result) (b .record-sent-plan .result) (b .record-sent-plan .last .0) (b .record-sent-plan .last .1 .0) (b .record-sent-plan .last .1 .1 .0)
-    (b .record-sent-plan .last .1 .1 .1 .0) _ (b .record-sent-plan .ensures) (c .recorded-numbers .ensures)
+    stepped (c .recorded-numbers .result) (b .record-sent-plan .result) _ _ (b .record-sent-plan .ensures) (c .recorded-numbers .ensures)
 
 pub testkit-record-sent-plan-spec : {M : Type 1} → statement M
 testkit-record-sent-plan-spec =

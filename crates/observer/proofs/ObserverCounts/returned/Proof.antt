@@ -1,9 +1,9 @@
--- `observer::ObserverCounts::arrived` meets its contract: each arm is a case of the definition.
+-- `observer::ObserverCounts::returned` meets its contract: each arm is a case of the definition.
 use mathlib.Core.Path.{sym, ap, _∙_}
 use borrow.Author.Needs.{needs}
 use Rattle.observer.specs.Answer.{acceptance, afterArrival}
-use Rattle.observer.proofs.ObserverCounts.arrived.Statement.{statement}
-use Rattle.observer.proofs.ObserverCounts.arrived.Tie as tie
+use Rattle.observer.proofs.ObserverCounts.returned.Statement.{statement}
+use Rattle.observer.proofs.ObserverCounts.returned.Tie as tie
 
 enum-told : tie.Need-enum-told
 enum-told c = search needs
@@ -65,8 +65,8 @@ returns-5 c = c .refused2 .ensures ∙ ap (afterArrival (c .before .before .befo
 returns-6 : tie.Need-returns-6
 returns-6 c = c .refused3 .ensures ∙ ap (afterArrival (c .before .before .before .args .self)) (sym (c .before .enum-told6 .given .1))
 
-pub arrived-spec : {M : Type 1} → statement M
-arrived-spec =
+pub returned-spec : {M : Type 1} → statement M
+returned-spec =
     tie.close
     (tie.spec
     enum-told
