@@ -8,8 +8,8 @@ use Rattle.evidence.specs.declared.PacketContinuityReport.{PacketContinuityRepo
 use Rattle.observer.specs.Observer.{Observer}
 use Rattle.observer.specs.Sending.{recordSent}
 use Rattle.report.specs.Report.{reporting}
-use Rattle.continuity.specs.Returns.{recordReceivedTpdu, recordReturnMessage}
-use Rattle.continuity.specs.declared.GtpuReturnDatagramOutcome.{GtpuReturnDatagramOutcome}
+use Rattle.return_calls.specs.Returns.{recordReceivedTpdu, recordReturnMessage}
+use Rattle.return_calls.specs.declared.GtpuReturnDatagramOutcome.{GtpuReturnDatagramOutcome}
 use Rattle.rust_reference.specs.Number.{outcomeOf}
 use Rattle.rust_reference.specs.Compared.{Compared, ComparedReturn}
 use Rattle.rust_reference.specs.Values.{«u64_max»}

@@ -7,8 +7,8 @@ use lib.Dec.{eqb, leb, ltb}
 use lib.ListN.{length}
 use Rattle.evidence.specs.declared.LatencySummary.{LatencySummary}
 use Rattle.evidence.specs.declared.PacketContinuityBudget.{PacketContinuityBudget}
-use Rattle.continuity.specs.declared.GtpuReturnDatagramOutcome.{GtpuReturnDatagramOutcome}
-use Rattle.continuity.specs.declared.GtpuReturnDatagramOutcome.the-variants.{MeasurementTpdu, ErrorIndication, EchoResponse, Ignored}
+use Rattle.return_calls.specs.declared.GtpuReturnDatagramOutcome.{GtpuReturnDatagramOutcome}
+use Rattle.return_calls.specs.declared.GtpuReturnDatagramOutcome.the-variants.{MeasurementTpdu, ErrorIndication, EchoResponse, Ignored}
 use Rattle.plan.specs.declared.TrafficPlan.{TrafficPlan}
 use Rattle.rust_reference.specs.Error as error
 use Rattle.rust_reference.specs.Error.{DataplaneTestkitError, Result, Ok, Err, InvalidPacket, Overflow, TimestampReversed, returnIf, _>>_}

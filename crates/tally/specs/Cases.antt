@@ -22,7 +22,7 @@ use Rattle.observer.specs.Observer.{Observer}
 use Rattle.observer.specs.Sending.{recordSent}
 use Rattle.tally.specs.Tally.{eachColumn}
 use Rattle.observer.specs.Answer.{observerOf}
-use Rattle.continuity.specs.Returns.{recordReceivedTpdu}
+use Rattle.return_calls.specs.Returns.{recordReceivedTpdu}
 use Rattle.report.specs.Report.{reporting}
 
 -- What a case is about: numbers, verdicts, latencies.

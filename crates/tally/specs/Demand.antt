@@ -20,7 +20,7 @@ use Rattle.observer.specs.Counts.{fresh}
 use Rattle.observer.specs.Judge.{Step}
 use Rattle.observer.specs.Observer.{Observer, rows}
 use Rattle.observer.specs.Sending.{recordSent}
-use Rattle.continuity.specs.Returns.{recordReceivedTpdu, MessageStep, recordReturnMessage}
+use Rattle.return_calls.specs.Returns.{recordReceivedTpdu, MessageStep, recordReturnMessage}
 use Rattle.report.specs.Report.{reporting}
 use Rattle.tally.specs.Tally.{Tally, tallyOf, Fed, isRefused, tallyReturns, countsOf, tallyReport}
 
