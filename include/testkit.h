@@ -257,7 +257,7 @@ enum testkit_stack {
     TESTKIT_STACK_JUDGE_REPORT = 48,
     TESTKIT_STACK_REGISTER_SESSION = 184,
     TESTKIT_STACK_REMOVE_SESSION = 128,
-    TESTKIT_STACK_HANDLE_DATAGRAM = 760
+    TESTKIT_STACK_HANDLE_DATAGRAM = 776
 };
 
 /* The version of the archive. A program compares it with TESTKIT_VERSION when it starts. */

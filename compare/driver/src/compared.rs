@@ -1,6 +1,6 @@
-//! The two hooks of the comparison, for the driver what crates/rust_reference/specs/Compared.antt is
-//! for the claims: which T-PDUs are compared with the Rust, and which of its refusals each of ours is
-//! compared with. A change that lets the two readers differ says so here and there, and nowhere else.
+//! Which T-PDUs are compared with the Rust, and as which number each of ours is compared: for the
+//! driver what crates/rust_reference/specs/Compared.antt is for the claims. A change that makes the
+//! readers differ is stated here and there, and nowhere else.
 
 use crate::ours::{Values, Written};
 use crate::ours_reflector::{Handled, Registered};
@@ -9,13 +9,14 @@ use crate::part::Part;
 use crate::rust_side::measurement::decode;
 use crate::rust_side::Outcome;
 
-/// `asTheRustTells`: a number of ours, as the Rust tells refusals apart. Each stands for itself: no
-/// two of them are one error of the Rust's.
+/// `asTheRustTells`: a number of ours, as the Rust tells refusals apart. Each is compared as itself:
+/// no two of ours are one error of the Rust.
 pub fn as_the_rust_tells(number: u8) -> u8 {
     number
 }
 
-/// `Compared`: whether a T-PDU is compared. Every one is, whatever its bytes and its length.
+/// `Compared`: whether a T-PDU is compared. Every one is, whatever its bytes and its length. It is
+/// asked where a T-PDU is read: by the reader and the echo, in a return, and in a G-PDU that is echoed.
 pub fn compared(_tpdu: &[u8]) -> bool {
     true
 }

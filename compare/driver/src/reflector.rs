@@ -18,7 +18,7 @@ use crate::reflector_due::{
 };
 use crate::reflector_inputs::{
     any_address, any_config, any_header, any_message, any_policy, any_registered, any_session,
-    any_source, any_state, any_teid, near_copy, ECHO_REQUEST, G_PDU, PLACES,
+    any_source, any_state, any_teid, near_copy, ECHO, ECHO_REQUEST, G_PDU, PLACES,
 };
 use crate::rust_side::gtpu::Message;
 use crate::rust_side::measurement::build;
@@ -36,7 +36,7 @@ pub const MOST_SESSIONS: usize = 4_096;
 const DIRT: u8 = 0xa5;
 
 /// The policies: echo, sink and count, route.
-const POLICIES: [u8; 3] = [0, 1, 2];
+const POLICIES: [u8; 3] = [ECHO, 1, 2];
 
 /// A part under way, and the numbers that were due in it.
 struct Comparison {
@@ -439,10 +439,10 @@ impl Pair {
         used.position(|session| session.local_teid == local_teid)
     }
 
-    /// Whether this message's payload is read.
+    /// Whether this message's payload is read: a G-PDU that is echoed.
     fn reads(&self, message: &Message) -> bool {
-        let echoes = self.ours.config.policy == POLICIES[0];
-        echoes && message.message_type == G_PDU && self.place_of(message.teid).is_some()
+        let is_echo = self.ours.config.policy == ECHO;
+        is_echo && message.message_type == G_PDU && self.place_of(message.teid).is_some()
     }
 
     fn handles(&mut self, run: &mut Comparison, source: Address, message: &Message) {
@@ -574,7 +574,7 @@ fn each_type(run: &mut Comparison, pair: &mut Pair) {
 /// Packets for the one session of an echo, of both versions: cut at every length, with every bit
 /// turned, the checksums made right and not, and with a short UDP length and a UDP checksum of 0.
 fn each_damage(run: &mut Comparison) {
-    let mut pair = Pair::new(&mut run.random, 1, POLICIES[0]);
+    let mut pair = Pair::new(&mut run.random, 1, ECHO);
     let known = pair.registers_one(run, 4);
     for version in [4, 6] {
         let packet = build(any_probe_of(&mut run.random, version));

@@ -24,6 +24,9 @@ pub const UNCOUNTED: usize = SESSION_BYTES;
 /// The places in which a near copy may differ: a byte of the session, or `UNCOUNTED`.
 pub const PLACES: usize = SESSION_BYTES + 1;
 
+/// The policy under which a G-PDU is read.
+pub const ECHO: u8 = 0;
+
 /// Echo twice as often as the others; any number but 0 and 1 is a route.
 pub fn any_policy(random: &mut Random) -> u8 {
     [0, 0, 1, 2, random.any_u8()][random.below(5)]

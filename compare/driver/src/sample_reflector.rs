@@ -12,7 +12,7 @@ use crate::reflector::{LEAST_OUTPUT, MOST_SESSIONS};
 use crate::reflector_due::{handled, our_state, rust_reflector, rust_session, socket_addr};
 use crate::reflector_inputs::{
     any_config, any_header, any_message, any_policy, any_registered, any_session, any_source,
-    any_state, any_teid, G_PDU,
+    any_state, any_teid, ECHO, G_PDU,
 };
 use crate::rust_side::reflector::Reflector;
 use crate::rust_side::Outcome;
@@ -205,8 +205,8 @@ fn handled_bytes(handled: &Handled) -> Vec<u8> {
 pub fn draw_handle(random: &mut Random) -> Option<Drawn> {
     let mut table = Table::any(random);
     let message = any_message(random, table.used());
-    let is_tpdu = message.message_type == G_PDU;
-    if message.payload.len() > MOST_BYTES || is_tpdu && !compared(&message.payload) {
+    let is_echoed = message.message_type == G_PDU && table.config.policy == ECHO;
+    if message.payload.len() > MOST_BYTES || is_echoed && !compared(&message.payload) {
         return None;
     }
     let source = any_source(random, table.used());

@@ -26,11 +26,12 @@ abbrev pub PlacedVerifies : Type 0
 PlacedVerifies = (before after : List ℕ) → length before % 2 ≡ 0
     → let c : ℕ = checksumOf (before ++ (0 ∷ 0 ∷ after)) in Verifies (before ++ (c / 256 ∷ c % 256 ∷ after))
 
--- The damage law: what arrives damaged, with the sum that was sent, is what was sent.
+-- The damage law: bytes that differ from those sent within one span only, and have the same sum, do not differ at all.
 abbrev pub DamageFound : Type 0
-DamageFound = (sent arrived : List ℕ) → Bytes sent → Turned sent arrived → foldOf (sumOf sent) ≡ foldOf (sumOf arrived) → arrived ≡ sent
+DamageFound = (sent arrived : List ℕ) → Bytes sent → Turned sent arrived → foldOf (sumOf sent) ≡ foldOf (sumOf arrived)
+    → arrived ≡ sent
 
--- The damage law as the receiver of a message puts it: no message that verifies came here damaged.
+-- The damage law for a receiver: a message that verifies is the one that was sent.
 abbrev pub Undamaged : List ℕ → Type 0
 Undamaged arrived = (sent : List ℕ) → Bytes sent → Verifies sent → Turned sent arrived → arrived ≡ sent
 
@@ -38,16 +39,19 @@ Undamaged arrived = (sent : List ℕ) → Bytes sent → Verifies sent → Turne
 pub record Clipped : Type 0 where
   pub to-front : (n : ℕ) (sent arrived : List ℕ) → Turned sent arrived → Turned (take n sent) (take n arrived)
   pub to-back : (n : ℕ) (sent arrived : List ℕ) → Turned sent arrived → Turned (drop n sent) (drop n arrived)
-  pub behind : (front sent arrived : List ℕ) → Bytes front → Turned sent arrived → Turned (front ++ sent) (front ++ arrived)
+  pub behind : (front sent arrived : List ℕ) → Bytes front → Turned sent arrived
+      → Turned (front ++ sent) (front ++ arrived)
   pub ahead : (back sent arrived : List ℕ) → Bytes back → Turned sent arrived → Turned (sent ++ back) (arrived ++ back)
 
--- Every bit that is turned lies in one span, from whatever bit on, of at most 16 bits, which is not 16 equal bits all turned.
+-- Every bit that is turned lies in one span, from whatever bit on, of at most 16 bits, which is not 16 equal bits all
+-- turned.
 pub record SpanTurned (sent arrived : List ℕ) : Type 0 where
   pub from : ℕ
   pub width : ℕ
   pub within : TurnedWithin from width sent arrived
   pub short : width ≤ 16
-  pub not-all : (b : Bool) → bitsIn from width sent ≡ replicate 16 b → bitsIn from width arrived ≡ replicate 16 (not b) → ⊥
+  pub not-all : (b : Bool) → bitsIn from width sent ≡ replicate 16 b
+      → bitsIn from width arrived ≡ replicate 16 (not b) → ⊥
 
 -- What counts as damage, and what does not.
 pub record DamageIs : Type 0 where
@@ -68,7 +72,7 @@ pub record DamageIs : Type 0 where
   -- not 16 equal bits all turned, at an even place and across words
   pub not-sixteen-equal : Turned (0 ∷ 0 ∷ 1 ∷ 0 ∷ []) (255 ∷ 255 ∷ 1 ∷ 0 ∷ []) → ⊥
   pub not-sixteen-across : Turned (1 ∷ 255 ∷ 255 ∷ 0 ∷ []) (1 ∷ 0 ∷ 0 ∷ 0 ∷ []) → ⊥
-  -- not two bits that are 17 apart, first and last counted
+  -- not two bits at the ends of a span of 17
   pub not-seventeen : Turned (0 ∷ 1 ∷ 0 ∷ 0 ∷ []) (0 ∷ 0 ∷ 0 ∷ 1 ∷ []) → ⊥
 
 -- The law is sharp: what it leaves out, 16 equal bits all turned and a span of 17 bits, is not found.

@@ -1,5 +1,5 @@
--- Damage as demand 3 has it: bits turn "within one span of at most 16 neighbouring bits .., length kept, and the span not 16 equal bits
--- all turned".
+-- Damage as demand 3 has it: bits turn "within one span of at most 16 neighbouring bits .., length kept, and the span
+-- not 16 equal bits all turned".
 use Prim.Native.Nat.{ℕ, zero, suc, _+_, _/_, _%_, _≤_}
 use mathlib.Core.Path.{_≡_}
 use mathlib.Core.List.{List, [], _∷_, _++_}

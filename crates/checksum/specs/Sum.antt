@@ -11,12 +11,13 @@ sumOf [] = 0
 sumOf (a ∷ []) = a * 256
 sumOf (a ∷ b ∷ l) = a * 256 + b + sumOf l
 
--- Carries, what stands above the low 16 bits, are added to the low 16 bits, at most `times` times.
+-- The carries (the bits above the low 16) are added to the low 16 bits, at most `times` times.
 unfoldable pub folding : ℕ → ℕ → ℕ
 folding zero n = n
 folding (suc times) n = elim (ltb n 65536) [ true ↦ n | false ↦ folding times (n / 65536 + n % 65536) ]
 
--- Document 01: "fold carries into 16 bits", until there is none. Each fold makes the number less, so `n` times are enough.
+-- Document 01: "fold carries into 16 bits", until there is none. Each fold makes the number less, so `n` times are
+-- enough.
 unfoldable pub foldOf : ℕ → ℕ
 foldOf n = folding n n
 

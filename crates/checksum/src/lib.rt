@@ -1,12 +1,14 @@
-// The Internet checksum of RFC 1071 (leaf 2; `checksum` of the Rust's measurement.rs), for slices of every length. A message that
-// `verify` accepts was not damaged within one span of 16 bits: the law that the probe rests on (specs/Claims.antt).
+// The Internet checksum of RFC 1071 (leaf 2; `checksum` of the Rust's measurement.rs), for slices of every length. A
+// message that `verify` accepts was not damaged within one span of 16 bits: the law that the probe rests on
+// (specs/Claims.antt).
 ghost use mathlib.Core.Path.{_≡_};
 ghost use Prim.Native.Nat.{ℕ, _+_, _*_, _^_, _<_, _≤_};
 ghost use mathlib.Core.Bool.{true};
 ghost use lib.Dec.{eqb};
 ghost use lib.ListN.{length};
 ghost use Rattle.checksum.specs.Sum.{sumOf, foldOf, checksumOf};
-ghost use Rattle.checksum.specs.Claims.{FoldedSum, SumInParts, PlacedVerifies, DamageFound, Undamaged, Clipped, DamageIs, Sharp, Examples};
+ghost use Rattle.checksum.specs.Claims.{FoldedSum, SumInParts, PlacedVerifies, DamageFound, Undamaged, Clipped};
+ghost use Rattle.checksum.specs.Claims.{DamageIs, Sharp, Examples};
 
 // The carries of a sum folded into 16 bits: one fold leaves at most one carry, and a second none.
 pub fn fold(sum: u32) -> u16
@@ -43,8 +45,8 @@ fn sum_last(bytes: &[u8]) -> u64
     first + (field::word(bytes[2], 0) as u64)
 }
 
-// A sum that folds to what the words of at most seven bytes fold to. Four bytes are added at once, as one number: it differs from the sum
-// of its two words by a multiple of 65,535.
+// A number that folds to the same as the sum of the words of at most seven bytes. Four bytes are added at once, as one
+// number: it differs from the sum of its two words by a multiple of 65,535.
 fn sum_tail(bytes: &[u8]) -> u64
     requires { ⌜ length (now bytes) < 8 ⌝ }
     ensures { λ r. ⌜ ((n : ℕ) → foldOf (n + r) ≡ foldOf (n + sumOf (now (bytes .entry)))) × (r < 2 ^ 33) ⌝ }
@@ -91,8 +93,9 @@ fn sum_blocks(start: u16, bytes: &[u8]) -> u16
     fold_u64(sum_block(&bytes[i..]) + (sum as u64))
 }
 
-// The ones' complement sum of `start` and the words of `bytes`, which stand at an even offset of the whole message. Sums in parts go
-// through `start`. A slice that is handed on is sliced anew: so the compiler keeps it in registers, where it would copy it in memory.
+// The ones' complement sum of `start` and the words of `bytes`, which stand at an even offset of the whole message.
+// Sums in parts go through `start`. A slice is sliced again (`&bytes[..]`) where it is passed on: the compiler then keeps
+// it in registers instead of copying it in memory.
 pub fn sum(start: u64, bytes: &[u8]) -> u16
     ensures { λ r. ⌜ r ≡ foldOf (start + sumOf (now (bytes .entry))) ⌝ }
 {

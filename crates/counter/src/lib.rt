@@ -1,4 +1,5 @@
-// A count that saturates, as the Rust's `saturating_add(1)`: the counts of the run sheet (leaf 6) and of the reflector (leaf 9).
+// A count that saturates, as by the Rust's `saturating_add(1)`: those of the run sheet (leaf 6) and of the reflector
+// (leaf 9).
 ghost use mathlib.Core.Path.{_≡_};
 ghost use Rattle.counter.specs.Counter.{oneMore};
 

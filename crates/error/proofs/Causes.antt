@@ -1,10 +1,13 @@
 -- The first cause that holds: which row it is, or that none holds; forwards from the tests, and backwards from the outcome.
-use Prim.Native.Nat.{ℕ, _<_}
+use Prim.Native.Nat.{ℕ}
 use mathlib.Core.Path.{_≡_, refl, sym, _∙_}
 use mathlib.Core.List.{List, [], _∷_, _++_}
-use mathlib.Core.Bool.{Bool, true, false}
+use mathlib.Core.Bool.{Bool, true, false, not, _&&_}
 use native.Mathlib.Omega.{arith}
+use lib.Dec.{eqb}
+use borrow.Author.Tests.{not-true, eqb-false}
 use Rattle.error.specs.Outcome.{Outcome, refused, gives, Cause, _⇒_, firstCause}
+use Rattle.error.proofs.Tests.{both}
 
 -- the row with this number is the first that holds
 pub data Refuses : List Cause → ℕ → Type 0 where
@@ -37,16 +40,18 @@ passed [] o x e = (none, e)
 passed ((true ⇒ n) ∷ rows) o x e = absurd (refused-gives e)
 passed ((false ⇒ n) ∷ rows) o x e = let p = passed rows o x e in (past refl (p .0), p .1)
 
--- rows that have a number each: 0 is none
-pub data Numbered : List Cause → Type 0 where
-  end : Numbered []
-  row : {t : Bool} {n : ℕ} {rows : List Cause} → 0 < n → Numbered rows → Numbered ((t ⇒ n) ∷ rows)
+-- rows of other numbers: none refuses by this one
+abbrev pub without : ℕ → List Cause → Bool
+without m [] = true
+without m ((test ⇒ n) ∷ rows) = not (eqb n m) && without m rows
 
-pub not-by-zero : {A : Type 0} {rows : List Cause} (o : Outcome A) → Numbered rows → (o ≡ refused 0 → ⊥) → firstCause rows o ≡ refused 0 → ⊥
+pub not-by : {A : Type 0} (m : ℕ) (rows : List Cause) (o : Outcome A) → without m rows ≡ true → (o ≡ refused m → ⊥) → firstCause rows o ≡ refused m → ⊥
 unfolding firstCause
-not-by-zero o end h e = h e
-not-by-zero o (row {t = true} {n = n} k q) h e = let z : n ≡ 0 = cc in omega arith
-not-by-zero o (row {t = false} k q) h e = not-by-zero o q h e
+not-by m [] o w h e = h e
+not-by m ((true ⇒ n) ∷ rows) o w h e =
+    let same : n ≡ m = cc in
+    eqb-false n m (not-true (eqb n m) (both (not (eqb n m)) (without m rows) w .0)) same
+not-by m ((false ⇒ n) ∷ rows) o w h e = not-by m rows o (both (not (eqb n m)) (without m rows) w .1) h e
 
 -- ---- rows behind other rows
 
@@ -61,3 +66,37 @@ refuses-behind (past e p) r = later e (refuses-behind p r)
 pub passes-both : {rows more : List Cause} → Passes rows → Passes more → Passes (rows ++ more)
 passes-both none q = q
 passes-both (past e p) q = past e (passes-both p q)
+
+-- ---- rows by their numbers, so that no law counts the rows before its own
+
+-- the rows from the first with this number on; no row has the number 0, so from 0 on there are none
+abbrev pub from : ℕ → List Cause → List Cause
+from n [] = []
+from n ((test ⇒ m) ∷ rows) = elim (eqb m n) [ true ↦ (test ⇒ m) ∷ rows | false ↦ from n rows ]
+
+-- forwards: a call is what these rows decide, those before them having been passed
+pub record Left {A : Type 0} (rows : List Cause) (onward whole : Outcome A) : Type 0 where
+  pub is : firstCause rows onward ≡ whole
+
+pub stops : {A : Type 0} {t : Bool} {n : ℕ} {rows : List Cause} {o x : Outcome A} → Left ((t ⇒ n) ∷ rows) o x → t ≡ true → refused n ≡ x
+stops {o = o} left e = refuses o (here e) ∙ left .is
+
+pub goes-on : {A : Type 0} {t : Bool} {n : ℕ} {rows : List Cause} {o x : Outcome A} → Left ((t ⇒ n) ∷ rows) o x → t ≡ false → Left rows o x
+unfolding firstCause
+goes-on left e = record { is = rw (e, firstCause) at (left .is) }
+
+pub all-passed : {A : Type 0} {o x : Outcome A} → Left [] o x → o ≡ x
+unfolding firstCause
+all-passed left = left .is
+
+-- backwards: rows that were passed, from one of them on; and its test
+pub passes-from : {rows : List Cause} (n : ℕ) → Passes rows → Passes (from n rows)
+passes-from n none = none
+passes-from n (past {t = t} {m = m} {rows = rows} e p) = by (eqb m n) (passes-from n p)
+  where
+    by : (b : Bool) → Passes (from n rows) → Passes (elim b [ true ↦ (t ⇒ m) ∷ rows | false ↦ from n rows ])
+    by true q = past e p
+    by false q = q
+
+pub first-false : {t : Bool} {n : ℕ} {rows : List Cause} → Passes ((t ⇒ n) ∷ rows) → t ≡ false
+first-false (past e p) = e

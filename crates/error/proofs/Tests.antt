@@ -35,6 +35,10 @@ pub and-both : (a b : Bool) → a ≡ true → b ≡ true → a && b ≡ true
 and-both true b e f = f
 and-both false b e f = e
 
+pub both : (a b : Bool) → a && b ≡ true → (a ≡ true) × (b ≡ true)
+both true b e = (refl, e)
+both false b e = let z : _≡_ {A = ℕ} 0 1 = cc in absurd (omega arith)
+
 pub differs : (a b : ℕ) → (a ≡ b → ⊥) → not (eqb a b) ≡ true
 differs a b h = rw (ne-eqb a b h)
 

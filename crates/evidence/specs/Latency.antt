@@ -1,4 +1,5 @@
--- The latencies in a report. Document 01, leaf 7: "Latency: minimum, maximum, mean rounded down; absent without returns."
+-- The latencies in a report. Document 01, leaf 7: "Latency: minimum, maximum, mean rounded down; absent without
+-- returns."
 use mathlib.Core.Option.{Option, some, none}
 use Rattle.evidence.specs.declared.Latency.{Latency}
 use Rattle.evidence.specs.declared.Latency.the-variants.{Absent, Summary}

@@ -1,9 +1,9 @@
-// What a run is held to and how late its packets were (leaf 1; the Rust's evidence.rs, less its schema, flow name, serde and
-// redaction).
+// What a run is held to, and how late its packets were (leaf 1; the Rust's evidence.rs without its schema, flow name,
+// serde and redaction).
 ghost use mathlib.Core.Path.{_≡_};
 ghost use Rattle.evidence.specs.Budget.{zeroLoss};
 
-// What a run may lose, at most.
+// The most that a run may lose.
 #[repr(C)]
 pub struct PacketContinuityBudget {
     // Lost packets in the measurement window.
@@ -40,7 +40,7 @@ pub enum Latency {
     Summary(LatencySummary),
 }
 
-// The report on a run: its numbers and two verdicts (leaf 7 says how each comes about).
+// The report on a run: its numbers and two verdicts (leaf 7 says how each is reached).
 pub struct PacketContinuityReport {
     // The measurement window.
     pub window_start_ns: u64,

@@ -27,7 +27,8 @@ abbrev pub valueOf : List ℕ → ℕ
 valueOf [] = 0
 valueOf (b ∷ l) = b * 256 ^ length l + valueOf l
 
--- `width` bytes from a place on. Past the end they read 0; no definition of a packet looks there before its length is judged.
+-- `width` bytes from a place on. Past the end they read 0; no definition of a packet looks there before its length is
+-- judged.
 abbrev pub bytesAt : ℕ → ℕ → List ℕ → List ℕ
 bytesAt zero at l = []
 bytesAt (suc width) at l = getD l at 0 ∷ bytesAt width (suc at) l

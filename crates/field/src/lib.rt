@@ -1,6 +1,14 @@
-// The two bytes of a 16-bit big-endian field, and the number in four. The wider fields are defined and proved in specs/ and proofs/, over the width.
+// The two bytes of a 16-bit big-endian field, and the number in four. The wider fields are defined and proved in specs/
+// and proofs/, over the width.
 ghost use mathlib.Core.Path.{_≡_};
-ghost use Prim.Native.Nat.{_+_, _*_, _/_, _%_, _^_};
+ghost use Prim.Native.Nat.{_+_, _*_, _/_, _%_, _^_, _<_};
+
+// A byte as a number of 64 bits. For a byte read from a slice, a call asks less of the caller's proof than a cast.
+pub fn wide(x: u8) -> u64
+    ensures { λ r. ⌜ (r ≡ x) × (r < 256) ⌝ }
+{
+    x as u64
+}
 
 // The word of two bytes, the high one first.
 pub fn word(high: u8, low: u8) -> u16

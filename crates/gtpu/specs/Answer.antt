@@ -25,9 +25,11 @@ judgedMeans (judged.Size size) = gives size
 abbrev pub numbered : ℕ → Outcome (Unit {0})
 numbered number = elim (eqb number 0) [ true ↦ gives tt | false ↦ refused number ]
 
--- That a walk is to go on is a number too: 128, and 1 more where a TEID Data I was seen, and 2 more where a GTP-U Peer Address was.
+-- That a walk is to go on is a number too: 128, and 1 more where a TEID Data I was seen, and 2 more where a GTP-U Peer
+-- Address was.
 abbrev pub goOn : Bool → Bool → ℕ
-goOn hasTeidData hasPeerAddress = 128 + elim hasTeidData [ true ↦ 1 | false ↦ 0 ] + elim hasPeerAddress [ true ↦ 2 | false ↦ 0 ]
+goOn hasTeidData hasPeerAddress =
+    128 + elim hasTeidData [ true ↦ 1 | false ↦ 0 ] + elim hasPeerAddress [ true ↦ 2 | false ↦ 0 ]
 
 abbrev pub teidDataSeen : ℕ → Bool
 teidDataSeen number = eqb (number % 2) 1

@@ -5,10 +5,12 @@ use mathlib.Core.Logic.{_⊎_}
 use mathlib.Core.List.{List, [], _∷_, _++_}
 use mathlib.Core.Bool.{Bool, _||_}
 use lib.ListN.{length, drop, replicate}
-use Rattle.error.specs.Number.{truncatedElement, invalidPeerAddressLength, unsupportedFixedLengthElement, missingTeidDataI, missingPeerAddress}
+use Rattle.error.specs.Number.{truncatedElement, invalidPeerAddressLength, unsupportedFixedLengthElement}
+use Rattle.error.specs.Number.{missingTeidDataI, missingPeerAddress}
 use Rattle.error.specs.Outcome.{Outcome, refused, gives, firstCause}
 use Rattle.field.specs.Field.{bigEndian}
-use Rattle.gtpu.specs.Element.{isTeidDataI, isPeerAddress, elementSize, elementCauses, endOf, elementsFrom, elementsOf}
+use Rattle.gtpu.specs.Element.{isTeidDataI, isPeerAddress, elementSize, elementCauses, endOf}
+use Rattle.gtpu.specs.Element.{elementsFrom, elementsOf}
 
 -- "what follows an element is read by the same rule": the walk, without the number that bounds its recursion.
 unfoldable pub SameRule : Type 0
@@ -16,11 +18,13 @@ SameRule = (hasTeidData hasPeerAddress : Bool) (ieType : ℕ) (l : List ℕ) →
     let list = ieType ∷ l in
     elementsFrom hasTeidData hasPeerAddress list ≡
     firstCause (elementCauses list)
-    (elementsFrom (hasTeidData || isTeidDataI ieType) (hasPeerAddress || isPeerAddress ieType) (drop (elementSize list) list))
+    (elementsFrom (hasTeidData || isTeidDataI ieType) (hasPeerAddress || isPeerAddress ieType)
+    (drop (elementSize list) list))
 
 -- "At the end: 28, then 29.": the same.
 unfoldable pub EndRule : Type 0
-EndRule = (hasTeidData hasPeerAddress : Bool) → elementsFrom hasTeidData hasPeerAddress [] ≡ endOf hasTeidData hasPeerAddress
+EndRule = (hasTeidData hasPeerAddress : Bool)
+    → elementsFrom hasTeidData hasPeerAddress [] ≡ endOf hasTeidData hasPeerAddress
 
 -- Case 8: "An empty element list gives 28."
 unfoldable pub EmptyList : Type 0

@@ -4,7 +4,8 @@ use mathlib.Core.List.{List, [], _∷_}
 use mathlib.Core.Bool.{Bool, true, false, not, _||_, _&&_}
 use lib.Dec.{eqb, ltb}
 use lib.ListN.{length, drop, getD}
-use Rattle.error.specs.Number.{truncatedElement, invalidPeerAddressLength, unsupportedFixedLengthElement, missingTeidDataI, missingPeerAddress}
+use Rattle.error.specs.Number.{truncatedElement, invalidPeerAddressLength, unsupportedFixedLengthElement}
+use Rattle.error.specs.Number.{missingTeidDataI, missingPeerAddress}
 use Rattle.error.specs.Outcome.{Outcome, gives, Cause, _⇒_, firstCause}
 use Rattle.field.specs.Field.{field}
 
@@ -62,16 +63,18 @@ endOf hasTeidData hasPeerAddress =
     ∷ [])
     (gives tt)
 
--- "what follows an element is read by the same rule, and elements may repeat": the walk carries on whether a 16 and a 133 were seen.
--- The first number is there for antt alone, whose recursion is structural. Every element has at least one byte, so the list's length is
--- enough, and at zero nothing is left. `SameRule` of specs/Claims.antt is the rule without it.
+-- "what follows an element is read by the same rule, and elements may repeat": the walk carries two flags: a 16 was
+-- seen, a 133 was seen. The first number is a bound that antt's structural recursion needs. Every element has at least
+-- one byte, so the list's length is enough, and at zero nothing is left. `SameRule` of specs/Claims.antt is the rule
+-- without it.
 unfoldable pub walk : ℕ → Bool → Bool → List ℕ → Outcome (Unit {0})
 walk zero hasTeidData hasPeerAddress list = endOf hasTeidData hasPeerAddress
 walk (suc bound) hasTeidData hasPeerAddress [] = endOf hasTeidData hasPeerAddress
 walk (suc bound) hasTeidData hasPeerAddress (ieType ∷ l) =
     let list = ieType ∷ l in
     firstCause (elementCauses list)
-    (walk bound (hasTeidData || isTeidDataI ieType) (hasPeerAddress || isPeerAddress ieType) (drop (elementSize list) list))
+    (walk bound (hasTeidData || isTeidDataI ieType) (hasPeerAddress || isPeerAddress ieType)
+    (drop (elementSize list) list))
 
 -- A list, where these elements have been seen before it.
 unfoldable pub elementsFrom : Bool → Bool → List ℕ → Outcome (Unit {0})

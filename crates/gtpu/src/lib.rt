@@ -63,7 +63,8 @@ const VALUE_START: usize = 3;
 // calls, so this number, and not the list, bounds the stack. The reflector's Error Indications have two elements.
 const WALK_DEPTH: usize = 16;
 
-// A walk answers by one number, which stays in a register: 0, a refusal's number, or one from here on, that it is to go on.
+// A walk answers with one number, which stays in a register: 0, a refusal's number, or GO_ON and above, which tells the
+// loop to start it again.
 const GO_ON: u8 = 128;
 
 // One element, judged: refused by this number, or how many bytes long it is, its type and length included.
@@ -72,7 +73,7 @@ enum JudgedElement {
     Size(usize),
 }
 
-// Whether this is a GTP-U Peer Address whose length is that of no address.
+// Whether this is a GTP-U Peer Address with a length other than 4 or 16.
 fn other_length(ie_type: u8, value_length: usize) -> bool
     ensures { λ r. ⌜ r ≡ otherLength «ie_type» «value_length» ⌝ }
 {
@@ -135,8 +136,9 @@ fn go_on(has_teid_data: bool, has_peer_address: bool) -> u8
     GO_ON + (has_teid_data as u8) + 2 * (has_peer_address as u8)
 }
 
-// The element at the front is judged, and what follows it is read by the same rule: by a call of the walk on the rest. The flags say
-// which of the two required elements have been seen. Where no call is left, `left` is how many bytes are.
+// The element at the front is judged, and what follows it is read by the same rule: by a call of the walk on the rest.
+// The flags say which of the two required elements have been seen. Where the depth is used up, `left` is the number of
+// bytes not yet walked.
 fn walk_elements(
     list: &[u8],
     has_teid_data: bool,

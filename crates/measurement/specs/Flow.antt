@@ -33,8 +33,13 @@ padded address = address ++ replicate (16 - length address) 0
 
 -- "source and destination address and port exchanged"
 abbrev pub reversedOf : InnerIpFlow → InnerIpFlow
-reversedOf flow =
-    record { version = flow .version; src = flow .dst; dst = flow .src; «src_port» = flow .«dst_port»; «dst_port» = flow .«src_port» }
+reversedOf flow = record {
+  version = flow .version;
+  src = flow .dst;
+  dst = flow .src;
+  «src_port» = flow .«dst_port»;
+  «dst_port» = flow .«src_port»;
+}
 
 -- A flow, a sequence and a time of the code's types: 16 bytes for an address, of which IPv4 uses 4; ports below 2^16;
 -- numbers below 2^64.

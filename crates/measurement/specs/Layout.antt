@@ -1,5 +1,5 @@
--- Where each field of a T-PDU starts, in bytes from the front of its own header. The constants of src/layout.rt have the same names; `offsetsOf` is
--- what both lists come to.
+-- Where each field of a T-PDU starts, in bytes from the front of its own header. The constants of src/layout.rt have
+-- the same names: `offsetsOf` lists the values; `offsets` proves that the constants have them.
 use Prim.Native.Nat.{ℕ}
 use mathlib.Core.List.{List, [], _∷_}
 

@@ -1,6 +1,7 @@
-// Where each field of a T-PDU starts, in bytes from the front of its own header: the fields of the diagrams in RFC 791, section 3.1, RFC 8200,
-// section 3, and RFC 768, in their order, and those of the probe. The definitions have the same list (specs/Layout.antt), and `offsets` proves
-// that the two agree. A field of two bytes has its upper byte first, so the lower stands at the next place.
+// Where each field of a T-PDU starts, in bytes from the front of its own header: the fields of the diagrams in RFC 791,
+// section 3.1, RFC 8200, section 3, and RFC 768, in their order, and those of the probe. The definitions have the same
+// list (specs/Layout.antt), and `offsets` proves that the two agree. A field of two bytes has its upper byte first, so
+// the lower stands at the next place.
 ghost use mathlib.Core.Path.{_≡_};
 ghost use Rattle.measurement.specs.Layout.{offsetsOf};
 

@@ -15,13 +15,14 @@ ghost use Rattle.measurement.specs.declared.IpVersion.the-variants.{V4};
 ghost use Rattle.measurement_packet.specs.Packet.{ipv4Header, ipv6, nonzero, udpSegment, buildOf};
 ghost use Rattle.measurement_build.specs.Segment.{segmentOver};
 
-// The sum of the IPv4 header's words less that of the pseudo-header's, which has the addresses, protocol and UDP length.
+// The IPv4 header's sum less the pseudo-header's. The addresses are in both and cancel out.
 const IPV4_MORE: u64 = 0x4500 + 52 + 0x4011 - 17 - 32;
 
 // The sum of the words that every UDP segment has: the length, and the probe's tag.
 const UDP_SAME: u64 = 32 + 0x4f50 + 0x4344 + 0x5054 + 0x4b31;
 
-// The IPv4 header, byte by byte in the Rust's order. `pseudo` folds, in any sum, as the words of the pseudo-header do.
+// The IPv4 header, field by field in the order of RFC 791, section 3.1. `pseudo`, added to any sum, folds to the same
+// as the words of the pseudo-header.
 fn write_ipv4_header(pseudo: u64, src: [u8; 16], dst: [u8; 16], out: &mut [u8])
     requires { ⌜ (20 ≤ length (now out)) × (pseudo < 2 ^ 36) ⌝ }
     ensures { λ _. ⌜ now (out .exit) ≡ ipv4Header (65535 - foldOf (0x8514 + pseudo)) (bytesAt 4 0 src) (bytesAt 4 0 dst) ++ drop 20 (now (out .entry)) ⌝ }
@@ -80,14 +81,14 @@ fn nonzero_checksum(sum: u16) -> u16
     checksum
 }
 
-// The lower half of a number and the upper: they fold, in any sum, as the number does.
+// The sum of a number's two halves: in any sum it folds to the same as the number.
 fn halves(x: u64) -> u64
     ensures { λ r. ⌜ (r ≡ x % 4294967296 + x / 4294967296) × (r < 2 ^ 33) ⌝ }
 {
     (x & 0xffff_ffff) + (x >> 32)
 }
 
-// A number that folds, in any sum, as the words of a UDP segment with a checksum field of 0 do.
+// A number that, added to any sum, folds to the same as the words of a UDP segment with a checksum field of 0.
 fn segment_words(src_port: u16, dst_port: u16, header: MeasurementHeader) -> u64
     ensures { λ r. ⌜ ((n : ℕ) → foldOf (n + r) ≡ foldOf (n + sumOf (udpSegment 0 «src_port» «dst_port» (header .sequence) (header .«send_timestamp_ns»)))) × (r < 2 ^ 35) ⌝ }
 {
@@ -98,7 +99,8 @@ fn segment_words(src_port: u16, dst_port: u16, header: MeasurementHeader) -> u64
         + halves(header.send_timestamp_ns)
 }
 
-// The UDP header and the probe, in the part of the buffer that starts after the IP header. `pseudo` folds as for the IPv4 header.
+// The UDP header and the probe, in the part of the buffer that starts after the IP header. `pseudo` is as for the IPv4
+// header.
 fn write_udp_segment(
     pseudo: u64,
     src_port: u16,
@@ -172,7 +174,7 @@ pub fn build_measurement_tpdu(
     Written::Bytes(start + 32)
 }
 
-// The same for an IPv4 flow that is given in parts: where the caller has the addresses in arrays of its own, it makes no flow of them.
+// The same for an IPv4 flow given in parts, for a caller that has the addresses in arrays.
 pub fn build_ipv4_tpdu(
     src: [u8; 16],
     dst: [u8; 16],

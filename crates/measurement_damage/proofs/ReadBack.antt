@@ -21,13 +21,21 @@ use Rattle.measurement_packet.specs.Packet.{ipv4, ipv4Header, ipv6, ipHeader, u
 use Rattle.measurement_reading.specs.Read.{payload, lengthWrong, covered, sumWrong, probeCauses, tpduWith, tpduOf, readProbe, readUdp, ihl, readOf}
 use Rattle.measurement.proofs.Pseudo.{pseudo-even}
 use Rattle.measurement_packet.proofs.Built.{packet, segment-length, segment-verifies, segment-checksum-not-0, ipv4-verifies}
-use Rattle.measurement_reading.proofs.Rows.{udp4-right, udp6-right, rest-ipv4, rest-ipv6, version-4, version-6}
+use Rattle.measurement_reading.proofs.Rows.{udp4-rows, udp4-past-10, udp4-past-12, udp6-rows, udp6-past-11, udp6-past-12, udp6-past-10}
+use Rattle.measurement_reading.proofs.Rows.{ipv4-rows, past-3, past-4, past-5, past-6-ipv4, past-7, rest-ipv4}
+use Rattle.measurement_reading.proofs.Rows.{ipv6-rows, past-8, past-6-ipv6, past-9, rest-ipv6, tpdu-rows, past-1, past-2-ipv4, past-2-ipv6}
 
 -- the UDP length of a built segment
 module _ (ph : List ℕ) (sport dport s t : ℕ) where
   length-is-right : lengthWrong (udp ph sport dport s t) ≡ false
   unfolding lengthWrong udp udpSegment probe measurementMagic
   length-is-right = refl
+
+-- a part that is right goes to the probe
+part-right : (v : IpVersion) (src dst u : List ℕ) → sumWrong v src dst u ≡ false → (field 2 6 u ≡ 0 → ⊥) → lengthWrong u ≡ false → readProbe v src dst u ≡ readUdp v src dst u
+part-right V4 src dst u sum set length = udp4-past-12 src dst u (udp4-past-10 src dst u (udp4-rows src dst u) length) sum
+part-right V6 src dst u sum set length =
+    udp6-past-10 src dst u (udp6-past-12 src dst u (udp6-past-11 src dst u (udp6-rows src dst u) set) sum) length
 
 -- what the segment gives, behind the pseudo-header of its addresses
 module _ (v : IpVersion) (src dst : List ℕ) (sport dport s t : ℕ) (h : length src ≡ addressLength v) (k : length dst ≡ addressLength v) where
@@ -52,11 +60,7 @@ module _ (v : IpVersion) (src dst : List ℕ) (sport dport s t : ℕ) (h : lengt
       ∙ ap (λ (n : ℕ). 65535 - n) (segment-verifies ph even sport dport s t))
 
   part-gives : gives (tpduOf v src dst u) ≡ readUdp v src dst u
-  part-gives = probed ∙ each v refl sum-is-right (segment-checksum-not-0 ph even sport dport s t) (length-is-right ph sport dport s t)
-    where
-      each : (w : IpVersion) → v ≡ w → sumWrong v src dst u ≡ false → (field 2 6 u ≡ 0 → ⊥) → lengthWrong u ≡ false → readProbe v src dst u ≡ readUdp v src dst u
-      each V4 e a b c = udp4-right v src dst u e c (sym (ap (λ (x : IpVersion). sumWrong x src dst u) e) ∙ a)
-      each V6 e a b c = udp6-right v src dst u e b (sym (ap (λ (x : IpVersion). sumWrong x src dst u) e) ∙ a) c
+  part-gives = probed ∙ part-right v src dst u sum-is-right (segment-checksum-not-0 ph even sport dport s t) (length-is-right ph sport dport s t)
 
 -- a whole T-PDU, from the bytes S and D of its addresses
 module _ (v : IpVersion) (S D : List ℕ) (sport dport s t : ℕ) where
@@ -96,17 +100,24 @@ module _ (S D : List ℕ) (sport dport s t : ℕ) (hs : sport < 65536) (hd : dpo
   reads-back-4 =
       let p = packet V4 S D sport dport s t ++ behind in
       let sum : 0 ≡ checksumOf (ipv4 (bytesAt 4 0 S) (bytesAt 4 0 D)) = checksum-0 (ipv4 (bytesAt 4 0 S) (bytesAt 4 0 D)) (ipv4-verifies S D) in
+      let left-4 = past-3 p (ipv4-rows p) (omega arith) in
+      let left-5 = past-4 p {k = 5} refl left-4 (omega arith) (omega arith) in
+      let left-6 = past-5 p {k = 5} refl {n = 52} refl left-5 (omega arith) (omega arith) in
+      let left-7 = past-6-ipv4 p left-6 refl in
+      let left-0 = past-7 p {k = 5} refl {s = 0} sum left-7 refl in
       sym (part-of-packet V4 S D sport dport s t hs hd ss st
-      ∙ rest-ipv4 p (omega arith) {k = 5} refl (omega arith) (omega arith) {n = 52} refl (omega arith) (omega arith) refl {s = 0} sum refl
-      ∙ version-4 p (λ e. omega arith) {v = 4} refl refl)
+      ∙ rest-ipv4 p {k = 5} refl {n = 52} refl left-0
+      ∙ past-2-ipv4 p {v = 4} refl (past-1 p (tpdu-rows p) (λ e. omega arith)) refl)
 
   reads-back-6 : readOf (packet V6 S D sport dport s t ++ behind) ≡ gives (tpdu V6 S D sport dport s t)
   unfolding ipHeader ipv6 udp udpSegment probe measurementMagic addressLength
   reads-back-6 =
       let p = packet V6 S D sport dport s t ++ behind in
+      let left-9 = past-6-ipv6 p (past-8 p (ipv6-rows p) (omega arith)) refl in
+      let left-0 = past-9 p {n = 32} refl left-9 (omega arith) (omega arith) in
       sym (part-of-packet V6 S D sport dport s t hs hd ss st
-      ∙ rest-ipv6 p (omega arith) refl {n = 32} refl (omega arith) (omega arith)
-      ∙ version-6 p (λ e. omega arith) {v = 6} refl refl)
+      ∙ rest-ipv6 p {n = 32} refl left-0
+      ∙ past-2-ipv6 p {v = 6} refl (past-1 p (tpdu-rows p) (λ e. omega arith)) refl)
 
   pub packet-reads-back : (v : IpVersion) → readOf (packet v S D sport dport s t ++ behind) ≡ gives (tpdu v S D sport dport s t)
   packet-reads-back V4 = reads-back-4

@@ -23,7 +23,8 @@ canonical flow = record {
 }
 
 abbrev pub tpduBuilt : InnerIpFlow → ℕ → ℕ → DecodedTpdu
-tpduBuilt flow sequence time = record { flow = canonical flow; measurement = record { sequence = sequence; «send_timestamp_ns» = time } }
+tpduBuilt flow sequence time =
+    record { flow = canonical flow; measurement = record { sequence = sequence; «send_timestamp_ns» = time } }
 
 -- Demand 2: "a built packet reads back to its flow, sequence and time"; also where other bytes follow it in the buffer.
 abbrev pub ReadsBack : Type 0
@@ -38,7 +39,8 @@ EchoIsReversed = (flow : InnerIpFlow) (sequence time : ℕ) → InRange flow seq
 -- and the echo of its echo is the first packet.
 abbrev pub EchoOfEcho : Type 0
 EchoOfEcho = (flow : InnerIpFlow) (sequence time : ℕ) → InRange flow sequence time
-    → (echo : List ℕ) → echoOf (buildOf flow sequence time) ≡ gives echo → echoOf echo ≡ gives (buildOf flow sequence time)
+    → (echo : List ℕ) → echoOf (buildOf flow sequence time) ≡ gives echo
+    → echoOf echo ≡ gives (buildOf flow sequence time)
 
 -- What the leg of an echo begins with: the flow that was read, reversed; "sequence and time kept".
 abbrev pub reversedTpdu : DecodedTpdu → DecodedTpdu
@@ -64,8 +66,8 @@ pub record DamageOfOneLeg (began : DecodedTpdu) (sent arrived : List ℕ) : Type
   -- "echoing refuses or gives the echo of the undamaged T-PDU, byte for byte"
   pub echoing : RefusesOr (echoOf arrived) (echoOf sent)
   -- which is the build of the reversed flow, with that sequence and time
-  pub undamaged-echo : echoOf sent
-      ≡ gives (buildOf (reversedOf (began .flow)) (began .measurement .sequence) (began .measurement .«send_timestamp_ns»))
+  pub undamaged-echo : echoOf sent ≡ gives (buildOf (reversedOf (began .flow))
+      (began .measurement .sequence) (began .measurement .«send_timestamp_ns»))
 
 abbrev pub DamageFound : Type 0
 DamageFound = (began : DecodedTpdu) (sent arrived : List ℕ) → Sent began sent → Turned sent arrived
@@ -75,12 +77,12 @@ DamageFound = (began : DecodedTpdu) (sent arrived : List ℕ) → Sent began sen
 abbrev pub SentIsRead : Type 0
 SentIsRead = (began : DecodedTpdu) (sent : List ℕ) → Sent began sent → readOf sent ≡ gives began
 
--- A T-PDU on its way, echoed n times: each leg, from building or echoing to the next echoing or to the arrival, is damaged, and no echo
--- is refused.
+-- A T-PDU on its way, echoed n times: each leg, from building or echoing to the next echoing or to the arrival, is
+-- damaged, and no echo is refused.
 pub data Travelled : List ℕ → ℕ → List ℕ → Type 0 where
   arrives : {sent arrived : List ℕ} → Turned sent arrived → Travelled sent 0 arrived
-  echoes : {sent at-echo echo arrived : List ℕ} {n : ℕ} → Turned sent at-echo → echoOf at-echo ≡ gives echo → Travelled echo n arrived
-      → Travelled sent (suc n) arrived
+  echoes : {sent at-echo echo arrived : List ℕ} {n : ℕ} → Turned sent at-echo → echoOf at-echo ≡ gives echo
+      → Travelled echo n arrived → Travelled sent (suc n) arrived
 
 -- A T-PDU echoed n times, no bit turned.
 unfoldable pub echoesOf : ℕ → List ℕ → Outcome (List ℕ)

@@ -9,7 +9,8 @@ use Rattle.measurement_reading.specs.Read.{readOf}
 
 -- "sequence and time kept, options and extra bytes gone": the T-PDU is built anew.
 abbrev pub echoOfTpdu : DecodedTpdu → List ℕ
-echoOfTpdu tpdu = buildOf (reversedOf (tpdu .flow)) (tpdu .measurement .sequence) (tpdu .measurement .«send_timestamp_ns»)
+echoOfTpdu tpdu =
+    buildOf (reversedOf (tpdu .flow)) (tpdu .measurement .sequence) (tpdu .measurement .«send_timestamp_ns»)
 
 unfoldable pub echoOf : List ℕ → Outcome (List ℕ)
 echoOf tpdu = elim (readOf tpdu) [ refused n ↦ refused n | gives t ↦ gives (echoOfTpdu t) ]

@@ -10,7 +10,14 @@ use Rattle.measurement_decode.specs.declared.TpduNumbers.{TpduNumbers}
 
 -- 0 and the values, or the refusal's number, and zeros beside version 4.
 unfoldable pub tpduNumbers : Outcome DecodedTpdu → TpduNumbers
-tpduNumbers (refused n) = record { sequence = 0; number = n; «src_port» = 0; «send_timestamp_ns» = 0; version = V4; «dst_port» = 0 }
+tpduNumbers (refused n) = record {
+  sequence = 0;
+  number = n;
+  «src_port» = 0;
+  «send_timestamp_ns» = 0;
+  version = V4;
+  «dst_port» = 0;
+}
 tpduNumbers (gives t) = record {
   sequence = t .measurement .sequence;
   number = 0;

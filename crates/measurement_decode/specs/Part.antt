@@ -9,12 +9,13 @@ use Rattle.measurement.specs.Flow.{addressLength}
 use Rattle.measurement.specs.declared.IpVersion.{IpVersion}
 use Rattle.measurement_reading.specs.Read.{payload, lengthWrong}
 
--- The part of the T-PDU that stands behind the IP header: room for a UDP header, and a length that a UDP length can count.
+-- The part of the T-PDU that stands behind the IP header: room for a UDP header, and a length that a UDP length can
+-- count.
 pub record Part (udp : List ℕ) : Type 0 where
   pub has-header : 8 ≤ length udp
   pub short : length udp < 65536
 
--- A number that stands for the words of a packet's two addresses, in any sum that is folded.
+-- A number that, in any sum, folds to the same as the words of a packet's two addresses.
 pub record Addresses (v : IpVersion) (src dst : List ℕ) (sum : ℕ) : Type 0 where
   pub source : length src ≡ addressLength v
   pub destination : length dst ≡ addressLength v

@@ -1,6 +1,7 @@
-// Reading a measurement T-PDU (leaf 4; `decode_measurement_tpdu` of the Rust's measurement.rs). A T-PDU is judged first, by one
-// number, and its values are read where nothing is refused: a struct that is handed up from function to function is copied each time. Each
-// test stands in the order of the rows in measurement's specs/Read.antt. A slice that is handed on is sliced anew, as in `checksum::sum`.
+// Reading a measurement T-PDU (leaf 4; `decode_measurement_tpdu` of the Rust's measurement.rs). A T-PDU is judged
+// first, which gives one number; its values are read only if it is accepted. A struct handed up through several
+// functions would be copied each time. The tests stand in the order of the rows in specs/Read.antt of
+// measurement_reading. A slice is sliced again where it is passed on, as in `checksum::sum`.
 use measurement::DecodeResult;
 use measurement::DecodedTpdu;
 use measurement::Decoding;
@@ -20,12 +21,13 @@ ghost use Rattle.measurement.specs.Flow.{padded};
 ghost use Rattle.measurement.specs.Answer.{decodingMeans, decodeResult};
 ghost use Rattle.measurement.specs.declared.IpVersion.{IpVersion};
 ghost use Rattle.measurement.specs.declared.IpVersion.the-variants.{V4, V6};
-ghost use Rattle.measurement_reading.specs.Read.{lengthWrong, sumWrong, tpduOf, readProbe, readUdp, readIpv4, readIpv6, readOf};
+ghost use Rattle.measurement_reading.specs.Read.{lengthWrong, sumWrong, tpduOf, readProbe, readUdp};
+ghost use Rattle.measurement_reading.specs.Read.{readIpv4, readIpv6, readOf};
 ghost use Rattle.measurement_decode.specs.Part.{Part, Addresses, HasProbe};
 ghost use Rattle.measurement_decode.specs.Numbers.{decodingNumbered, tpduNumbers, sourceLeft, destinationLeft};
 
-// What reading answers: 0 and the values, or a refusal's number and zeros beside version 4. Two fields of one width never stand side by
-// side: such a pair is copied by one wide load, and that waits for the two stores before it.
+// What reading answers: 0 and the values, or a refusal's number and zeros beside version 4. No two neighbouring fields
+// have the same width: such a pair would be copied by one wide load, which waits for both stores.
 pub struct TpduNumbers {
     pub sequence: u64,
     pub number: u8,
@@ -33,13 +35,6 @@ pub struct TpduNumbers {
     pub send_timestamp_ns: u64,
     pub version: IpVersion,
     pub dst_port: u16,
-}
-
-// A byte as a wide number.
-fn wide(x: u8) -> u64
-    ensures { λ r. ⌜ (r ≡ x) × (r < 256) ⌝ }
-{
-    x as u64
 }
 
 // The number in the 2 bytes from `at` on.
@@ -50,19 +45,19 @@ fn read_u16(bytes: &[u8], at: usize) -> u16
     field::word(bytes[at], bytes[at + 1])
 }
 
-// The number in the 8 bytes from `at` on: in halves, of which the compiler makes one load.
+// The number in the 8 bytes from `at` on, as two halves: the compiler turns these into one load.
 fn read_u64(bytes: &[u8], at: usize) -> u64
     requires { ⌜ (at < 256) × (at + 8 ≤ length (now bytes)) ⌝ }
     ensures { λ r. ⌜ r ≡ field 8 at (now (bytes .entry)) ⌝ }
 {
-    let high = wide(bytes[at]) * 0x100_0000_0000_0000
-        + wide(bytes[at + 1]) * 0x1_0000_0000_0000
-        + wide(bytes[at + 2]) * 0x100_0000_0000
-        + wide(bytes[at + 3]) * 0x1_0000_0000;
-    let low = wide(bytes[at + 4]) * 0x100_0000
-        + wide(bytes[at + 5]) * 0x1_0000
-        + wide(bytes[at + 6]) * 0x100
-        + wide(bytes[at + 7]);
+    let high = field::wide(bytes[at]) * 0x100_0000_0000_0000
+        + field::wide(bytes[at + 1]) * 0x1_0000_0000_0000
+        + field::wide(bytes[at + 2]) * 0x100_0000_0000
+        + field::wide(bytes[at + 3]) * 0x1_0000_0000;
+    let low = field::wide(bytes[at + 4]) * 0x100_0000
+        + field::wide(bytes[at + 5]) * 0x1_0000
+        + field::wide(bytes[at + 6]) * 0x100
+        + field::wide(bytes[at + 7]);
     high + low
 }
 
@@ -78,7 +73,7 @@ fn length_wrong(udp: &[u8]) -> bool
     udp.len() < n
 }
 
-// A number that folds, in any sum, as the words of an IPv4 address do: four bytes at once.
+// A number that, added to any sum, folds to the same as the words of an IPv4 address. Four bytes are added at once.
 fn ipv4_address_sum(address: &[u8]) -> u64
     requires { ⌜ 4 ≤ length (now address) ⌝ }
     ensures { λ r. ⌜ ((n : ℕ) → foldOf (n + r) ≡ foldOf (n + sumOf (bytesAt 4 0 (now (address .entry))))) × (r < 2 ^ 34) ⌝ }
@@ -86,7 +81,7 @@ fn ipv4_address_sum(address: &[u8]) -> u64
     field::double_word(address[0], address[1], address[2], address[3]) as u64
 }
 
-// The sum of an IPv6 address's words.
+// The same for an IPv6 address.
 fn ipv6_address_sum(address: &[u8]) -> u64
     requires { ⌜ 16 ≤ length (now address) ⌝ }
     ensures { λ r. ⌜ ((n : ℕ) → foldOf (n + r) ≡ foldOf (n + sumOf (bytesAt 16 0 (now (address .entry))))) × (r < 2 ^ 34) ⌝ }
@@ -97,7 +92,8 @@ fn ipv6_address_sum(address: &[u8]) -> u64
         + (field::double_word(address[12], address[13], address[14], address[15]) as u64)
 }
 
-// Whether the sum over the pseudo-header and the part is wrong. `addresses` folds as the words of both addresses do.
+// Whether the sum over the pseudo-header and the part is wrong. `addresses` folds to the same
+// as the words of both addresses.
 fn sum_wrong(addresses: u64, udp: &[u8]) -> bool
     requires { ⌜ (addresses < 2 ^ 35) × (length (now udp) < 65536) ⌝ }
     ensures { λ r. ⌜ ((v : IpVersion) (src dst : List ℕ) → Addresses v src dst addresses → r ≡ sumWrong v src dst (now (udp .entry))) ⌝ }

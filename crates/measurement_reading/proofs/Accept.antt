@@ -2,14 +2,14 @@
 use Prim.Native.Nat.{ℕ, _+_, _-_, _*_, _/_, _≤_}
 use native.Mathlib.Omega.{arith}
 use mathlib.Core.Path.{_≡_, refl, sym, ap, _∙_}
-use mathlib.Core.List.{List, _∷_}
+use mathlib.Core.List.{List}
 use mathlib.Core.Bool.{Bool, true, false, not, _&&_}
 use mathlib.Core.Logic.{_⊎_, inl, inr}
 use lib.Dec.{ltb, eqb}
 use lib.ListN.{length, take, drop, getD}
 use borrow.Author.Tests.{ltb-false, eqb-true, not-false}
-use Rattle.error.specs.Outcome.{Outcome, refused, gives, outcomeNumber, Cause, _⇒_}
-use Rattle.error.proofs.Causes.{Passes, past, passed, end, row, refused-gives, not-by-zero}
+use Rattle.error.specs.Outcome.{Outcome, refused, gives, outcomeNumber}
+use Rattle.error.proofs.Causes.{passed, passes-from, first-false, refused-gives, not-by}
 use Rattle.error.proofs.Tests.{or-neither, true-not-false}
 use Rattle.field.specs.Field.{bytesAt, field}
 use Rattle.measurement.specs.declared.DecodedTpdu.{DecodedTpdu}
@@ -17,13 +17,7 @@ use Rattle.measurement.specs.declared.IpVersion.{IpVersion}
 use Rattle.measurement.specs.declared.IpVersion.the-variants.{V4, V6}
 use Rattle.measurement_reading.specs.Read.{payload, lengthWrong, sumWrong, probeCauses, udpCauses, tpduOf, readProbe, readUdp, ihl, ipv4Causes, readIpv4, ipv6Causes, readIpv6, tpduCauses, readOf}
 
-first : {t : Bool} {n : ℕ} {rows : List Cause} → Passes ((t ⇒ n) ∷ rows) → t ≡ false
-first (past e q) = e
-
-others : {t : Bool} {n : ℕ} {rows : List Cause} → Passes ((t ⇒ n) ∷ rows) → Passes rows
-others (past e q) = q
-
--- an UDP part that was accepted
+-- a UDP part that was accepted
 pub record Part (v : IpVersion) (src dst u : List ℕ) (r : DecodedTpdu) : Type 0 where
   pub right : lengthWrong u ≡ false
   pub long : 24 ≤ length (payload u)
@@ -35,14 +29,14 @@ module _ (src dst u : List ℕ) (r : DecodedTpdu) where
   unfolding readProbe probeCauses
   probe-accepted v e =
       let q = passed _ _ r e in
-      (ltb-false (length (payload u)) 24 (first (q .0)), cc (q .1))
+      (ltb-false (length (payload u)) 24 (first-false (passes-from 13 (q .0))), cc (q .1))
 
   pub part-accepted : (v : IpVersion) → readUdp v src dst u ≡ gives r → Part v src dst u r
   unfolding readUdp udpCauses
   part-accepted V4 e =
       let q = passed _ _ r e in
       let p = probe-accepted V4 (q .1) in
-      record { right = first (q .0); long = p .0; summed = either (eqb (field 2 6 u) 0) refl (first (others (q .0))); is = p .1 }
+      record { right = first-false (passes-from 10 (q .0)); long = p .0; summed = either (eqb (field 2 6 u) 0) refl (first-false (passes-from 12 (q .0))); is = p .1 }
     where
       either : (b : Bool) → eqb (field 2 6 u) 0 ≡ b → not b && sumWrong V4 src dst u ≡ false → ((V4 ≡ V4) × (field 2 6 u ≡ 0)) ⊎ (sumWrong V4 src dst u ≡ false)
       either true z e = inl (refl, eqb-true (field 2 6 u) 0 z)
@@ -50,7 +44,7 @@ module _ (src dst u : List ℕ) (r : DecodedTpdu) where
   part-accepted V6 e =
       let q = passed _ _ r e in
       let p = probe-accepted V6 (q .1) in
-      record { right = first (others (others (q .0))); long = p .0; summed = inr (first (others (q .0))); is = p .1 }
+      record { right = first-false (passes-from 10 (q .0)); long = p .0; summed = inr (first-false (passes-from 12 (q .0))); is = p .1 }
 
 -- an IPv4 packet that was accepted, and an IPv6 packet
 pub record Accepted4 (p : List ℕ) (r : DecodedTpdu) : Type 0 where
@@ -69,22 +63,22 @@ module _ (p : List ℕ) (r : DecodedTpdu) where
   unfolding readIpv4 ipv4Causes
   ipv4-accepted e =
       let q = passed _ _ r e in
-      let a = or-neither (ltb (ihl p) 5) (ltb (length p) (ihl p * 4 + 8)) (first (others (q .0))) in
-      let b = or-neither (ltb (field 2 2 p) (ihl p * 4 + 8)) (ltb (length p) (field 2 2 p)) (first (others (others (q .0)))) in
+      let a = or-neither (ltb (ihl p) 5) (ltb (length p) (ihl p * 4 + 8)) (first-false (passes-from 4 (q .0))) in
+      let b = or-neither (ltb (field 2 2 p) (ihl p * 4 + 8)) (ltb (length p) (field 2 2 p)) (first-false (passes-from 5 (q .0))) in
       record { low = ltb-false _ _ (a .0); fits = ltb-false _ _ (b .0); within = ltb-false _ _ (b .1); part = q .1 }
 
   ipv6-accepted : readIpv6 p ≡ gives r → Accepted6 p r
   unfolding readIpv6 ipv6Causes
   ipv6-accepted e =
       let q = passed _ _ r e in
-      let b = or-neither (ltb (field 2 4 p) 8) (ltb (length p) (field 2 4 p + 40)) (first (others (others (q .0)))) in
-      record { udp = eqb-true _ _ (not-false (eqb (getD p 6 0) 17) (first (others (q .0)))); within = ltb-false _ _ (b .1); part = q .1 }
+      let b = or-neither (ltb (field 2 4 p) 8) (ltb (length p) (field 2 4 p + 40)) (first-false (passes-from 9 (q .0))) in
+      record { udp = eqb-true _ _ (not-false (eqb (getD p 6 0) 17) (first-false (passes-from 6 (q .0)))); within = ltb-false _ _ (b .1); part = q .1 }
 
   pub accepted : readOf p ≡ gives r → ((getD p 0 0 / 16 ≡ 4) × Accepted4 p r) ⊎ ((getD p 0 0 / 16 ≡ 6) × Accepted6 p r)
   unfolding readOf tpduCauses
   accepted e =
       let q = passed _ _ r e in
-      go (eqb (getD p 0 0 / 16) 4) (eqb (getD p 0 0 / 16) 6) refl refl (first (others (q .0))) (q .1)
+      go (eqb (getD p 0 0 / 16) 4) (eqb (getD p 0 0 / 16) 6) refl refl (first-false (passes-from 2 (q .0))) (q .1)
     where
       go : (a b : Bool) → eqb (getD p 0 0 / 16) 4 ≡ a → eqb (getD p 0 0 / 16) 6 ≡ b → not a && not b ≡ false
           → (elim a [ true ↦ readIpv4 p | false ↦ readIpv6 p ]) ≡ gives r
@@ -96,18 +90,16 @@ module _ (p : List ℕ) (r : DecodedTpdu) where
 -- no T-PDU is refused by 0, so one whose number is 0 was read
 part-by-zero : (v : IpVersion) (src dst u : List ℕ) → readUdp v src dst u ≡ refused 0 → ⊥
 unfolding readUdp udpCauses readProbe probeCauses
-part-by-zero V4 src dst u = not-by-zero _ (row (omega arith) (row (omega arith) end)) (not-by-zero _ (row (omega arith) (row (omega arith) end)) (λ e. refused-gives (sym e)))
-part-by-zero V6 src dst u =
-    not-by-zero _ (row (omega arith) (row (omega arith) (row (omega arith) end))) (not-by-zero _ (row (omega arith) (row (omega arith) end)) (λ e. refused-gives (sym e)))
+part-by-zero V4 src dst u = not-by 0 (udpCauses V4 src dst u) _ refl (not-by 0 (probeCauses (payload u)) _ refl (λ e. refused-gives (sym e)))
+part-by-zero V6 src dst u = not-by 0 (udpCauses V6 src dst u) _ refl (not-by 0 (probeCauses (payload u)) _ refl (λ e. refused-gives (sym e)))
 
 pub read-by-zero : (p : List ℕ) → readOf p ≡ refused 0 → ⊥
 unfolding readOf tpduCauses readIpv4 ipv4Causes readIpv6 ipv6Causes
-read-by-zero p = not-by-zero _ (row (omega arith) (row (omega arith) end)) (either (eqb (getD p 0 0 / 16) 4))
+read-by-zero p = not-by 0 (tpduCauses p) _ refl (either (eqb (getD p 0 0 / 16) 4))
   where
     either : (b : Bool) → _≡_ {A = Outcome DecodedTpdu} (elim b [ true ↦ readIpv4 p | false ↦ readIpv6 p ]) (refused 0) → ⊥
-    either true =
-        not-by-zero _ (row (omega arith) (row (omega arith) (row (omega arith) (row (omega arith) (row (omega arith) end))))) (part-by-zero V4 _ _ _)
-    either false = not-by-zero _ (row (omega arith) (row (omega arith) (row (omega arith) end))) (part-by-zero V6 _ _ _)
+    either true = not-by 0 (ipv4Causes p) _ refl (part-by-zero V4 _ _ _)
+    either false = not-by 0 (ipv6Causes p) _ refl (part-by-zero V6 _ _ _)
 
 pub record Given (p : List ℕ) : Type 0 where
   pub tpdu : DecodedTpdu

@@ -1,15 +1,23 @@
--- Reading a T-PDU: document 01, leaf 4. Each cause of refusal is a row, and the rows stand in the order of that leaf: "IPv4 3, 4, 5, 6, 7, 10,
--- 12, 13, 14; IPv6 8, 6, 9, 11, 12, 10, 13, 14. Number 1, then 2, come before both."
+-- Reading a T-PDU: document 01, leaf 4. Each cause of refusal is a row, and the rows stand in the order of that leaf:
+-- "IPv4 3, 4, 5, 6, 7, 10, 12, 13, 14; IPv6 8, 6, 9, 11, 12, 10, 13, 14. Number 1, then 2, come before both."
 use Prim.Native.Nat.{ℕ, _+_, _-_, _*_, _/_, _%_}
 use mathlib.Core.List.{List, [], _∷_, _++_}
 use mathlib.Core.Bool.{Bool, true, false, not, _||_, _&&_}
 use lib.Dec.{eqb, ltb}
 use lib.ListN.{length, take, drop, getD}
-use Rattle.error.specs.Number.{truncatedIpHeader, unsupportedIpVersion, truncatedIpv4Header, invalidIpv4Ihl, invalidIpv4TotalLength, payloadIsNotUdp, invalidIpv4HeaderChecksum, truncatedIpv6UdpPacket, invalidIpv6PayloadLength, invalidUdpLength, ipv6UdpChecksumIsZero, invalidUdpChecksum, truncatedMeasurementHeader, measurementMagicMismatch}
+use Rattle.error.specs.Number.{truncatedIpHeader, unsupportedIpVersion, truncatedIpv4Header, invalidIpv4Ihl}
+use Rattle.error.specs.Number.{invalidIpv4TotalLength, payloadIsNotUdp, invalidIpv4HeaderChecksum}
+use Rattle.error.specs.Number.{truncatedIpv6UdpPacket, invalidIpv6PayloadLength, invalidUdpLength}
+use Rattle.error.specs.Number.{ipv6UdpChecksumIsZero, invalidUdpChecksum, truncatedMeasurementHeader}
+use Rattle.error.specs.Number.{measurementMagicMismatch}
 use Rattle.error.specs.Outcome.{Outcome, gives, Cause, _⇒_, firstCause}
 use Rattle.field.specs.Field.{valueOf, bytesAt, field}
 use Rattle.checksum.specs.Sum.{checksumOf}
-use Rattle.measurement.specs.Layout.{ipVersion, ipv4Ihl, ipv4TotalLength, ipv4Protocol, ipv4SourceAddress, ipv4DestinationAddress, ipv6PayloadLength, ipv6NextHeader, ipv6SourceAddress, ipv6DestinationAddress, ipv6HeaderBytes, udpSourcePort, udpDestinationPort, udpLength, udpChecksum, udpHeaderBytes, probeTag, probeSequence, probeSendTime}
+use Rattle.measurement.specs.Layout.{ipVersion, ipv4Ihl, ipv4TotalLength, ipv4Protocol}
+use Rattle.measurement.specs.Layout.{ipv4SourceAddress, ipv4DestinationAddress}
+use Rattle.measurement.specs.Layout.{ipv6PayloadLength, ipv6NextHeader, ipv6SourceAddress, ipv6DestinationAddress}
+use Rattle.measurement.specs.Layout.{ipv6HeaderBytes, udpSourcePort, udpDestinationPort, udpLength, udpChecksum}
+use Rattle.measurement.specs.Layout.{udpHeaderBytes, probeTag, probeSequence, probeSendTime}
 use Rattle.measurement.specs.Pseudo.{pseudoHeader, udpProtocol}
 use Rattle.measurement.specs.Probe.{measurementMagic}
 use Rattle.measurement.specs.Flow.{padded}
@@ -17,7 +25,7 @@ use Rattle.measurement.specs.declared.DecodedTpdu.{DecodedTpdu}
 use Rattle.measurement.specs.declared.IpVersion.{IpVersion}
 use Rattle.measurement.specs.declared.IpVersion.the-variants.{V4, V6}
 
--- RFC 768: the length field counts header and data, so the payload is what it leaves behind 8 bytes of header.
+-- RFC 768: the length field counts header and data, so the payload has that many bytes less the 8 of the header.
 unfoldable pub payload : List ℕ → List ℕ
 payload part = take (field 2 udpLength part - udpHeaderBytes) (drop udpHeaderBytes part)
 
@@ -31,7 +39,8 @@ covered part = part
 
 -- The sum over the pseudo-header and what is covered is not right.
 unfoldable pub sumWrong : IpVersion → List ℕ → List ℕ → List ℕ → Bool
-sumWrong v source destination part = not (eqb (checksumOf (pseudoHeader v source destination (length (covered part)) ++ covered part)) 0)
+sumWrong v source destination part =
+    not (eqb (checksumOf (pseudoHeader v source destination (length (covered part)) ++ covered part)) 0)
 
 -- "probe under 24 bytes; first 8 bytes wrong"
 unfoldable pub probeCauses : List ℕ → List Cause
@@ -52,10 +61,16 @@ udpCauses V6 source destination part =
     ∷ (lengthWrong part ⇒ invalidUdpLength)
     ∷ []
 
--- What is given of these values: the flow with its addresses padded, the sequence and the send time.
+-- The T-PDU with these values: the flow, its addresses padded to 16 bytes, the sequence and the send time.
 abbrev pub tpduWith : IpVersion → List ℕ → List ℕ → ℕ → ℕ → ℕ → ℕ → DecodedTpdu
 tpduWith v source destination sourcePort destinationPort sequence time = record {
-  flow = record { version = v; src = padded source; dst = padded destination; «src_port» = sourcePort; «dst_port» = destinationPort };
+  flow = record {
+    version = v;
+    src = padded source;
+    dst = padded destination;
+    «src_port» = sourcePort;
+    «dst_port» = destinationPort;
+  };
   measurement = record { sequence = sequence; «send_timestamp_ns» = time };
 }
 
@@ -70,43 +85,52 @@ readProbe v source destination part = firstCause (probeCauses (payload part)) (g
 
 -- The part that stands behind the IP header, for both versions.
 unfoldable pub readUdp : IpVersion → List ℕ → List ℕ → List ℕ → Outcome DecodedTpdu
-readUdp v source destination part = firstCause (udpCauses v source destination part) (readProbe v source destination part)
+readUdp v source destination part =
+    firstCause (udpCauses v source destination part) (readProbe v source destination part)
 
 -- RFC 791, section 3.1: the header's length in 32-bit words.
 unfoldable pub ihl : List ℕ → ℕ
 ihl tpdu = getD tpdu ipv4Ihl 0 % 16
 
--- "IPv4 under 20 bytes; IHL under 5, or bytes under IHL × 4 + 8; total length under IHL × 4 + 8 or past the input", "protocol not 17; IPv4
--- header checksum"
+abbrev pub totalLength : List ℕ → ℕ
+totalLength tpdu = field 2 ipv4TotalLength tpdu
+
+-- "IPv4 under 20 bytes; IHL under 5, or bytes under IHL × 4 + 8; total length under IHL × 4 + 8 or past the input",
+-- "protocol not 17; IPv4 header checksum"
 unfoldable pub ipv4Causes : List ℕ → List Cause
 ipv4Causes tpdu =
     (ltb (length tpdu) 20 ⇒ truncatedIpv4Header)
     ∷ (ltb (ihl tpdu) 5 || ltb (length tpdu) (ihl tpdu * 4 + 8) ⇒ invalidIpv4Ihl)
-    ∷ (ltb (field 2 ipv4TotalLength tpdu) (ihl tpdu * 4 + 8) || ltb (length tpdu) (field 2 ipv4TotalLength tpdu) ⇒ invalidIpv4TotalLength)
+    ∷ (ltb (totalLength tpdu) (ihl tpdu * 4 + 8) || ltb (length tpdu) (totalLength tpdu) ⇒ invalidIpv4TotalLength)
     ∷ (not (eqb (getD tpdu ipv4Protocol 0) udpProtocol) ⇒ payloadIsNotUdp)
     ∷ (not (eqb (checksumOf (take (ihl tpdu * 4) tpdu)) 0) ⇒ invalidIpv4HeaderChecksum)
     ∷ []
 
--- "IPv4 options are stepped over: the part from IHL × 4 to total length is handed to the UDP reader. Bytes past the total length are ignored".
+-- "IPv4 options are stepped over: the part from IHL × 4 to total length is handed to the UDP reader. Bytes past the
+-- total length are ignored".
 unfoldable pub readIpv4 : List ℕ → Outcome DecodedTpdu
 readIpv4 tpdu =
     firstCause (ipv4Causes tpdu)
     (readUdp V4 (bytesAt 4 ipv4SourceAddress tpdu) (bytesAt 4 ipv4DestinationAddress tpdu)
-    (take (field 2 ipv4TotalLength tpdu - ihl tpdu * 4) (drop (ihl tpdu * 4) tpdu)))
+    (take (totalLength tpdu - ihl tpdu * 4) (drop (ihl tpdu * 4) tpdu)))
+
+abbrev pub payloadLength : List ℕ → ℕ
+payloadLength tpdu = field 2 ipv6PayloadLength tpdu
 
 -- "IPv6 under 48 bytes; payload length under 8 or past the input", with 6 before 9
 unfoldable pub ipv6Causes : List ℕ → List Cause
 ipv6Causes tpdu =
     (ltb (length tpdu) 48 ⇒ truncatedIpv6UdpPacket)
     ∷ (not (eqb (getD tpdu ipv6NextHeader 0) udpProtocol) ⇒ payloadIsNotUdp)
-    ∷ (ltb (field 2 ipv6PayloadLength tpdu) 8 || ltb (length tpdu) (field 2 ipv6PayloadLength tpdu + ipv6HeaderBytes) ⇒ invalidIpv6PayloadLength)
+    ∷ (ltb (payloadLength tpdu) 8 || ltb (length tpdu) (payloadLength tpdu + ipv6HeaderBytes)
+    ⇒ invalidIpv6PayloadLength)
     ∷ []
 
 unfoldable pub readIpv6 : List ℕ → Outcome DecodedTpdu
 readIpv6 tpdu =
     firstCause (ipv6Causes tpdu)
     (readUdp V6 (bytesAt 16 ipv6SourceAddress tpdu) (bytesAt 16 ipv6DestinationAddress tpdu)
-    (take (field 2 ipv6PayloadLength tpdu) (drop ipv6HeaderBytes tpdu)))
+    (take (payloadLength tpdu) (drop ipv6HeaderBytes tpdu)))
 
 -- "The upper four bits of byte 0 choose the reader."
 abbrev pub versionOf : List ℕ → ℕ
@@ -120,4 +144,5 @@ tpduCauses tpdu =
     ∷ []
 
 unfoldable pub readOf : List ℕ → Outcome DecodedTpdu
-readOf tpdu = firstCause (tpduCauses tpdu) (elim (eqb (versionOf tpdu) 4) [ true ↦ readIpv4 tpdu | false ↦ readIpv6 tpdu ])
+readOf tpdu =
+    firstCause (tpduCauses tpdu) (elim (eqb (versionOf tpdu) 4) [ true ↦ readIpv4 tpdu | false ↦ readIpv6 tpdu ])

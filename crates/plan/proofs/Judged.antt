@@ -10,7 +10,7 @@ use native.Mathlib.Nat.{zero-mul, add-mul, mul-le-mul-right, div-mul-le-self, lt
 use borrow.Author.Tests.{lt-ltb, le-ltb, ltb-true, ltb-false, eq-eqb, ne-eqb, eqb-false}
 use Rattle.error.specs.Outcome.{refused, gives, Cause, _⇒_}
 use Rattle.error.proofs.Causes as causes
-use Rattle.error.proofs.Causes.{refuses-front, refuses-behind, passes-both}
+use Rattle.error.proofs.Causes.{from, Left, stops, goes-on, passes-from, first-false}
 use Rattle.measurement.specs.declared.MeasurementHeader.{MeasurementHeader}
 use Rattle.plan.specs.Plan.{top, interval, rateCauses, intervalOf, timeAt, Judged, leaving, causesAt, causesFrom, judgePackets, planCauses, judgePlan}
 use Rattle.plan.specs.Judge.{InTime, Timed, Judges}
@@ -18,7 +18,7 @@ use Rattle.plan.specs.Claims.{Acceptable, accepted}
 use Rattle.plan.specs.declared.Interval.the-variants as answer
 use Rattle.plan.specs.declared.JudgedPlan.{JudgedPlan}
 use Rattle.plan.specs.declared.TrafficPlan.{TrafficPlan}
-use Rattle.plan.proofs.Rows.{refusedAt, Refuses, here, later, Passes, none, past, refuses, passes, passed, leaving-refuses, leaving-passes, passed-leaving, passed-both, refused-by}
+use Rattle.plan.proofs.Rows.{refusedAt, Refuses, here, later, Passes, none, past, refuses, passes, passed, leaving-refuses, leaving-passes, passed-leaving, passed-both, refused-by, refuses-front, refuses-behind, passes-both, passed-apart}
 
 module _ (plan : TrafficPlan) (next : ℕ) where
   abbrev InSequence : ℕ → Type 0
@@ -27,59 +27,67 @@ module _ (plan : TrafficPlan) (next : ℕ) where
   abbrev InTimeAt : ℕ → Type 0
   InTimeAt k = timeAt plan k ≤ top
 
+  -- the rows of one packet
+  module _ (k : ℕ) where
+    packet-passes : InSequence k → InTimeAt k → Passes (causesAt plan next k)
+    unfolding causesAt
+    packet-passes h l = past (le-ltb top (next + k + 1) h) (past (le-ltb top (timeAt plan k) l) none)
+
+    packet-19 : top < next + k + 1 → Refuses (causesAt plan next k) 19 (next + k)
+    unfolding causesAt
+    packet-19 h = here (lt-ltb top (next + k + 1) h)
+
+    packet-20 : InSequence k → top < timeAt plan k → Refuses (causesAt plan next k) 20 (next + k + 1)
+    unfolding causesAt
+    packet-20 h l = later (le-ltb top (next + k + 1) h) (here (lt-ltb top (timeAt plan k) l))
+
+    packet-passed : Passes (causesAt plan next k) → InSequence k × InTimeAt k
+    unfolding causesAt
+    packet-passed (past e (past f none)) = (ltb-false top (next + k + 1) e, ltb-false top (timeAt plan k) f)
+
   -- packets before k + n
   none-fails : (n k : ℕ) → ((i : ℕ) → i < k + n → InSequence i × InTimeAt i) → Passes (causesFrom plan next n k)
-  unfolding causesFrom causesAt
+  unfolding causesFrom
   none-fails zero k all = none
   none-fails (suc n) k all =
       let h = all k (omega arith) in
-      past (le-ltb top (next + k + 1) (h .0)) (past (le-ltb top (timeAt plan k) (h .1)) (none-fails n (suc k) (λ i l. all i (omega arith))))
+      passes-both (packet-passes k (h .0) (h .1)) (none-fails n (suc k) (λ i l. all i (omega arith)))
 
-  -- the sequence fails at m, d packets behind k, and nothing before it does
-  sequence-fails : (n k d m : ℕ) → m ≡ k + d → d < n → ((i : ℕ) → i < m → InSequence i × InTimeAt i) → top < next + m + 1
-      → Refuses (causesFrom plan next n k) 19 (next + m)
-  unfolding causesFrom causesAt
-  sequence-fails zero k d m e l all h = absurd (omega arith)
-  sequence-fails (suc n) k zero m e l all h =
+  -- packet m, d packets behind k, refuses, and nothing before it does
+  packet-fails : (n k d m number left : ℕ) → m ≡ k + d → d < n → ((i : ℕ) → i < m → InSequence i × InTimeAt i) → Refuses (causesAt plan next m) number left
+      → Refuses (causesFrom plan next n k) number left
+  unfolding causesFrom
+  packet-fails zero k d m number left e l all r = absurd (omega arith)
+  packet-fails (suc n) k zero m number left e l all r =
       let same : m ≡ k = omega arith in
-      rw same (here (lt-ltb top (next + k + 1) (omega arith)))
-  sequence-fails (suc n) k (suc d) m e l all h =
+      refuses-front (causesFrom plan next n (suc k)) (rw same at r)
+  packet-fails (suc n) k (suc d) m number left e l all r =
       let p = all k (omega arith) in
-      later (le-ltb top (next + k + 1) (p .0)) (later (le-ltb top (timeAt plan k) (p .1)) (sequence-fails n (suc k) d m (omega arith) (omega arith) all h))
-
-  -- the same of the time
-  time-fails : (n k d m : ℕ) → m ≡ k + d → d < n → ((i : ℕ) → i < m → InSequence i × InTimeAt i) → InSequence m → top < timeAt plan m
-      → Refuses (causesFrom plan next n k) 20 (next + m + 1)
-  unfolding causesFrom causesAt
-  time-fails zero k d m e l all s h = absurd (omega arith)
-  time-fails (suc n) k zero m e l all s h =
-      let same : m ≡ k = omega arith in
-      rw same (later (le-ltb top (next + k + 1) (rw same at s)) (here (lt-ltb top (timeAt plan k) (rw same at h))))
-  time-fails (suc n) k (suc d) m e l all s h =
-      let p = all k (omega arith) in
-      later (le-ltb top (next + k + 1) (p .0)) (later (le-ltb top (timeAt plan k) (p .1)) (time-fails n (suc k) d m (omega arith) (omega arith) all s h))
+      refuses-behind (packet-passes k (p .0) (p .1)) (packet-fails n (suc k) d m number left (omega arith) (omega arith) all r)
 
   -- and backwards
   all-passed : (n k : ℕ) → Passes (causesFrom plan next n k) → (i : ℕ) → k ≤ i → i < k + n → InSequence i × InTimeAt i
-  unfolding causesFrom causesAt
+  unfolding causesFrom
   all-passed zero k p i l h = absurd (omega arith)
-  all-passed (suc n) k (past e (past f p)) i l h = go (ltb k i) refl (all-passed n (suc k) p i)
+  all-passed (suc n) k p i l h =
+      let q = passed-apart (causesAt plan next k) p in
+      go (ltb k i) refl (packet-passed k (q .0)) (all-passed n (suc k) (q .1) i)
     where
-      go : (b : Bool) → ltb k i ≡ b → (suc k ≤ i → i < suc k + n → InSequence i × InTimeAt i) → InSequence i × InTimeAt i
-      go true t on = on (omega (arith, ltb-true k i t)) (omega arith)
-      go false t on =
+      go : (b : Bool) → ltb k i ≡ b → InSequence k × InTimeAt k → (suc k ≤ i → i < suc k + n → InSequence i × InTimeAt i) → InSequence i × InTimeAt i
+      go true t own on = on (omega (arith, ltb-true k i t)) (omega arith)
+      go false t own on =
           let same : i ≡ k = omega (arith, ltb-false k i t) in
-          rw same (ltb-false top (next + k + 1) e, ltb-false top (timeAt plan k) f)
+          rw same own
 
   pub judged-19 : (m : ℕ) → m < plan .«packet_count» → top ≤ next + m → ((i : ℕ) → i < m → InSequence i × InTimeAt i)
       → refusedAt 19 (next + m) ≡ judgePackets plan next
   unfolding judgePackets
-  judged-19 m l e all = refuses (accepted plan next) (sequence-fails (plan .«packet_count») 0 m m (omega arith) l all (omega arith))
+  judged-19 m l e all = refuses (accepted plan next) (packet-fails (plan .«packet_count») 0 m m 19 (next + m) (omega arith) l all (packet-19 m (omega arith)))
 
   pub judged-20 : (m : ℕ) → m < plan .«packet_count» → InSequence m → ((i : ℕ) → i < m → InSequence i × InTimeAt i) → top < timeAt plan m
       → refusedAt 20 (next + m + 1) ≡ judgePackets plan next
   unfolding judgePackets
-  judged-20 m l s all h = refuses (accepted plan next) (time-fails (plan .«packet_count») 0 m m (omega arith) l all s h)
+  judged-20 m l s all h = refuses (accepted plan next) (packet-fails (plan .«packet_count») 0 m m 20 (next + m + 1) (omega arith) l all (packet-20 m s h))
 
   pub judged-accepted : ((i : ℕ) → i < plan .«packet_count» → InSequence i × InTimeAt i) → accepted plan next ≡ judgePackets plan next
   unfolding judgePackets
@@ -87,9 +95,20 @@ module _ (plan : TrafficPlan) (next : ℕ) where
 
 -- the rate
 module _ (rate : ℕ) where
-  pub rate-zero : rate ≡ 0 → refused 16 ≡ intervalOf rate
+  abbrev LeftRate : ℕ → Type 0
+  LeftRate n = Left (from n (rateCauses rate)) (gives (interval rate)) (intervalOf rate)
+
+  rate-rows : LeftRate 16
   unfolding intervalOf rateCauses
-  rate-zero h = causes.refuses (gives (interval rate)) (causes.here (eq-eqb rate 0 h))
+  rate-rows = record { is = refl }
+
+  past-16 : LeftRate 16 → (rate ≡ 0 → ⊥) → LeftRate 17
+  unfolding rateCauses
+  past-16 left h = goes-on left (ne-eqb rate 0 h)
+
+  pub rate-zero : rate ≡ 0 → refused 16 ≡ intervalOf rate
+  unfolding rateCauses
+  rate-zero h = stops rate-rows (eq-eqb rate 0 h)
 
   above : (rate ≡ 0 → ⊥) → interval rate ≡ 0 → 1000000000 < rate
   above p h =
@@ -105,23 +124,27 @@ module _ (rate : ℕ) where
       go false t = ltb-false 1000000000 rate t
 
   pub rate-high : (rate ≡ 0 → ⊥) → interval rate ≡ 0 → refused 17 ≡ intervalOf rate
-  unfolding intervalOf rateCauses
-  rate-high p h = causes.refuses (gives (interval rate)) (causes.later (ne-eqb rate 0 p) (causes.here (lt-ltb 1000000000 rate (above p h))))
+  unfolding rateCauses
+  rate-high p h = stops (past-16 rate-rows p) (lt-ltb 1000000000 rate (above p h))
 
   pub rate-good : (rate ≡ 0 → ⊥) → (interval rate ≡ 0 → ⊥) → gives (interval rate) ≡ intervalOf rate
-  unfolding intervalOf rateCauses
-  rate-good p h = causes.passes (gives (interval rate)) (causes.past (ne-eqb rate 0 p) (causes.past (le-ltb 1000000000 rate (within h)) causes.none))
-
-  -- a rate that passed has an interval
-  pub rate-passed : causes.Passes (rateCauses rate) → 0 < interval rate
   unfolding rateCauses
-  rate-passed (causes.past e (causes.past f causes.none)) =
-      let l = ltb-false 1000000000 rate f in
-      let u : 1000000000 < interval rate * rate + rate = lt-div-mul-add (omega (arith, eqb-false rate 0 e)) in
-      positive (interval rate) refl
+  rate-good p h = causes.all-passed (goes-on (past-16 rate-rows p) (le-ltb 1000000000 rate (within h)))
+
+  -- backwards: the bounds of a rate that passed, and its interval
+  pub rate-bounds : causes.Passes (rateCauses rate) → (0 < rate) × (rate ≤ 1000000000)
+  unfolding rateCauses
+  rate-bounds p =
+      let not-16 = eqb-false rate 0 (first-false (passes-from 16 p)) in
+      (omega (arith, not-16), ltb-false 1000000000 rate (first-false (passes-from 17 p)))
+
+  pub rate-passed : causes.Passes (rateCauses rate) → 0 < interval rate
+  rate-passed p = positive (interval rate) refl
     where
       positive : (i : ℕ) → interval rate ≡ i → 0 < i
-      positive zero h = let z = above (eqb-false rate 0 e) h in absurd (omega (arith, ltb-false 1000000000 rate f))
+      positive zero h =
+          let b = rate-bounds p in
+          absurd (omega (arith, b .1, above (λ e. omega (arith, b .0)) h))
       positive (suc i) h = omega arith
 
 -- the packets whose time fits
@@ -179,7 +202,7 @@ module _ (plan : TrafficPlan) (next : ℕ) where
   pub plan-refused : (n : ℕ) → refused n ≡ intervalOf (plan .«target_rate_pps») → refusedAt n next ≡ judgePlan plan next
   unfolding judgePlan planCauses intervalOf
   plan-refused n e =
-      refuses (judgePackets plan next) (leaving-refuses next (refuses-front more (refused-by (rateCauses rate-of) (interval rate-of) n (sym e))))
+      refuses (judgePackets plan next) (leaving-refuses next (causes.refuses-front more (refused-by (rateCauses rate-of) (interval rate-of) n (sym e))))
 
   module _ (i : ℕ) (e : gives i ≡ intervalOf (plan .«target_rate_pps»)) where
     rate-passes : causes.Passes (rateCauses rate-of) × (gives (interval rate-of) ≡ gives i)
@@ -188,11 +211,11 @@ module _ (plan : TrafficPlan) (next : ℕ) where
 
     pub plan-too-many : 2048 < plan .«packet_count» → refusedAt 18 next ≡ judgePlan plan next
     unfolding judgePlan planCauses
-    plan-too-many h = refuses (judgePackets plan next) (leaving-refuses next (refuses-behind (rate-passes .0) (causes.here (lt-ltb 2048 (plan .«packet_count») h))))
+    plan-too-many h = refuses (judgePackets plan next) (leaving-refuses next (causes.refuses-behind (rate-passes .0) (causes.here (lt-ltb 2048 (plan .«packet_count») h))))
 
     pub plan-judged : plan .«packet_count» ≤ 2048 → judgePackets plan next ≡ judgePlan plan next
     unfolding judgePlan planCauses
-    plan-judged h = passes (judgePackets plan next) (leaving-passes next (passes-both (rate-passes .0) (causes.past (le-ltb 2048 (plan .«packet_count») h) causes.none)))
+    plan-judged h = passes (judgePackets plan next) (leaving-passes next (causes.passes-both (rate-passes .0) (causes.past (le-ltb 2048 (plan .«packet_count») h) causes.none)))
 
     pub plan-timed : plan .«packet_count» ≤ 2048 → Timed plan i
     plan-timed h =
@@ -200,12 +223,8 @@ module _ (plan : TrafficPlan) (next : ℕ) where
         record { is = same; positive = rw same (rate-passed rate-of (rate-passes .0)); count = h }
 
 -- and backwards: what is accepted
-rate-bounds : (rate : ℕ) → causes.Passes (rateCauses rate) → (0 < rate) × (rate ≤ 1000000000)
-unfolding rateCauses
-rate-bounds rate (causes.past e (causes.past f causes.none)) = (omega (arith, eqb-false rate 0 e), ltb-false 1000000000 rate f)
-
 count-bound : (n : ℕ) → causes.Passes ((ltb 2048 n ⇒ 18) ∷ []) → n ≤ 2048
-count-bound n (causes.past e causes.none) = ltb-false 2048 n e
+count-bound n p = ltb-false 2048 n (first-false p)
 
 pub plan-accepted : (plan : TrafficPlan) (next : ℕ) (packets : List MeasurementHeader) → judgePlan plan next .outcome ≡ gives packets
     → Acceptable plan next × (judgePlan plan next ≡ accepted plan next)

@@ -67,3 +67,20 @@ unfolding firstCause
 refused-by [] x n e = absurd (refused-gives (sym e))
 refused-by ((true ⇒ m) ∷ rows) x n e = let same : m ≡ n = cc in rw (sym same) (causes.here refl)
 refused-by ((false ⇒ m) ∷ rows) x n e = causes.later refl (refused-by rows x n e)
+
+-- rows of one packet in front of those of the next
+pub refuses-front : {rows : List PlanCause} {n next : ℕ} (more : List PlanCause) → Refuses rows n next → Refuses (rows ++ more) n next
+refuses-front more (here e) = here e
+refuses-front more (later e r) = later e (refuses-front more r)
+
+pub refuses-behind : {rows more : List PlanCause} {n next : ℕ} → Passes rows → Refuses more n next → Refuses (rows ++ more) n next
+refuses-behind none r = r
+refuses-behind (past e p) r = later e (refuses-behind p r)
+
+pub passes-both : {rows more : List PlanCause} → Passes rows → Passes more → Passes (rows ++ more)
+passes-both none q = q
+passes-both (past e p) q = past e (passes-both p q)
+
+pub passed-apart : (rows : List PlanCause) {more : List PlanCause} → Passes (rows ++ more) → Passes rows × Passes more
+passed-apart [] p = (none, p)
+passed-apart (r ∷ rows) (past e p) = let q = passed-apart rows p in (past e (q .0), q .1)

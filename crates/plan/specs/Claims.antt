@@ -48,7 +48,8 @@ TimeDecides = (plan : TrafficPlan) (next k : ℕ) → FirstAt plan next k → ne
 -- sequence.
 pub record BeforePackets (plan : TrafficPlan) (next : ℕ) : Type 0 where
   pub no-rate : plan .«target_rate_pps» ≡ 0 → judgePlan plan next ≡ record { outcome = refused 16; next = next }
-  pub too-fast : 1000000000 < plan .«target_rate_pps» → judgePlan plan next ≡ record { outcome = refused 17; next = next }
+  pub too-fast : 1000000000 < plan .«target_rate_pps»
+      → judgePlan plan next ≡ record { outcome = refused 17; next = next }
   pub too-many : 0 < plan .«target_rate_pps» → plan .«target_rate_pps» ≤ 1000000000 → 2048 < plan .«packet_count»
       → judgePlan plan next ≡ record { outcome = refused 18; next = next }
 
@@ -67,10 +68,13 @@ Each P (x ∷ l) = P x × Each P l
 -- The sequences rise strictly, and the times do not fall: each packet against every later one.
 abbrev pub Ordered : List MeasurementHeader → Type 0
 Ordered [] = Unit {0}
-Ordered (p ∷ packets) = Each (λ q. (p .sequence < q .sequence) × (p .«send_timestamp_ns» ≤ q .«send_timestamp_ns»)) packets × Ordered packets
+Ordered (p ∷ packets) =
+    Each (λ q. (p .sequence < q .sequence) × (p .«send_timestamp_ns» ≤ q .«send_timestamp_ns»)) packets
+    × Ordered packets
 
 abbrev pub PacketsOrdered : Type 0
-PacketsOrdered = (plan : TrafficPlan) (next : ℕ) (packets : List MeasurementHeader) → judgePlan plan next .outcome ≡ gives packets
+PacketsOrdered = (plan : TrafficPlan) (next : ℕ) (packets : List MeasurementHeader)
+    → judgePlan plan next .outcome ≡ gives packets
     → Ordered packets × Each (λ p. (p .sequence < top) × (p .«send_timestamp_ns» ≤ top)) packets
 
 -- Document 01, case 4: "Rate 1,000,000,000 gives interval 1; 1,000,000,001 gives 17; 3 gives 333,333,333."
@@ -80,14 +84,18 @@ pub record Intervals : Type 0 where
   pub third : intervalOf 3 ≡ gives 333333333
   pub zero : intervalOf 0 ≡ refused 16
 
--- A plan of no packets is accepted whatever the next sequence is; one of 2,048 at the highest rate from the start; and one that ends just below the tops.
+-- A plan of this count and first time, at a rate.
+abbrev pub planOf : ℕ → ℕ → ℕ → TrafficPlan
+planOf count rate first =
+    record { «packet_count» = count; «target_rate_pps» = rate; «first_send_timestamp_ns» = first }
+
+-- A plan of no packets is accepted whatever the next sequence is; one of 2,048 at the highest rate from the start; and
+-- one that ends just below the tops.
 pub record Examples : Type 0 where
-  pub empty : (next first : ℕ) → judgePlan (record { «packet_count» = 0; «target_rate_pps» = 1; «first_send_timestamp_ns» = first }) next
-      ≡ record { outcome = gives []; next = next }
-  pub longest : (let plan : TrafficPlan = record { «packet_count» = 2048; «target_rate_pps» = 1000000000; «first_send_timestamp_ns» = 0 } in judgePlan plan 0 ≡ accepted plan 0)
-  pub highest : (let plan : TrafficPlan = record { «packet_count» = 2; «target_rate_pps» = 1; «first_send_timestamp_ns» = 18446744072709551615 } in
-      judgePlan plan 18446744073709551613 ≡ accepted plan 18446744073709551613)
-  pub tie : judgePlan (record { «packet_count» = 2; «target_rate_pps» = 1; «first_send_timestamp_ns» = 18446744072709551616 }) 18446744073709551614
+  pub empty : (next first : ℕ) → judgePlan (planOf 0 1 first) next ≡ record { outcome = gives []; next = next }
+  pub longest : let plan : TrafficPlan = planOf 2048 1000000000 0 in judgePlan plan 0 ≡ accepted plan 0
+  pub highest : let plan : TrafficPlan = planOf 2 1 18446744072709551615 in
+      judgePlan plan 18446744073709551613 ≡ accepted plan 18446744073709551613
+  pub tie : judgePlan (planOf 2 1 18446744072709551616) 18446744073709551614
       ≡ record { outcome = refused 19; next = 18446744073709551615 }
-  pub time-first : judgePlan (record { «packet_count» = 2; «target_rate_pps» = 1; «first_send_timestamp_ns» = 18446744072709551616 }) 7
-      ≡ record { outcome = refused 20; next = 9 }
+  pub time-first : judgePlan (planOf 2 1 18446744072709551616) 7 ≡ record { outcome = refused 20; next = 9 }

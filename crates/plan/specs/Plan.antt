@@ -3,7 +3,8 @@ use Prim.Native.Nat.{ℕ, zero, suc, _+_, _*_, _/_}
 use mathlib.Core.List.{List, [], _∷_, _++_}
 use mathlib.Core.Bool.{Bool, true, false}
 use lib.Dec.{eqb, ltb}
-use Rattle.error.specs.Number.{targetRateIsZero, targetRateExceedsResolution, tooManyPackets, sequenceOverflow, sendTimestampOverflow}
+use Rattle.error.specs.Number.{targetRateIsZero, targetRateExceedsResolution, tooManyPackets}
+use Rattle.error.specs.Number.{sequenceOverflow, sendTimestampOverflow}
 use Rattle.error.specs.Outcome.{Outcome, refused, gives, Cause, _⇒_, firstCause}
 use Rattle.measurement.specs.declared.MeasurementHeader.{MeasurementHeader}
 use Rattle.plan.specs.declared.Interval.{Interval}
@@ -14,7 +15,8 @@ use Rattle.plan.specs.declared.TrafficPlan.{TrafficPlan}
 abbrev pub top : ℕ
 top = 18446744073709551615
 
--- "Interval is 1,000,000,000 divided by the rate, rounded down." Nothing is divided by 0: 16 is judged before any interval is used.
+-- "Interval is 1,000,000,000 divided by the rate, rounded down." Nothing is divided by 0: 16 is judged before any
+-- interval is used.
 abbrev pub interval : ℕ → ℕ
 interval rate = 1000000000 / rate
 
@@ -40,7 +42,7 @@ timeAt plan k = plan .«first_send_timestamp_ns» + k * interval (plan .«target
 abbrev pub packetAt : TrafficPlan → ℕ → ℕ → MeasurementHeader
 packetAt plan next k = record { sequence = next + k; «send_timestamp_ns» = timeAt plan k }
 
--- So many packets, from packet k on.
+-- The next n packets, starting with packet k.
 unfoldable pub packetsFrom : TrafficPlan → ℕ → ℕ → ℕ → List MeasurementHeader
 packetsFrom plan next zero k = []
 packetsFrom plan next (suc n) k = packetAt plan next k ∷ packetsFrom plan next n (suc k)
@@ -59,9 +61,9 @@ unfoldable pub leaving : ℕ → List Cause → List PlanCause
 leaving next [] = []
 leaving next ((test ⇒ number) ∷ rows) = (test ⇒ number leaves next) ∷ leaving next rows
 
--- "sequence would pass its top at packet k": 19, "all but next sequence, now first + k"; "time would pass its top at packet k": 20, "all but
--- next sequence, now first + k + 1" (the card's "first" is the next sequence before the call). The sequence after packet k's is what would pass,
--- so the top itself is never sent.
+-- "sequence would pass its top at packet k": 19, "all but next sequence, now first + k"; "time would pass its top at
+-- packet k": 20, "all but next sequence, now first + k + 1" (the card's "first" is the next sequence before the call).
+-- The sequence after packet k's is what would pass, so the top itself is never sent.
 unfoldable pub causesAt : TrafficPlan → ℕ → ℕ → List PlanCause
 causesAt plan next k =
     (ltb top (next + k + 1) ⇒ sequenceOverflow leaves (next + k))
@@ -87,7 +89,8 @@ firstPlanCause ((test ⇒ number leaves next) ∷ rows) onward =
 -- 19 and 20. Where none holds, the packets are given and the next sequence is the one behind the last.
 unfoldable pub judgePackets : TrafficPlan → ℕ → Judged
 judgePackets plan next =
-    firstPlanCause (causesFrom plan next (plan .«packet_count») 0) (record { outcome = gives (packetsOf plan next); next = next + plan .«packet_count» })
+    firstPlanCause (causesFrom plan next (plan .«packet_count») 0)
+    (record { outcome = gives (packetsOf plan next); next = next + plan .«packet_count» })
 
 -- "count above 2,048 (added)", behind 16 and 17
 unfoldable pub planCauses : TrafficPlan → List Cause

@@ -1,9 +1,10 @@
 // Traffic plans and how they are judged (leaf 5; `TrafficPlan` of the Rust's traffic.rs). One judge serves every call
-// that is handed a plan. By what a plan is refused, and which packets it asks for, is defined in specs/Plan.antt.
+// that is handed a plan. specs/Plan.antt defines why a plan is refused and which packets it asks for.
 ghost use mathlib.Core.Path.{_≡_};
 ghost use Prim.Native.Nat.{_<_};
 ghost use Rattle.plan.specs.Plan.{intervalOf, intervalMeans, judgePackets, judgePlan};
-ghost use Rattle.plan.specs.Claims.{AcceptedIfAcceptable, AcceptableIfAccepted, SequenceDecides, TimeDecides, RateThenCount, PlanNumbers, PacketsOrdered, Intervals, Examples};
+ghost use Rattle.plan.specs.Claims.{AcceptedIfAcceptable, AcceptableIfAccepted, SequenceDecides, TimeDecides};
+ghost use Rattle.plan.specs.Claims.{RateThenCount, PlanNumbers, PacketsOrdered, Intervals, Examples};
 ghost use Rattle.plan.specs.Judge.{InTime, Timed, Judges};
 
 // The most packets that a plan may ask for.
@@ -58,7 +59,8 @@ fn packets_in_time(first: u64, interval: u64, count: u64) -> u64
     if last < count { last + 1 } else { count }
 }
 
-// The packets judged in closed form: the sequence fails first at packet TOP - next_sequence, the time at packet `in_time`.
+// The packets judged in closed form: the sequence fails first at packet TOP - next_sequence, the time at packet
+// `in_time`.
 fn judge_packets(plan: TrafficPlan, interval: u64, next_sequence: u64) -> JudgedPlan
     requires { ⌜ Timed plan interval ⌝ }
     ensures { λ r. ⌜ Judges plan r (judgePackets plan «next_sequence») ⌝ }

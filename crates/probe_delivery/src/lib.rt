@@ -1,12 +1,13 @@
-// One probe through the reflector and back: what it sends is damaged as the scenario says, recorded on the run sheet by the proved call, and noted.
-use continuity::GtpuReturnDatagramOutcome;
-use continuity::MessageRecorded;
-use continuity::ReturnRecording;
+// One probe through the reflector and back: what it sends is damaged as the scenario says, recorded on the run sheet by
+// the proved call, and noted.
 use gtpu::GtpuMessage;
 use observer::ObserverCounts;
 use reflector_answer::Handled;
 use reflector_answer::ReflectorAction;
 use reflector_answer::ReflectorState;
+use return_calls::GtpuReturnDatagramOutcome;
+use return_calls::MessageRecorded;
+use return_calls::ReturnRecording;
 use scenario::Scenario;
 
 // What changes from return to return, beside the columns.
@@ -105,7 +106,7 @@ pub fn deliver(
     };
     let length = return_damage::length_back(s, probe, sent_length(action));
     return_damage::damage(s, probe, &mut out);
-    let recorded = continuity::record_return_gtpu_datagram(
+    let recorded = return_calls::record_return_gtpu_datagram(
         sequences,
         send_timestamps,
         latencies,

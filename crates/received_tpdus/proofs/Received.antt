@@ -18,11 +18,11 @@ use Rattle.observer.specs.InTurn.{Steps, inTurn}
 use Rattle.observer.specs.Claims.{returning}
 use Rattle.observer.proofs.Calls.{judged-malformed, judged-well, refusing-well}
 use Rattle.observer.proofs.Claims.{calls-keep-well}
-use Rattle.continuity.specs.Returns.{sequenceRead, recordReceivedTpdu}
-use Rattle.continuity.specs.Reading.{recordReturned}
-use Rattle.continuity.specs.Answer.{sequenceNumbers}
-use Rattle.continuity.specs.declared.SequenceRead.{SequenceRead}
-use Rattle.continuity.proofs.Laws.{tpdu-refused, tpdu-read, received-is}
+use Rattle.return_calls.specs.Returns.{sequenceRead, recordReceivedTpdu}
+use Rattle.return_calls.specs.Reading.{recordReturned}
+use Rattle.return_calls.specs.Answer.{sequenceNumbers}
+use Rattle.return_calls.specs.declared.SequenceRead.{SequenceRead}
+use Rattle.return_calls.proofs.Laws.{tpdu-refused, tpdu-read, received-is}
 use Rattle.received_tpdus.specs.Received.{tpdusOf, Received, receivedOf, recordReceived, returnsIn, ReturnsTaken, atFront, takeReturns, recordReceivedTpdus}
 
 -- ---- reading

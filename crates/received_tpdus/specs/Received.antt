@@ -11,8 +11,8 @@ use Rattle.observer.specs.InTurn.{Steps, inTurn}
 use Rattle.rows.specs.Columns.{Columns, Column, Sheet}
 use Rattle.observer.specs.Answer.{observerOf, lent}
 use Rattle.observer.specs.declared.ObserverCounts.{ObserverCounts}
-use Rattle.continuity.specs.Returns.{sequenceRead, recordReceivedTpdu}
-use Rattle.continuity.specs.Answer.{sequenceNumbers}
+use Rattle.return_calls.specs.Returns.{sequenceRead, recordReceivedTpdu}
+use Rattle.return_calls.specs.Answer.{sequenceNumbers}
 use Rattle.received_tpdus.specs.declared.ReturnsRecorded.{ReturnsRecorded}
 use Rattle.received_tpdus.specs.declared.ReturnsRecording.{ReturnsRecording}
 use Rattle.received_tpdus.specs.declared.ReturnsRecording.the-variants as recording

@@ -63,7 +63,7 @@ pub fn record_received_tpdus(
     let mut i = 0;
     while i < returns {
         let end = tpdu_end(at, lengths[i], tpdus.len());
-        let read = continuity::read_sequence(&tpdus[at..end]);
+        let read = return_calls::read_sequence(&tpdus[at..end]);
         returned[i] = read.sequence;
         at = end;
         if read.number != 0 {

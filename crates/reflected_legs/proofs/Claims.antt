@@ -6,7 +6,7 @@ use Rattle.measurement_damage.specs.Claims.{Travelled}
 use Rattle.reflector_answer.specs.declared.ReflectorPolicy.the-variants.{Echo}
 use Rattle.reflected_legs.specs.Way.{Way, arrives, echoes}
 use Rattle.reflected_legs.specs.Claims.{WaysAreTravelled, RoutesIncluded}
-use Rattle.reflected_legs.proofs.Hops.{action-meant, payload-told, route-copies-nothing, sent-by-policy, forwards-is, forwards}
+use Rattle.reflected_legs.proofs.Hops.{payload-told, route-copies-nothing, sent-by-policy, forwards-is, forwards}
 use Rattle.reflected_legs.proofs.Legs.{legs-are-one}
 
 way-travelled : {sent arrived : List ℕ} {n : ℕ} → Way sent n arrived → Travelled sent n arrived
@@ -24,7 +24,6 @@ ways-are-travelled = record { travelled = λ sent n arrived w. way-travelled w; 
 
 pub routes-included : RoutesIncluded
 routes-included = record {
-  action-meant = action-meant;
   payload-told = payload-told;
   route-copies-nothing = route-copies-nothing;
   sent-by-policy = sent-by-policy;

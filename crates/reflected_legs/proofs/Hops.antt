@@ -3,32 +3,29 @@ use Prim.Native.Nat.{ℕ}
 use native.Mathlib.Omega.{arith}
 use mathlib.Core.Path.{_≡_, refl, sym, ap, _∙_}
 use mathlib.Core.Logic.{_⊎_, inl, inr}
-use mathlib.Core.Bool.{Bool, true, false}
-use mathlib.Core.List.{List, [], _∷_, _++_}
+use mathlib.Core.List.{List, [], _∷_}
 use mathlib.Core.Option.{Option, some, none}
-use lib.Dec.{eqb, ltb}
 use lib.ListN.{length, drop, replicate}
 use lib.Seq.{take-append-seam}
 use borrow.Author.Tests.{eq-eqb}
-use Rattle.error.specs.Number.{outputTooShort}
-use Rattle.error.specs.Outcome.{Outcome, refused, gives, Cause, _⇒_, firstCause}
+use Rattle.error.specs.Outcome.{Outcome, refused, gives, firstCause}
 use Rattle.measurement_damage.specs.Echo.{echoOf}
 use Rattle.reflector_sessions.specs.Judge.{tableCauses, tableOutcome}
-use Rattle.reflector_sessions.specs.Session.{valueOf, noSession}
+use Rattle.reflector_sessions.specs.Session.{noSession}
 use Rattle.reflector_sessions.specs.Table.{tableOf, usedRows, find}
 use Rattle.reflector_sessions.specs.declared.ReflectorSession.{ReflectorSession}
 use Rattle.reflector_answer.specs.State.{fresh}
-use Rattle.reflector_answer.specs.Answer.{Payload, written, payloadBytes, Outbound, Action, noop, send, Answer, gpdu, reflected, gpduOutcome, gpduKnown, gpduUnknown, gpduAnswer, echoRequestOutcome, echoRequest, otherMessage, answer}
-use Rattle.reflector_answer.specs.Handle.{actionMeans, actionOf, messageOf, placed, noAddress, handleFound}
+use Rattle.reflector_answer.specs.Answer.{payloadBytes, Outbound, Action, noop, send, Answer, reflected, gpduOutcome, gpduKnown, answer}
+use Rattle.reflector_answer.specs.Handle.{actionOf, placed, noAddress}
 use Rattle.reflector_answer.specs.declared.ReflectorPolicy.{ReflectorPolicy}
 use Rattle.reflector_answer.specs.declared.ReflectorPolicy.the-variants.{Echo, SinkAndCount, Route}
 use Rattle.reflector_answer.specs.declared.ReflectorNoopReason.{ReflectorNoopReason}
-use Rattle.reflector_answer.specs.declared.ReflectorSendReason.the-variants.{ReflectedGpdu, EchoResponse, ErrorIndication}
 use Rattle.gtpu.specs.declared.SequenceNumber.the-variants.{Absent}
 use Rattle.reflector_answer.proofs.Answers.{handling-passed}
+use Rattle.reflector_answer.proofs.Meant.{Other, response, indication, every}
 use Rattle.reflector.specs.Handle.{handleDatagram}
 use Rattle.reflected_legs.specs.Hop.{Reflector, answerTo, gpduSent, sentOn, Forwards}
-use Rattle.reflected_legs.specs.Claims.{ActionMeant, PayloadTold, Known, Uncopied, RouteCopiesNothing, OnwardUnder, SentByPolicy}
+use Rattle.reflected_legs.specs.Claims.{PayloadTold, Known, Uncopied, RouteCopiesNothing, OnwardUnder, SentByPolicy}
 
 no-some : {A : Type 0} {x : A} → none ≡ some x → ⊥
 no-some e = let z : _≡_ {A = ℕ} 0 1 = cc in omega arith
@@ -38,95 +35,18 @@ abbrev given : Outcome (List ℕ) → Option (List ℕ)
 given (refused n) = none
 given (gives b) = some b
 
--- a message that is no G-PDU: its payload is written
-data Other (m : Outbound) : Type 0 where
-  response : (b : List ℕ) → m .reason ≡ EchoResponse → m .messageType ≡ 2 → m .payload ≡ written b → Other m
-  indication : (b : List ℕ) → m .reason ≡ ErrorIndication → m .messageType ≡ 26 → m .payload ≡ written b → Other m
-
-behind-causes : (P : Outcome Action → Type 0) → ((n : ℕ) → P (refused n)) → (rows : List Cause) (o : Outcome Action) → P o → P (firstCause rows o)
-unfolding firstCause
-behind-causes P refusals [] o h = h
-behind-causes P refusals ((true ⇒ n) ∷ rows) o h = refusals n
-behind-causes P refusals ((false ⇒ n) ∷ rows) o h = behind-causes P refusals rows o h
-
 module _ (r : Reflector) (payload : List ℕ) where
   abbrev session-meant : Option ReflectorSession
   session-meant = find (r .message .teid) (usedRows (tableOf (r .sessions) (r .used) (r .config .«max_sessions»)))
 
-  -- what holds of every answer: of refusals, of messages that nothing is done with, of G-PDUs of a known session, and of messages that are none
-  module _ (P : Outcome Action → Type 0) (refusals : (n : ℕ) → P (refused n)) (idle : (reason : ReflectorNoopReason) → P (gives (noop reason))) (gpdus : (session : ReflectorSession) → P (gpduOutcome (r .config) session payload)) (others : (m : Outbound) → Other m → P (gives (send m))) where
-    abbrev Of : Answer → Type 0
-    Of a = P (a .outcome)
-
-    either : (t : Bool) (a b : Answer) → Of a → Of b → Of (elim t [ true ↦ a | false ↦ b ])
-    either true a b g h = g
-    either false a b g h = h
-
-    of-other : Of (otherMessage (r .state) (r .message .«message_type»))
-    unfolding otherMessage
-    of-other =
-        let t = r .message .«message_type» in
-        either (eqb t 2) _ _ (idle _) (either (eqb t 26) _ _ (idle _) (either (eqb t 254) _ _ (idle _) (either (eqb t 31) _ _ (idle _) (refusals _))))
-
-    of-request : P (echoRequestOutcome (r .config) (r .source) (r .message))
-    unfolding echoRequestOutcome
-    of-request = behind-causes P refusals _ _ (others _ (response _ refl refl refl))
-
-    of-gpdu : (session : Option ReflectorSession) → Of (gpduAnswer (r .config) (r .state) session (r .source) (r .message .teid) payload)
-    unfolding gpduKnown gpduUnknown
-    of-gpdu (some session) = gpdus session
-    of-gpdu none = others _ (indication _ refl refl refl)
-
-    of-answer : Of (answer (r .config) (r .state) session-meant (r .source) (r .message) payload)
-    unfolding answer echoRequest
-    of-answer =
-        let t = r .message .«message_type» in
-        either (eqb t 255) _ _ (of-gpdu session-meant) (either (eqb t 1) _ _ of-request of-other)
-
-    every : Of (answerTo r payload)
-    unfolding handleDatagram handleFound
-    every =
-        go (firstCause (tableCauses (length (r .sessions)) (r .used) (r .config .«max_sessions») ++ (ltb (length (r .output)) 72 ⇒ outputTooShort) ∷ []) (gives (tt {0})))
-      where
-        go : (x : Outcome (Unit {0})) → Of (elim x [
-          | refused number ↦ record { outcome = refused number; state = r .state }
-          | gives u ↦ answer (r .config) (r .state) session-meant (r .source) (r .message) payload
-        ])
-        go (refused n) = refusals n
-        go (gives u) = of-answer
+  -- what holds of every outcome
+  of-every : (P : Outcome Action → Type 0) (refusals : (n : ℕ) → P (refused n)) (idle : (reason : ReflectorNoopReason) → P (gives (noop reason))) (gpdus : (session : ReflectorSession) → P (gpduOutcome (r .config) session payload)) (others : (m : Outbound) → Other m → P (gives (send m)))
+      → P (answerTo r payload .outcome)
+  unfolding handleDatagram
+  of-every P refusals idle gpdus others = every (length (r .sessions)) (r .used) (r .config) (r .state) session-meant (r .source) (r .message) payload (r .output) P refusals idle gpdus others
 
   abbrev onwardOf : Outcome Action → Option (List ℕ)
   onwardOf o = gpduSent (actionOf o) payload (placed o (r .output))
-
-  -- what the answer means is the outcome
-
-  abbrev Meant : Outcome Action → Type 0
-  Meant o = actionMeans (actionOf o) (messageOf o) (placed o (r .output)) ≡ o
-
-  meant-echo : (session : ReflectorSession) (o : Outcome (List ℕ)) → Meant (reflected session o)
-  meant-echo session (refused n) = refl
-  meant-echo session (gives b) =
-      ap (λ (x : List ℕ). gives (gpdu ReflectedGpdu (valueOf (session .«peer_addr»)) (session .«peer_teid») (written x))) (take-append-seam b (drop (length b) (r .output)))
-
-  meant-gpdu : (session : ReflectorSession) → Meant (gpduOutcome (r .config) session payload)
-  unfolding gpduOutcome
-  meant-gpdu session = go (r .config .policy) refl
-    where
-      go : (p : ReflectorPolicy) → r .config .policy ≡ p → Meant (gpduOutcome (r .config) session payload)
-      go Echo e = rw (e, gpduOutcome) (meant-echo session (echoOf payload))
-      go SinkAndCount e = rw (e, gpduOutcome)
-      go Route e = rw (e, gpduOutcome)
-
-  abbrev sends : Outbound → Payload → Outcome Action
-  sends m p =
-      gives (send (record { reason = m .reason; destination = m .destination; teid = m .teid; messageType = m .messageType; sequence = m .sequence; payload = p }))
-
-  meant-other : (m : Outbound) → Other m → Meant (gives (send m))
-  meant-other m (response b e f p) = ap (sends m) (rw (e, p) (ap written (take-append-seam b (drop (length b) (r .output)))))
-  meant-other m (indication b e f p) = ap (sends m) (rw (e, p) (ap written (take-append-seam b (drop (length b) (r .output)))))
-
-  meant : Meant (answerTo r payload .outcome)
-  meant = every Meant (λ n. refl) (λ reason. refl) meant-gpdu meant-other
 
   -- what the answer tells is its payload
 
@@ -153,7 +73,7 @@ module _ (r : Reflector) (payload : List ℕ) where
   told-other m (indication b e f p) = λ h. absurd (omega arith)
 
   told : Told (answerTo r payload .outcome)
-  told = every Told (λ n. tt) (λ reason. tt) told-gpdu told-other
+  told = of-every Told (λ n. tt) (λ reason. tt) told-gpdu told-other
 
   -- what goes on: by the policy, or nothing
 
@@ -183,7 +103,7 @@ module _ (r : Reflector) (payload : List ℕ) where
   other-ends m (indication b e f p) = inl (rw e)
 
   ends : Ends (answerTo r payload .outcome)
-  ends = every Ends (λ n. inl refl) (λ reason. inl refl) (λ session. inr (gpdu-onward session)) other-ends
+  ends = of-every Ends (λ n. inl refl) (λ reason. inl refl) (λ session. inr (gpdu-onward session)) other-ends
 
   -- backwards, and forwards
 
@@ -228,9 +148,6 @@ module _ (r : Reflector) (payload : List ℕ) where
       action = ap (λ (a : Answer). actionOf (a .outcome)) (sym known-answer) ∙ rw (p, gpduKnown);
       output = ap (λ (a : Answer). placed (a .outcome) (r .output)) (sym known-answer) ∙ rw (p, gpduKnown);
     }
-
-pub action-meant : ActionMeant
-action-meant = meant
 
 pub payload-told : PayloadTold
 payload-told r payload m e f =

@@ -14,19 +14,13 @@ use Rattle.reflector_sessions.specs.Judge.{tableOutcome}
 use Rattle.reflector_sessions.specs.Table.{tableOf, usedRows, find}
 use Rattle.reflector_sessions.specs.declared.ReflectorSession.{ReflectorSession}
 use Rattle.reflector_answer.specs.Answer.{payloadBytes, Outbound, send}
-use Rattle.reflector_answer.specs.Handle.{actionMeans, reflectorBytes}
+use Rattle.reflector_answer.specs.Handle.{reflectorBytes}
 use Rattle.reflector_answer.specs.declared.ReflectorAction.the-variants.{Send}
 use Rattle.reflector_answer.specs.declared.ReflectorPolicy.{ReflectorPolicy}
 use Rattle.reflector_answer.specs.declared.ReflectorPolicy.the-variants.{Echo, SinkAndCount, Route}
 use Rattle.reflector_answer.specs.declared.ReflectorSendReason.the-variants.{RoutedGpdu}
 use Rattle.reflected_legs.specs.Hop.{Reflector, answerTo, handled, outputAfter, sentOn}
 use Rattle.reflected_legs.specs.Way.{Leg, Way}
-
--- The answer, with the message beside it and the output, means what reflector_answer defines for the message.
-abbrev pub ActionMeant : Type 0
-ActionMeant = (r : Reflector) (payload : List ℕ)
-    → actionMeans (handled r payload .action) (handled r payload .message) (outputAfter r payload)
-    ≡ answerTo r payload .outcome
 
 -- What the answer tells its caller to send is the payload that is defined for it, for every G-PDU that goes out: the
 -- bytes that were written, or the payload that came.
@@ -78,7 +72,6 @@ pub record WaysAreTravelled : Type 0 where
   pub way : (sent : List ℕ) (n : ℕ) (arrived : List ℕ) → Travelled sent n arrived → Way sent n arrived
 
 pub record RoutesIncluded : Type 0 where
-  pub action-meant : ActionMeant
   pub payload-told : PayloadTold
   pub route-copies-nothing : RouteCopiesNothing
   pub sent-by-policy : SentByPolicy

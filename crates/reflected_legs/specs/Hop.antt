@@ -14,7 +14,8 @@ use Rattle.reflector_answer.specs.declared.MultiSessionReflectorConfig.{MultiSe
 use Rattle.reflector_answer.specs.declared.ReflectorAction.{ReflectorAction}
 use Rattle.reflector_answer.specs.declared.ReflectorAction.the-variants.{Refused, Noop, Send}
 use Rattle.reflector_answer.specs.declared.ReflectorPolicy.{ReflectorPolicy}
-use Rattle.reflector_answer.specs.declared.ReflectorSendReason.the-variants.{ReflectedGpdu, RoutedGpdu, EchoResponse, ErrorIndication}
+use Rattle.reflector_answer.specs.declared.ReflectorSendReason.the-variants.{ReflectedGpdu, RoutedGpdu, EchoResponse}
+use Rattle.reflector_answer.specs.declared.ReflectorSendReason.the-variants.{ErrorIndication}
 use Rattle.reflector_answer.specs.declared.ReflectorState.{ReflectorState}
 use Rattle.reflector.specs.Handle.{handleDatagram}
 

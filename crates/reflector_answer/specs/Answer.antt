@@ -1,5 +1,6 @@
--- What the reflector answers to a message whose TEID means this session, or none: document 01, leaf 9, with the card's numbers 35 to 37. The
--- output buffer is not spoken of here: an answer has a payload, and specs/Handle.antt says where it stands.
+-- What the reflector answers to a message whose TEID means this session, or none: document 01, leaf 9, with the card's
+-- numbers 35 to 37. The output buffer is not spoken of here: an answer has a payload, and specs/Handle.antt says where
+-- it stands.
 use Prim.Native.Nat.{ℕ}
 use mathlib.Core.List.{List, [], _∷_, _++_}
 use mathlib.Core.Bool.{Bool, true, false, not}
@@ -11,26 +12,33 @@ use Rattle.field.specs.Field.{bigEndian, bytesAt}
 use Rattle.measurement.specs.Flow.{address}
 use Rattle.measurement_damage.specs.Echo.{echoOf}
 use Rattle.gtpu.specs.Claims.{errorIndication}
-use Rattle.gtpu.specs.Message.{gtpuMsgEchoRequest, gtpuMsgEchoResponse, gtpuMsgErrorIndication, gtpuMsgSupportedExtensionHeadersNotification, gtpuMsgEndMarker, gtpuMsgGpdu}
+use Rattle.gtpu.specs.Message.{gtpuMsgEchoRequest, gtpuMsgEchoResponse, gtpuMsgErrorIndication}
+use Rattle.gtpu.specs.Message.{gtpuMsgSupportedExtensionHeadersNotification, gtpuMsgEndMarker, gtpuMsgGpdu}
 use Rattle.reflector_sessions.specs.Session.{valueOf}
 use Rattle.reflector_answer.specs.State.{stateCounted, errorIndicationSent}
 use Rattle.gtpu.specs.declared.GtpuMessage.{GtpuMessage}
 use Rattle.reflector_answer.specs.declared.MultiSessionReflectorConfig.{MultiSessionReflectorConfig}
-use Rattle.reflector_answer.specs.declared.ReflectorCounter.the-variants.{GpduReceived, GpduForwarded, EchoRequestsAnswered, MalformedRejected}
+use Rattle.reflector_answer.specs.declared.ReflectorCounter.the-variants.{GpduReceived, GpduForwarded}
+use Rattle.reflector_answer.specs.declared.ReflectorCounter.the-variants.{EchoRequestsAnswered, MalformedRejected}
 use Rattle.reflector_answer.specs.declared.ReflectorCounter.the-variants as counter
 use Rattle.reflector_answer.specs.declared.ReflectorNoopReason.{ReflectorNoopReason}
-use Rattle.reflector_answer.specs.declared.ReflectorNoopReason.the-variants.{GpduSunk, EchoResponseObserved, ErrorIndicationObserved, EndMarkerIgnored, SupportedExtensionHeadersNotificationIgnored}
+use Rattle.reflector_answer.specs.declared.ReflectorNoopReason.the-variants.{GpduSunk, EchoResponseObserved}
+use Rattle.reflector_answer.specs.declared.ReflectorNoopReason.the-variants.{ErrorIndicationObserved}
+use Rattle.reflector_answer.specs.declared.ReflectorNoopReason.the-variants.{EndMarkerIgnored}
+use Rattle.reflector_answer.specs.declared.ReflectorNoopReason.the-variants.{SupportedExtensionHeadersNotificationIgnored}
 use Rattle.reflector_answer.specs.declared.ReflectorPolicy.{ReflectorPolicy}
 use Rattle.reflector_answer.specs.declared.ReflectorPolicy.the-variants.{Echo, SinkAndCount, Route}
 use Rattle.reflector_answer.specs.declared.ReflectorSendReason.{ReflectorSendReason}
-use Rattle.reflector_answer.specs.declared.ReflectorSendReason.the-variants.{ReflectedGpdu, RoutedGpdu, EchoResponse, ErrorIndication}
+use Rattle.reflector_answer.specs.declared.ReflectorSendReason.the-variants.{ReflectedGpdu, RoutedGpdu}
+use Rattle.reflector_answer.specs.declared.ReflectorSendReason.the-variants.{EchoResponse, ErrorIndication}
 use Rattle.reflector_sessions.specs.declared.ReflectorSession.{ReflectorSession}
 use Rattle.reflector_answer.specs.declared.ReflectorState.{ReflectorState}
 use Rattle.gtpu.specs.declared.SequenceNumber.{SequenceNumber}
 use Rattle.gtpu.specs.declared.SequenceNumber.the-variants.{Present, Absent}
 use Rattle.reflector_sessions.specs.declared.SocketAddr.{SocketAddr}
 
--- The payload of an answer: bytes that the reflector writes, or the received payload. "Route hands on the payload uncopied."
+-- The payload of an answer: bytes that the reflector writes, or the received payload. "Route hands on the payload
+-- uncopied."
 pub data Payload : Type 0 where
   written : List ℕ → Payload
   handedOn : Payload
@@ -62,14 +70,23 @@ pub record Answer : Type 0 where
 -- "echoes and routes being type 255 without a sequence"
 abbrev pub gpdu : ReflectorSendReason → SocketAddr → ℕ → Payload → Action
 gpdu reason destination teid payload =
-    send (record { reason = reason; destination = destination; teid = teid; messageType = gtpuMsgGpdu; sequence = Absent; payload = payload })
+    send (record {
+      reason = reason;
+      destination = destination;
+      teid = teid;
+      messageType = gtpuMsgGpdu;
+      sequence = Absent;
+      payload = payload;
+    })
 
 -- The outcome of echoing a payload: "echo to the session's peer address and TEID".
 abbrev pub reflected : ReflectorSession → Outcome (List ℕ) → Outcome Action
 reflected session (refused n) = refused n
-reflected session (gives bytes) = gives (gpdu ReflectedGpdu (valueOf (session .«peer_addr»)) (session .«peer_teid») (written bytes))
+reflected session (gives bytes) =
+    gives (gpdu ReflectedGpdu (valueOf (session .«peer_addr»)) (session .«peer_teid») (written bytes))
 
--- A G-PDU of a known session, "by policy": "echo to the session's peer address and TEID, sink, or route to the target's".
+-- A G-PDU of a known session, "by policy": "echo to the session's peer address and TEID, sink, or route to the
+-- target's".
 unfoldable pub gpduOutcome : MultiSessionReflectorConfig → ReflectorSession → List ℕ → Outcome Action
 gpduOutcome config session payload =
     elim (config .policy) [
@@ -119,7 +136,8 @@ abbrev pub isAbsent : SequenceNumber → Bool
 isAbsent Absent = true
 isAbsent (Present n) = false
 
--- "1 is judged 35, 36, then answered to the sender as type 2 with TEID 0, the request's sequence and the bytes 14 and recovery counter".
+-- "1 is judged 35, 36, then answered to the sender as type 2 with TEID 0, the request's sequence and the bytes 14 and
+-- recovery counter".
 unfoldable pub echoRequestOutcome : MultiSessionReflectorConfig → SocketAddr → GtpuMessage → Outcome Action
 echoRequestOutcome config source message =
     firstCause
@@ -168,12 +186,14 @@ otherMessage state messageType =
     ]
 
 -- A G-PDU: its TEID means a session, or none.
-abbrev pub gpduAnswer : MultiSessionReflectorConfig → ReflectorState → Option ReflectorSession → SocketAddr → ℕ → List ℕ → Answer
+abbrev pub gpduAnswer : MultiSessionReflectorConfig → ReflectorState → Option ReflectorSession → SocketAddr → ℕ → List ℕ
+    → Answer
 gpduAnswer config state (some session) source teid payload = gpduKnown config state session payload
 gpduAnswer config state none source teid payload = gpduUnknown state source teid
 
 -- A message, by its type.
-unfoldable pub answer : MultiSessionReflectorConfig → ReflectorState → Option ReflectorSession → SocketAddr → GtpuMessage → List ℕ → Answer
+unfoldable pub answer : MultiSessionReflectorConfig → ReflectorState → Option ReflectorSession → SocketAddr
+    → GtpuMessage → List ℕ → Answer
 answer config state session source message payload =
     elim (eqb (message .«message_type») gtpuMsgGpdu) [
       | true ↦ gpduAnswer config state session source (message .teid) payload

@@ -32,16 +32,20 @@ pub record Sends (a : Answer) (reason : ReflectorSendReason) (destination : Sock
 
 -- A G-PDU of an unknown TEID is answered to its sender by an Error Indication that the element walk accepts.
 abbrev pub IndicationAccepted : Type 0
-IndicationAccepted = (config : MultiSessionReflectorConfig) (state : ReflectorState) (source : SocketAddr) (message : GtpuMessage) (payload : List ℕ)
+IndicationAccepted = (config : MultiSessionReflectorConfig) (state : ReflectorState) (source : SocketAddr)
+    (message : GtpuMessage) (payload : List ℕ)
     → message .«message_type» ≡ gtpuMsgGpdu
-    → (bytes : List ℕ) × Sends (answer config state none source message payload) ErrorIndication source bytes × (elementsOf bytes ≡ gives tt)
+    → (bytes : List ℕ) × Sends (answer config state none source message payload) ErrorIndication source bytes
+    × (elementsOf bytes ≡ gives tt)
 
--- A built T-PDU for a known session, whatever stands behind it, is echoed to the session's peer; the echo, read back, gives the reversed flow,
--- and the sequence and time of the T-PDU.
+-- A built T-PDU for a known session, whatever stands behind it, is echoed to the session's peer; the echo, read back,
+-- gives the reversed flow, and the sequence and time of the T-PDU.
 abbrev pub EchoReadsBack : Type 0
-EchoReadsBack = (config : MultiSessionReflectorConfig) (state : ReflectorState) (session : ReflectorSession) (source : SocketAddr) (message : GtpuMessage)
+EchoReadsBack = (config : MultiSessionReflectorConfig) (state : ReflectorState) (session : ReflectorSession)
+    (source : SocketAddr) (message : GtpuMessage)
     → message .«message_type» ≡ gtpuMsgGpdu → config .policy ≡ Echo
     → (flow : InnerIpFlow) (sequence time : ℕ) → InRange flow sequence time → (behind : List ℕ)
     → (bytes : List ℕ)
-    × Sends (answer config state (some session) source message (buildOf flow sequence time ++ behind)) ReflectedGpdu (valueOf (session .«peer_addr»)) bytes
+    × Sends (answer config state (some session) source message (buildOf flow sequence time ++ behind)) ReflectedGpdu
+    (valueOf (session .«peer_addr»)) bytes
     × (readOf bytes ≡ gives (tpduBuilt (reversedOf flow) sequence time))

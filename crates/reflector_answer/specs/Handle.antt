@@ -1,5 +1,5 @@
--- What a call that handles a message hands back: the code's answer, the state and the output. "A refusal returns its number and nothing else",
--- so what stands beside it is all zeros, and so it is where nothing is sent.
+-- What a call that handles a message hands back: the code's answer, the state and the output. "A refusal returns its
+-- number and nothing else", so what stands beside it is all zeros, and so it is where nothing is sent.
 use Prim.Native.Nat.{ℕ, _≤_}
 use mathlib.Core.Path.{_≡_}
 use mathlib.Core.List.{List, [], _∷_, _++_}
@@ -15,9 +15,11 @@ use Rattle.gtpu.specs.Message.{gtpuMsgGpdu}
 use Rattle.reflector_answer.specs.State.{stateCounted}
 use Rattle.reflector_answer.specs.declared.ReflectorCounter.the-variants.{GpduForwarded}
 use Rattle.reflector_answer.specs.declared.ReflectorSendReason.{ReflectorSendReason}
-use Rattle.reflector_answer.specs.declared.ReflectorSendReason.the-variants.{ReflectedGpdu, RoutedGpdu, EchoResponse, ErrorIndication}
+use Rattle.reflector_answer.specs.declared.ReflectorSendReason.the-variants.{ReflectedGpdu, RoutedGpdu}
+use Rattle.reflector_answer.specs.declared.ReflectorSendReason.the-variants.{EchoResponse, ErrorIndication}
 use Rattle.reflector_sessions.specs.Judge.{tableCauses}
-use Rattle.reflector_answer.specs.Answer.{Payload, written, handedOn, Outbound, Action, noop, send, Answer, answer}
+use Rattle.reflector_answer.specs.Answer.{Payload, written, handedOn, Outbound, Action, noop, send, Answer}
+use Rattle.reflector_answer.specs.Answer.{answer}
 use Rattle.gtpu.specs.declared.GtpuMessage.{GtpuMessage}
 use Rattle.reflector_answer.specs.declared.Handled.{Handled}
 use Rattle.reflector_answer.specs.declared.MultiSessionReflectorConfig.{MultiSessionReflectorConfig}
@@ -70,7 +72,12 @@ abbrev pub messageOf : Outcome Action → OutboundMessage
 messageOf (refused number) = nothingSent
 messageOf (gives (noop reason)) = nothingSent
 messageOf (gives (send message)) =
-    record { destination = message .destination; teid = message .teid; «message_type» = message .messageType; «sequence_number» = message .sequence }
+    record {
+      destination = message .destination;
+      teid = message .teid;
+      «message_type» = message .messageType;
+      «sequence_number» = message .sequence;
+    }
 
 abbrev pub handledOf : Answer → Handled
 handledOf a = record { action = actionOf (a .outcome); message = messageOf (a .outcome); state = a .state }
@@ -87,11 +94,16 @@ forwarded state reason destination teid bytes = record {
 abbrev pub placed : Outcome Action → List ℕ → List ℕ
 placed (refused number) buffer = buffer
 placed (gives (noop reason)) buffer = buffer
-placed (gives (send message)) buffer = elim (message .payload) [ written bytes ↦ bytes ++ drop (length bytes) buffer | handedOn ↦ buffer ]
+placed (gives (send message)) buffer = elim (message .payload)
+    [ written bytes ↦ bytes ++ drop (length bytes) buffer | handedOn ↦ buffer ]
 
 -- A call's answer and the output as it leaves it are those of an answer on this output.
 abbrev pub Answers : Handled → List ℕ → Answer → List ℕ → Type 0
 Answers r after a before = (r ≡ handledOf a) × (after ≡ placed (a .outcome) before)
+
+-- What a call promises of them: the answer's case means the outcome, and nothing is left open beside it.
+abbrev pub HandledAs : Handled → List ℕ → Answer → List ℕ → Type 0
+HandledAs r after a before = (actionMeans (r .action) (r .message) after ≡ a .outcome) × Answers r after a before
 
 -- The output has room for the echo of a payload, if there is one.
 abbrev pub EchoFits : List ℕ → List ℕ → Type 0
@@ -102,9 +114,12 @@ abbrev pub reflectorBytes : ℕ
 reflectorBytes = 72
 
 -- "It is judged 30, 31, 15 (output under 72 bytes), then by type." A refusal by these leaves all.
-unfoldable pub handleFound : ℕ → ℕ → MultiSessionReflectorConfig → ReflectorState → Option ReflectorSession → SocketAddr → GtpuMessage → List ℕ → List ℕ → Answer
+unfoldable pub handleFound : ℕ → ℕ → MultiSessionReflectorConfig → ReflectorState → Option ReflectorSession → SocketAddr
+    → GtpuMessage → List ℕ → List ℕ → Answer
 handleFound rows used config state session source message payload buffer =
-    elim (firstCause (tableCauses rows used (config .«max_sessions») ++ (ltb (length buffer) reflectorBytes ⇒ outputTooShort) ∷ []) (gives (tt {0}))) [
+    elim (firstCause
+    (tableCauses rows used (config .«max_sessions») ++ (ltb (length buffer) reflectorBytes ⇒ outputTooShort) ∷ [])
+    (gives (tt {0}))) [
       | refused number ↦ record { outcome = refused number; state = state }
       | gives u ↦ answer config state session source message payload
     ]

@@ -4,14 +4,23 @@ use mathlib.Core.Bool.{true, false}
 use lib.Dec.{eqb}
 use Rattle.counter.specs.Counter.{oneMore}
 use Rattle.reflector_answer.specs.declared.ReflectorCounter.{ReflectorCounter}
-use Rattle.reflector_answer.specs.declared.ReflectorCounter.the-variants.{GpduReceived, GpduForwarded, GpduSunk, EchoRequestsAnswered, ErrorIndicationsSent, MalformedRejected}
+use Rattle.reflector_answer.specs.declared.ReflectorCounter.the-variants.{GpduReceived, GpduForwarded, GpduSunk}
+use Rattle.reflector_answer.specs.declared.ReflectorCounter.the-variants.{EchoRequestsAnswered}
+use Rattle.reflector_answer.specs.declared.ReflectorCounter.the-variants.{ErrorIndicationsSent, MalformedRejected}
 use Rattle.reflector_answer.specs.declared.ReflectorState.{ReflectorState}
 use Rattle.reflector_answer.specs.declared.ReflectorStats.{ReflectorStats}
 
 -- "Fresh: .. all counts 0, error sequence 1."
 abbrev pub fresh : ReflectorState
 fresh = record {
-  stats = record { «gpdu_received» = 0; «gpdu_forwarded» = 0; «gpdu_sunk» = 0; «echo_requests_answered» = 0; «error_indications_sent» = 0; «malformed_rejected» = 0 };
+  stats = record {
+    «gpdu_received» = 0;
+    «gpdu_forwarded» = 0;
+    «gpdu_sunk» = 0;
+    «echo_requests_answered» = 0;
+    «error_indications_sent» = 0;
+    «malformed_rejected» = 0;
+  };
   «next_error_sequence» = 1;
 }
 
@@ -75,4 +84,7 @@ nextErrorSequence sequence = elim (eqb sequence 65535) [ true ↦ 1 | false ↦ 
 
 -- "its count rises and the sequence moves on"
 abbrev pub errorIndicationSent : ReflectorState → ReflectorState
-errorIndicationSent s = record { stats = counted ErrorIndicationsSent (s .stats); «next_error_sequence» = nextErrorSequence (s .«next_error_sequence») }
+errorIndicationSent s = record {
+  stats = counted ErrorIndicationsSent (s .stats);
+  «next_error_sequence» = nextErrorSequence (s .«next_error_sequence»);
+}

@@ -1,7 +1,8 @@
-// What the reflector answers (leaf 9; `handle_datagram` of the Rust's reflector.rs after its decode): its types, and the answer to a
-// message whose TEID means a given session or none. Everything here is by value or on lent bytes; the session table is in the crate
-// reflector_sessions. What an answer is, is defined in specs/Answer.antt, and each contract is that definition: the answer, the counts, the error
-// sequence and every byte of the output, on refusals too.
+// What the reflector answers (leaf 9; `handle_datagram` of the Rust's reflector.rs after its decode): its types, and
+// the answer to a message whose TEID means a given session or none. Everything here is by value or on lent bytes; the
+// session table is in the crate reflector_sessions. What an answer is, is defined in specs/Answer.antt, and each
+// contract is that definition: the answer, the counts, the error sequence and every byte of the output, on refusals
+// too.
 use gtpu::GtpuMessage;
 use gtpu::SequenceNumber;
 use measurement::IpVersion;
@@ -18,9 +19,11 @@ ghost use Rattle.error.specs.Outcome.{refused};
 ghost use Rattle.measurement.specs.Flow.{addressLength};
 ghost use Rattle.reflector_sessions.specs.Judge.{sessionFound};
 ghost use Rattle.reflector_answer.specs.State.{counted, nextErrorSequence, stateCounted};
-ghost use Rattle.reflector_answer.specs.Answer.{errorIndicationBlock, errorIndicationTo, ignored, gpduKnown, gpduUnknown, echoRequest, otherMessage, answer};
+ghost use Rattle.reflector_answer.specs.Answer.{errorIndicationBlock, errorIndicationTo, ignored, gpduKnown};
+ghost use Rattle.reflector_answer.specs.Answer.{gpduUnknown, echoRequest, otherMessage, answer};
 ghost use Rattle.reflector_answer.specs.Claims.{IndicationAccepted, EchoReadsBack};
-ghost use Rattle.reflector_answer.specs.Handle.{nothingSent, handledOf, forwarded, Answers, EchoFits, reflectorBytes, handleFound};
+ghost use Rattle.reflector_answer.specs.Handle.{nothingSent, handledOf, forwarded, Answers, HandledAs, EchoFits};
+ghost use Rattle.reflector_answer.specs.Handle.{reflectorBytes, handleFound};
 
 // Where the policy `Route` sends G-PDUs.
 pub struct RouteTarget {
@@ -86,8 +89,8 @@ pub enum ReflectorNoopReason {
     SupportedExtensionHeadersNotificationIgnored,
 }
 
-// What is done with a message. `Send` tells how many bytes at the front of the output are the payload; a routed G-PDU has none there,
-// since its payload is the received one, uncopied.
+// What is done with a message. `Send` tells how many bytes at the front of the output are the payload; a routed G-PDU
+// has none there, since its payload is the received one, uncopied.
 pub enum ReflectorAction {
     Refused(u8),
     Noop(ReflectorNoopReason),
@@ -213,7 +216,8 @@ fn address_length(version: IpVersion) -> u8
     }
 }
 
-// The payload of an Error Indication, with all 16 bytes of the address: TEID Data I, and the GTP-U Peer Address, 4 or 16 bytes long.
+// The payload of an Error Indication, with all 16 bytes of the address: TEID Data I, and the GTP-U Peer Address, 4 or
+// 16 bytes long.
 fn error_indication(teid: u32, length: u8, address: [u8; 16]) -> [u8; 24]
     ensures { λ r. ⌜ r ≡ errorIndicationBlock teid length address ⌝ }
 {
@@ -248,7 +252,9 @@ fn error_indication(teid: u32, length: u8, address: [u8; 16]) -> [u8; 24]
 // Writes the payload of an Error Indication to the front of `out`.
 fn write_error_indication(teid: u32, peer: SocketAddr, out: &mut [u8]) -> usize
     requires { ⌜ 24 ≤ length (now out) ⌝ }
-    ensures { λ r. ⌜ (r ≡ length (errorIndicationTo teid peer)) × (now (out .exit) ≡ errorIndicationTo teid peer ++ drop (length (errorIndicationTo teid peer)) (now (out .entry))) ⌝ }
+    ensures { λ r. ⌜ (r ≡ length (errorIndicationTo teid peer))
+        × (now (out .exit) ≡ errorIndicationTo teid peer ++ drop (length (errorIndicationTo teid peer))
+        (now (out .entry))) ⌝ }
 {
     let version = peer.version;
     let address = peer.address;
@@ -313,7 +319,8 @@ fn answer_known(
     out: &mut [u8],
 ) -> Handled
     requires { ⌜ EchoFits (now payload) (now out) ⌝ }
-    ensures { λ r. ⌜ Answers r (now (out .exit)) (gpduKnown config state session (now (payload .entry))) (now (out .entry)) ⌝ }
+    ensures { λ r. ⌜ Answers r (now (out .exit)) (gpduKnown config state session (now (payload .entry)))
+        (now (out .entry)) ⌝ }
 {
     let received = state.counted(ReflectorCounter::GpduReceived);
     let policy = config.policy;
@@ -418,7 +425,8 @@ fn answer_message(
     out: &mut [u8],
 ) -> Handled
     requires { ⌜ reflectorBytes ≤ length (now out) ⌝ }
-    ensures { λ r. ⌜ Answers r (now (out .exit)) (answer config state (sessionFound used found) source message (now (payload .entry))) (now (out .entry)) ⌝ }
+    ensures { λ r. ⌜ Answers r (now (out .exit))
+        (answer config state (sessionFound used found) source message (now (payload .entry))) (now (out .entry)) ⌝ }
 {
     let message_type = message.message_type;
     match message_type {
@@ -433,7 +441,8 @@ fn answer_message(
     }
 }
 
-// Handles a message whose TEID was looked for among the used rows of a table of this length. Judges 30, 31 and 15 first.
+// Handles a message whose TEID was looked for among the used rows of a table of this length. Judges 30, 31 and 15
+// first.
 pub fn handle_found(
     length: usize,
     used: usize,
@@ -445,7 +454,10 @@ pub fn handle_found(
     payload: &[u8],
     out: &mut [u8],
 ) -> Handled
-    ensures { λ r. ⌜ Answers r (now (out .exit)) (handleFound length used config state (sessionFound used found) source message (now (payload .entry)) (now (out .entry))) (now (out .entry)) ⌝ }
+    ensures { λ r. ⌜ HandledAs r (now (out .exit))
+        (handleFound length used config state (sessionFound used found) source message (now (payload .entry))
+        (now (out .entry)))
+        (now (out .entry)) ⌝ }
 {
     match reflector_sessions::judge_table(length, used, config.max_sessions) {
         JudgedTable::Refused(number) => state.refuse(number),

@@ -39,26 +39,30 @@ use Rattle.reflector_sessions.proofs.Memory.{R}
 use Rattle.reflector_sessions.proofs.ReflectorSession as T
 use Rattle.reflector_sessions.proofs.ReflectorSession.Laws as T′
 
--- A type that is passed by value: it has one machine value, owns only facts, and is at exit as it was passed.
-pub record ByValue (S : RattleType) : Type 2 where
-  pub ty : Ty
-  pub val : S .Denot → Val
+-- A type that is passed by value, as a machine value of this type: it owns only facts, and is at exit as it was passed.
+pub record OneValue (S : RattleType) (ty : Ty) (val : S .Denot → Val) : Type 2 where
   pub tells : Tells S (Is S) (λ x. val x ∷ [])
   pub typed : {M : Type 1} (𝓤 : URA M) (H : Heap 𝓤) (A : Atoms 𝓤) → Given 𝓤 H A → (x : S .Denot) (v : Val) → Is S x (v ∷ []) → True (hasTy ty v) × WT v
   pub makes : {M : Type 1} (𝓤 : URA M) (H : Heap 𝓤) (A : Atoms 𝓤) → Given 𝓤 H A → Makes 𝓤 H A S (Is S)
   pub last : (x : S .Denot) → Last (S .exit yes) x
   pub silent : (x : S .Denot) (f : Last (S .exit yes) x) → left (S .exit yes) x f ≡ ftrue
 
-abbrev pub struct : (T : Declared) (L : LL.Laws T) → Plains (fields T) → ((x : T .D) → Last (row T .exit yes) x) → ((x : T .D) (f : Last (row T .exit yes) x) → left (row T .exit yes) x f ≡ ftrue) → ByValue (row T)
-struct T L facts last silent = record {
-  ty = lone (row T .mir);
-  val = LL.val T L;
+pub record ByValue (S : RattleType) : Type 2 where
+  pub ty : Ty
+  pub val : S .Denot → Val
+  pub one : OneValue S ty val
+
+abbrev pub one-struct : (T : Declared) (L : LL.Laws T) → Plains (fields T) → ((x : T .D) → Last (row T .exit yes) x) → ((x : T .D) (f : Last (row T .exit yes) x) → left (row T .exit yes) x f ≡ ftrue) → OneValue (row T) (lone (row T .mir)) (LL.val T L)
+one-struct T L facts last silent = record {
   tells = LL.tells T L;
   typed = λ 𝓤 H A W x v is. LL.lawful T L 𝓤 H A W .typed x (v ∷ []) is .0;
   makes = λ 𝓤 H A W. LL.makes T facts 𝓤 H A;
   last = last;
   silent = silent;
 }
+
+abbrev pub struct : (T : Declared) (L : LL.Laws T) → Plains (fields T) → ((x : T .D) → Last (row T .exit yes) x) → ((x : T .D) (f : Last (row T .exit yes) x) → left (row T .exit yes) x f ≡ ftrue) → ByValue (row T)
+struct T L facts last silent = record { ty = lone (row T .mir); val = LL.val T L; one = one-struct T L facts last silent }
 
 abbrev pub session : ByValue R
 session = struct T.the-type T′.the-laws T′.the-plain (λ x. tt) (λ x f. refl)
@@ -67,11 +71,14 @@ abbrev pub teid : ByValue u32
 teid = record {
   ty = tyInt w32;
   val = vint w32;
-  tells = uint-tells w32;
-  typed = λ 𝓤 H A W x v is. uint-lawful 𝓤 H A W w32 .typed x (v ∷ []) is .0;
-  makes = λ 𝓤 H A W. uint-makes 𝓤 H A W w32;
-  last = λ x. tt;
-  silent = λ x f. refl;
+  one = record { tells = uint-tells w32; typed = λ 𝓤 H A W x v is. uint-lawful 𝓤 H A W w32 .typed x (v ∷ []) is .0; makes = λ 𝓤 H A W. uint-makes 𝓤 H A W w32; last = λ x. tt; silent = λ x f. refl };
+}
+
+abbrev pub row-place : ByValue usize
+row-place = record {
+  ty = tyInt w64;
+  val = vint w64;
+  one = record { tells = uint-tells w64; typed = λ 𝓤 H A W x v is. uint-lawful 𝓤 H A W w64 .typed x (v ∷ []) is .0; makes = λ 𝓤 H A W. uint-makes 𝓤 H A W w64; last = λ x. tt; silent = λ x f. refl };
 }
 
 -- ---- the contract of a function with the further parameter P and the answer N
@@ -118,9 +125,9 @@ module _ (P N : RattleType) where
           → ent 𝓤 (⋆ 𝓤 H A ((‵ (flft κ q) ⊛ ‵ ftrue) ∷ ‵ (finally R γ zs) ∷ [])) (Ends w)
       ends used-fits maximum-fits p-is w t zs is l due =
           qed W ((‵ (flft κ q) ⊛ ‵ ftrue) ∷ ‵ (finally R γ zs) ∷ []) ∵
-          suffices ! _ (ends-at 𝓤 H A changing stayed (promised 𝓤 Due) W (((κ, tt), (q, tt), tt, arguments, values), tt) w t (zs, (tt, (tt, (by .last p, tt)))) (l, (tt, (tt, (tt, tt))))) $ says ! due $ frame ! $
-          nothing ! $ owned ! P (Is P) (by .makes 𝓤 H A W) p _ p-is $ fjoin ! $ owned ! usize (Is usize) (uint-makes 𝓤 H A W w64) maximum _ (refl, maximum-fits) $ fjoin ! $
-          owned ! usize (Is usize) (uint-makes 𝓤 H A W w64) used _ (refl, used-fits) $ fjoin ! $ move ! (1 ∷ 0 ∷ []) $ fjoin ! $ frame ! $ owned ! N (Is N) (answer .makes 𝓤 H A W) t _ is $ done !
+          suffices ! _ (ends-at 𝓤 H A changing stayed (promised 𝓤 Due) W (((κ, tt), (q, tt), tt, arguments, values), tt) w t (zs, (tt, (tt, (by .one .last p, tt)))) (l, (tt, (tt, (tt, tt))))) $ says ! due $ frame ! $
+          nothing ! $ owned ! P (Is P) (by .one .makes 𝓤 H A W) p _ p-is $ fjoin ! $ owned ! usize (Is usize) (uint-makes 𝓤 H A W w64) maximum _ (refl, maximum-fits) $ fjoin ! $
+          owned ! usize (Is usize) (uint-makes 𝓤 H A W w64) used _ (refl, used-fits) $ fjoin ! $ move ! (1 ∷ 0 ∷ []) $ fjoin ! $ frame ! $ owned ! N (Is N) (answer .one .makes 𝓤 H A W) t _ is $ done !
 
     -- a walk of a function's MIR, whatever it is passed
     abbrev pub Walk : Tables 𝓤 H → Fn → Type 1
@@ -129,8 +136,8 @@ module _ (P N : RattleType) where
 
     pub meets : (𝓣 : Tables 𝓤 H) (function : Fn) → Walk 𝓣 function → Meets 𝓤 H A (changing .signature) (WpFn 𝓤 H (𝓣 .C) (𝓣 .Λ) function) (closing 𝓤 H A changing (promised 𝓤 Due))
     meets 𝓣 function walk =
-        walk-meets 𝓤 H A changing stayed W (goes-gave-slice 𝓤 H A W 1 0 tt (plain (λ _. R)), (goes-none 𝓤 H A W 1 (λ _. usize) yes (λ κs x f. refl), (goes-none 𝓤 H A W 1 (λ _. usize) yes (λ κs x f. refl), (goes-none 𝓤 H A W 1 (λ _. P) yes (λ κs. by .silent), tt)))) (promised 𝓤 Due)
+        walk-meets 𝓤 H A changing stayed W (goes-gave-slice 𝓤 H A W 1 0 tt (plain (λ _. R)), (goes-none 𝓤 H A W 1 (λ _. usize) yes (λ κs x f. refl), (goes-none 𝓤 H A W 1 (λ _. usize) yes (λ κs x f. refl), (goes-none 𝓤 H A W 1 (λ _. P) yes (λ κs. by .one .silent), tt)))) (promised 𝓤 Due)
         (WpFn 𝓤 H (𝓣 .C) (𝓣 .Λ) function) (WpFn-mono 𝓤 H (W .laws) 𝓣 function)
         (walked 𝓤 H A changing stayed (promised 𝓤 Due) (WpFn 𝓤 H (𝓣 .C) (𝓣 .Λ) function) (λ κs. (slice-vals, (uint-vals w64, (uint-vals w64, ((λ p. by .val p ∷ []), tt)))))
-        (λ κs. (mut-slice-tells (named 0) (κs .0) R, (uint-tells w64, (uint-tells w64, (by .tells, tt)))))
+        (λ κs. (mut-slice-tells (named 0) (κs .0) R, (uint-tells w64, (uint-tells w64, (by .one .tells, tt)))))
         (λ κs qs bounds a g are. via 𝓤 _ (fst∗ 𝓤 _ (emp 𝓤)) (walk (κs .0) (qs .0) (a .0 .ptr .0) (a .0 .ptr .1) (a .0 .name) (a .0 .now) (a .1 .0) (a .1 .1 .0) (a .1 .1 .1 .0) (are .0 .0 .1) (are .1 .0 .1) (are .1 .1 .0 .1) (are .1 .1 .1 .0))))

@@ -8,4 +8,6 @@ pub mod Means
 pub mod Memory
 pub mod Finds
 pub mod Changes
+pub mod HandsOn
+mod Searched
 pub mod Claims

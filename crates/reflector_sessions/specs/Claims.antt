@@ -34,10 +34,12 @@ UnchangedIsFound = (t : Table) (session : ReflectorSession) → registerSession 
 
 -- A session that was removed is not found again, where no other used row had its TEID.
 abbrev pub RemovedIsNotFound : Type 0
-RemovedIsNotFound = (t : Table) (teid : ℕ) (session : ReflectorSession) → Unique (usedRows t) → removeSession t teid .outcome ≡ gives (some session)
+RemovedIsNotFound = (t : Table) (teid : ℕ) (session : ReflectorSession) → Unique (usedRows t)
+    → removeSession t teid .outcome ≡ gives (some session)
     → find teid (usedRows (removeSession t teid .table)) ≡ none
 
 -- No call leaves two used rows of one TEID where there were none before.
 abbrev pub StaysUnique : Type 0
 StaysUnique = (t : Table) → Unique (usedRows t)
-    → ((session : ReflectorSession) → Unique (usedRows (registerSession t session .table))) × ((teid : ℕ) → Unique (usedRows (removeSession t teid .table)))
+    → ((session : ReflectorSession) → Unique (usedRows (registerSession t session .table)))
+    × ((teid : ℕ) → Unique (usedRows (removeSession t teid .table)))

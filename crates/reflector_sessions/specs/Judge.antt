@@ -20,7 +20,7 @@ tableCauses length used maximum =
     ∷ (ltb maximum used || ltb length maximum ⇒ malformedReflectorTable)
     ∷ []
 
--- "30, 31": a table that neither holds of has its used rows.
+-- "30, 31": a table that neither refuses gives its used count.
 unfoldable pub tableOutcome : ℕ → ℕ → ℕ → Outcome ℕ
 tableOutcome length used maximum = firstCause (tableCauses length used maximum) (gives used)
 

@@ -20,8 +20,8 @@ use Rattle.reflector_sessions.specs.declared.Registration.the-variants.{
 unfoldable pub invalidSession : ReflectorSession → Bool
 invalidSession s = eqb (s .«local_teid») 0 || (eqb (s .«peer_teid») 0 || eqb (s .«peer_addr» .port) 0)
 
--- A session in a table that is not refused, where its TEID means this record or none: 32, "then same record (nothing changes) or 33, then 34,
--- then appended". What is given is whether it is appended, which the Rust answers.
+-- A session in a table that is not refused, where its TEID means this record or none: 32, "then same record (nothing
+-- changes) or 33, then 34, then appended". What is given is whether it is appended, which the Rust answers.
 unfoldable pub sessionOutcome : ℕ → ℕ → Option ReflectorSession → ReflectorSession → Outcome Bool
 sessionOutcome used maximum existing session =
     firstCause ((invalidSession session ⇒ invalidReflectorSession) ∷ [])
@@ -49,7 +49,8 @@ registeredTable (gives true) session t = appended session t
 
 unfoldable pub registerSession : Table → ReflectorSession → Registering
 registerSession t session =
-    let outcome = registerOutcome (length (t .sessions)) (t .used) (t .maximum) (find (session .«local_teid») (usedRows t)) session in
+    let found = find (session .«local_teid») (usedRows t) in
+    let outcome = registerOutcome (length (t .sessions)) (t .used) (t .maximum) found session in
     record { outcome = outcome; table = registeredTable outcome session t }
 
 -- What each case of the answer means: whether the session is appended, or a refusal.

@@ -1,5 +1,5 @@
--- Removal (the Rust's `remove_session`): document 01, leaf 9: "Removal, after 30 and 31, gives the record or none and moves the last used row
--- into the hole; rows past the count keep their contents."
+-- Removal (the Rust's `remove_session`): document 01, leaf 9: "Removal, after 30 and 31, gives the record or none and
+-- moves the last used row into the hole; rows past the count keep their contents."
 use Prim.Native.Nat.{ℕ, _-_}
 use mathlib.Core.Path.{_≡_}
 use mathlib.Core.List.{List}
@@ -55,7 +55,11 @@ usedAfter (gives none) used = used
 usedAfter (gives (some session)) used = used - 1
 
 abbrev pub removedOf : Outcome (Option ReflectorSession) → ℕ → RemovedSession
-removedOf outcome used = record { removal = removalOf outcome; used = usedAfter outcome used; session = sessionOf outcome }
+removedOf outcome used = record {
+  removal = removalOf outcome;
+  used = usedAfter outcome used;
+  session = sessionOf outcome;
+}
 
 -- A call's answer and the rows as it leaves them are those of a removal.
 pub record Removes (r : RemovedSession) (rows : List ReflectorSession) (to : Removing) : Type 0 where

@@ -16,7 +16,11 @@ valueOf a = record { version = versionNumbered (a .version); address = a .addres
 
 -- What stands where there is no session: all zeros.
 abbrev pub noSession : ReflectorSession
-noSession = record { «local_teid» = 0; «peer_teid» = 0; «peer_addr» = record { version = 0; address = replicate 16 0; port = 0 } }
+noSession = record {
+  «local_teid» = 0;
+  «peer_teid» = 0;
+  «peer_addr» = record { version = 0; address = replicate 16 0; port = 0 };
+}
 
 abbrev pub sameVersion : IpVersion → IpVersion → Bool
 sameVersion V4 V4 = true
@@ -31,4 +35,5 @@ sameAddress a b =
     && (eqb (a .port) (b .port) && sameBytes (address (a .version) (a .address)) (address (a .version) (b .address)))
 
 unfoldable pub sameSession : ReflectorSession → ReflectorSession → Bool
-sameSession a b = eqb (a .«local_teid») (b .«local_teid») && (eqb (a .«peer_teid») (b .«peer_teid») && sameAddress (valueOf (a .«peer_addr»)) (valueOf (b .«peer_addr»)))
+sameSession a b = eqb (a .«local_teid») (b .«local_teid»)
+    && (eqb (a .«peer_teid») (b .«peer_teid») && sameAddress (valueOf (a .«peer_addr»)) (valueOf (b .«peer_addr»)))

@@ -56,4 +56,8 @@ appended session t = record { sessions = set (t .sessions) (t .used) session; us
 -- "moves the last used row into the hole; rows past the count keep their contents"
 abbrev pub swapRemoved : ℕ → Table → Table
 swapRemoved place t =
-    record { sessions = set (t .sessions) place (getD (t .sessions) (t .used - 1) noSession); used = t .used - 1; maximum = t .maximum }
+    record {
+      sessions = set (t .sessions) place (getD (t .sessions) (t .used - 1) noSession);
+      used = t .used - 1;
+      maximum = t .maximum;
+    }

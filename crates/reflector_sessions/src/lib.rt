@@ -1,6 +1,7 @@
-// The reflector's sessions (leaf 9; the Rust's reflector.rs): a lent slice of records with a used count and a maximum, and the calls that
-// register a session and remove one. The functions over the slice are thin: they look for a row, append one, or move one, and what is
-// answered is decided by value. Each call's contract is one definition of specs/: the answer and the whole table, on refusals too.
+// The reflector's sessions (leaf 9; the Rust's reflector.rs): a lent slice of records with a used count and a maximum,
+// and the calls that register a session and remove one. The functions over the slice are thin: they look for a row,
+// append one, or move one, and what is answered is decided by value. Each call's contract is one definition of specs/:
+// the answer and the whole table, on refusals too.
 use measurement::IpVersion;
 ghost use mathlib.Core.Path.{_≡_};
 ghost use Prim.Native.Nat.{_<_, _≤_};
@@ -10,11 +11,13 @@ ghost use Rattle.field.specs.Field.{sameBytes, bytesAt};
 ghost use Rattle.reflector_sessions.specs.Session.{valueOf, noSession, sameVersion, sameAddress, sameSession};
 ghost use Rattle.reflector_sessions.specs.Judge.{tableOutcome, judgedMeans, sessionFound};
 ghost use Rattle.reflector_sessions.specs.Table.{tableOf, foundIn, searchedCount, searchedRows, putIf};
-ghost use Rattle.reflector_sessions.specs.Register.{invalidSession, sessionOutcome, registerOutcome, registerSession, registrationOf, registeredOf, Registers};
+ghost use Rattle.reflector_sessions.specs.Register.{invalidSession, sessionOutcome, registerOutcome};
+ghost use Rattle.reflector_sessions.specs.Register.{registerSession, registrationOf, registeredOf, Registers};
 ghost use Rattle.reflector_sessions.specs.Claims.{AddedIsFound, UnchangedIsFound, RemovedIsNotFound, StaysUnique};
 ghost use Rattle.reflector_sessions.specs.Remove.{removeOutcome, removeSession, removedOf, Removes};
 
-// A UDP socket address: the Rust's `SocketAddr`, where flow info and scope are 0. Of an IPv4 address only the first 4 bytes count.
+// A UDP socket address: the Rust's `SocketAddr`, where flow info and scope are 0. Of an IPv4 address only the first 4
+// bytes count.
 pub struct SocketAddr {
     pub version: IpVersion,
     pub address: [u8; 16],
@@ -134,7 +137,9 @@ fn append(
 // Moves the last used row into the hole, where the used count is to fall.
 fn swap_remove(sessions: &mut [ReflectorSession], used: usize, used_next: usize, hole: usize)
     requires { ⌜ («used_next» < used → (hole < length (now sessions)) × («used_next» < length (now sessions))) ⌝ }
-    ensures { λ _. ⌜ now (sessions .exit) ≡ putIf (ltb «used_next» used) hole (getD (now (sessions .entry)) «used_next» noSession) (now (sessions .entry)) ⌝ }
+    ensures { λ _. ⌜ now (sessions .exit)
+        ≡ putIf (ltb «used_next» used) hole (getD (now (sessions .entry)) «used_next» noSession) (now (sessions .entry))
+        ⌝ }
 {
     if used_next < used {
         sessions[hole] = sessions[used_next];
@@ -291,7 +296,8 @@ fn answer_registration(
     found: FoundSession,
     session: ReflectorSession,
 ) -> Registered
-    ensures { λ r. ⌜ r ≡ registeredOf (registerOutcome length used «max_sessions» (sessionFound used found) session) used ⌝ }
+    ensures { λ r. ⌜ r ≡ registeredOf (registerOutcome length used «max_sessions» (sessionFound used found) session)
+        used ⌝ }
 {
     match judge_table(length, used, max_sessions) {
         JudgedTable::Refused(number) => Registered {
@@ -365,14 +371,16 @@ pub fn find_session(
     first_row(sessions, rows, local_teid, missing)
 }
 
-// Registers a session: 30, 31, 32; the same record changes nothing, another of its TEID is refused by 33; 34; else it is appended.
+// Registers a session: 30, 31, 32; the same record changes nothing, another of its TEID is refused by 33; 34; else it
+// is appended.
 pub fn register_session(
     sessions: &mut [ReflectorSession],
     used: usize,
     max_sessions: usize,
     session: ReflectorSession,
 ) -> Registered
-    ensures { λ r. ⌜ Registers r (now (sessions .exit)) (registerSession (tableOf (now (sessions .entry)) used «max_sessions») session) ⌝ }
+    ensures { λ r. ⌜ Registers r (now (sessions .exit))
+        (registerSession (tableOf (now (sessions .entry)) used «max_sessions») session) ⌝ }
 {
     let found = find_session(sessions, used, max_sessions, session.local_teid);
     let answer = answer_registration(sessions.len(), used, max_sessions, found, session);
@@ -387,7 +395,8 @@ pub fn remove_session(
     max_sessions: usize,
     local_teid: u32,
 ) -> RemovedSession
-    ensures { λ r. ⌜ Removes r (now (sessions .exit)) (removeSession (tableOf (now (sessions .entry)) used «max_sessions») «local_teid») ⌝ }
+    ensures { λ r. ⌜ Removes r (now (sessions .exit))
+        (removeSession (tableOf (now (sessions .entry)) used «max_sessions») «local_teid») ⌝ }
 {
     let found = find_session(sessions, used, max_sessions, local_teid);
     let answer = answer_removal(sessions.len(), used, max_sessions, found);

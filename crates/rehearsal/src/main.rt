@@ -1,5 +1,6 @@
-// Rehearses a cutover in memory, as its words say; without any, the default one; by the word `-`, one for each line of standard input. Its last
-// line is `status N`, the exit status of the command `rehearse`, which runs it: 0 passed, 1 failed, 2 words not accepted, 3 no run.
+// Rehearses a cutover in memory, as its words say; without any, the default one; by the word `-`, one for each line of
+// standard input. Its last line is `status N`, the exit status of the command `rehearse`, which runs it: 0 passed, 1
+// failed, 2 words not accepted, 3 no run.
 mod words;
 
 use evidence::PacketContinuityReport;
@@ -70,7 +71,7 @@ fn print_run(
     }
 }
 
-// A run that the calls refused, as no words that are accepted make one.
+// A run that the calls refused. Accepted words never lead here.
 fn print_no_run(number: u8) -> u64 {
     text::print_count(b"rehearse: the plan was refused by number ", number as u64);
     text::print(b" of the card\n");
@@ -130,12 +131,14 @@ fn rehearse(s: &Scenario) -> u64 {
     }
 }
 
-// Rehearses what the words ask for, each with a separator after it, and answers the status.
+// Rehearses the cutover that is run without words.
+fn rehearse_default() -> u64 {
+    let s = scenario::default_cutover();
+    rehearse(&s)
+}
+
+// Rehearses what the words ask for, with a separator between two, and answers the status.
 fn rehearse_words(words: &[u8], separator: u8) -> u64 {
-    if words.len() == 0 {
-        let s = scenario::default_cutover();
-        return rehearse(&s);
-    }
     let mut s = scenario::quiet();
     let judged = scenario_words::take_words(&mut s, words, separator);
     if judged.reason == scenario_words::ACCEPTED {
@@ -150,7 +153,7 @@ fn print_status(status: u64) {
     text::print(b"\n");
 }
 
-// One line of standard input: the words, what their run prints, and its status.
+// One line of standard input: the words as they were given, one space apart; what their run prints; its status.
 fn rehearse_line(words: &[u8]) -> u64 {
     text::print(b"$ rehearse ");
     text::print_word(words, 4096);
@@ -179,27 +182,40 @@ fn rehearse_lines(lines: &[u8]) -> u64 {
     worst
 }
 
+// What is not accepted before a word of it is read.
+fn print_not_accepted(why: &[u8]) -> u64 {
+    text::print(b"rehearse: ");
+    text::print(why);
+    text::print(b" (see --help)\n");
+    NOT_ACCEPTED
+}
+
+// The lines of standard input. One byte of the buffer stays free, else there may be more.
 fn rehearse_input() -> u64 {
     let mut text = io::large_buffer();
     let n = io::read_full(0, &mut text);
+    if n == 0 {
+        return print_not_accepted(b"standard input has no line");
+    }
+    if n == 65536 {
+        return print_not_accepted(b"standard input has more than 65535 bytes");
+    }
     rehearse_lines(&text[..n])
-}
-
-fn too_long() -> u64 {
-    text::print(b"rehearse: the words have more than 4000 bytes (see --help)\n");
-    NOT_ACCEPTED
 }
 
 // The words of the command line; `-` alone stands for standard input.
 fn rehearse_arguments(text: &[u8], n: usize) -> u64 {
-    if words::LIMIT <= n {
-        return too_long();
+    if n == 0 {
+        return rehearse_default();
     }
-    let given = text::part(text, 0, n);
-    if check::same(given, b"-\0") {
+    if words::LIMIT <= n {
+        return print_not_accepted(b"the words have more than 4000 bytes");
+    }
+    let words = text::part(text, 0, n - 1);
+    if check::same(words, b"-") {
         return rehearse_input();
     }
-    rehearse_words(given, 0)
+    rehearse_words(words, 0)
 }
 
 fn main() {

@@ -1,6 +1,6 @@
 // The words of the command line, each with a byte 0 after it: a word may have spaces, and may be empty.
 
-// There are fewer bytes than this, or the words are too long.
+// Words of this many bytes or more are too long.
 pub const LIMIT: usize = 4001;
 
 fn set(text: &mut [u8], at: usize, byte: u8) {
@@ -9,7 +9,8 @@ fn set(text: &mut [u8], at: usize, byte: u8) {
     }
 }
 
-// Puts one word at a place of the text, and answers where the next one goes: not before the limit, where there is no room.
+// Puts one word at a place of the text, and answers where the next one goes: not before the limit, where there is no
+// room.
 fn put(number: usize, text: &mut [u8], at: usize) -> usize {
     if text.len() <= at || LIMIT <= at {
         return LIMIT;

@@ -6,10 +6,20 @@ use reflector_answer::ReflectorState;
 use scenario::Scenario;
 use verdict::Verdict;
 
+// A number of things: `1 probe`, `2 probes`.
+fn print_counted(n: u64, thing: &[u8]) {
+    text::print_number(n);
+    text::print(thing);
+    if n != 1 {
+        text::print(b"s");
+    }
+}
+
 fn print_plan(s: &Scenario) {
     text::print_count(b"plan:      IPv", scenario::first(s, scenario::IP));
-    text::print_count(b", ", scenario::first(s, scenario::COUNT));
-    text::print_count(b" probes, ", scenario::first(s, scenario::RATE));
+    text::print(b", ");
+    print_counted(scenario::first(s, scenario::COUNT), b" probe");
+    text::print_count(b", ", scenario::first(s, scenario::RATE));
     text::print(b" each second\n");
 }
 
@@ -56,16 +66,23 @@ fn print_reflector(state: ReflectorState) {
     text::print(b"\n");
 }
 
+// Whether a number of the card is an Error Indication's that broke the rules: it is not counted, and the verdict does
+// not know of it.
+fn is_outside_verdict(number: u8) -> bool {
+    25 <= number && number <= 29
+}
+
 // A number of the card, with its name and how often it came up.
 fn print_refusal(number: u8, times: u64) {
     text::print_count(b"refused:   ", number as u64);
     text::print(b" ");
     card_name::print_name(number);
-    text::print_count(b", ", times);
-    if times == 1 {
-        return text::print(b" time\n");
+    text::print(b", ");
+    print_counted(times, b" time");
+    if is_outside_verdict(number) {
+        text::print(b", not in the verdict");
     }
-    text::print(b" times\n");
+    text::print(b"\n");
 }
 
 // Every number of the card that came up.

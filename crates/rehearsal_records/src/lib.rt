@@ -1,4 +1,5 @@
-// A rehearsal as records that a program reads: one JSON object (RFC 8259), or a line of comma-separated values for each row of the run sheet.
+// A rehearsal as records that a program reads: one JSON object (RFC 8259), or a line of comma-separated values for each
+// row of the run sheet.
 mod column;
 pub mod csv;
 mod fate;
@@ -33,15 +34,27 @@ fn print_window(s: &Scenario, word: usize) {
     text::print(b"]");
 }
 
-// What the path does, by the words.
-fn print_path(s: &Scenario) {
-    print_word_number(b"\"path\": {\n  \"latency-us\": ", s, scenario::LATENCY_US);
-    print_word_number(b", \"latency-after-us\": ", s, scenario::LATENCY_AFTER_US);
+// The latency after the loss: null, where nothing is lost.
+fn print_latency_after(s: &Scenario) {
+    if scenario::last(s, scenario::LOSE) == 0 {
+        return text::print(b", \"latency-after-us\": null");
+    }
+    print_word_number(b", \"latency-after-us\": ", s, scenario::LATENCY_AFTER_US)
+}
+
+fn print_windows(s: &Scenario) {
     let mut word = scenario::LOSE;
     while word < scenario::WORDS {
         print_window(s, word);
         word += 1;
     }
+}
+
+// What the path does, by the words.
+fn print_path(s: &Scenario) {
+    print_word_number(b"\"path\": {\n  \"latency-us\": ", s, scenario::LATENCY_US);
+    print_latency_after(s);
+    print_windows(s);
     text::print(b"},\n");
 }
 

@@ -1,6 +1,6 @@
-// A rehearsal of a cutover in memory: a plan's probes go through the reflector and back over a path that does what the scenario says, and what
-// came back is recorded in the order of arrival. Thin: packets, echoes, the run sheet and the report are the proved calls'; what is proved here
-// is that it is safe and ends.
+// A rehearsal of a cutover in memory: a plan's probes go through the reflector and back over a path that does what the
+// scenario says, and what came back is recorded in the order of arrival. Thin: packets, echoes, the run sheet and the
+// report are the proved calls'; what is proved here is that it is safe and ends.
 use evidence::PacketContinuityBudget;
 use measurement::Written;
 use observer::ObserverCounts;
@@ -132,11 +132,9 @@ fn travel(
     )
 }
 
-// The plan's packets, the first with sequence 1, and their length.
+// The plan's packets, and their length.
 fn generate(s: &Scenario, out: &mut [u8]) -> Written {
-    let mut next_sequence = 1;
-    traffic::generate_from(
-        &mut next_sequence,
+    rehearsal_packets::generate(
         rehearsal_reflector::flow(probe_delivery::ip(s)),
         plan_of(s),
         out,
@@ -202,8 +200,8 @@ fn go(
     Rehearsed { reported, state }
 }
 
-// Rehearses a scenario on a fresh run sheet: the plan's probes are entered as sent, and travel. `fates` gets what became of each probe, and
-// `refusals` how often each number of the card came up.
+// Rehearses a scenario on a fresh run sheet: the plan's probes are entered as sent, and travel. `fates` gets what
+// became of each probe, and `refusals` how often each number of the card came up.
 pub fn rehearse(
     s: &Scenario,
     sequences: &mut [u64],

@@ -1,5 +1,6 @@
-// Replays a sample of the Rust's answers, without the Rust: each record of standard input is a call and what the Rust made of it, and the
-// proved call must do the same, in number, values and every byte lent. README.md says how the sample was made and what is in a record.
+// Replays a sample of the Rust's answers, without the Rust: each record of standard input is a call and what the Rust
+// made of it, and the proved call must do the same, in number, values and every byte lent. README.md says how the
+// sample was made and what is in a record.
 mod summary;
 
 ghost use mathlib.Core.Path.{_≡_};
@@ -15,10 +16,9 @@ fn agrees(kind: u8, number: u8, s: &[u8]) -> bool {
         3 => replay_packets::echo(number, s),
         4 => replay_packets::generate(number, s),
         5 => replay_packets::elements(number, s),
-        6 => replay_sheets::record_sent(number, s),
-        7 => replay_sheets::record_received_tpdu(number, s),
-        8 => replay_sheets::record_return_gtpu_datagram(number, s),
-        9 => replay_sheets::report(number, s),
+        replay_sheets::RECORD_SENT..=replay_sheets::REPORT => {
+            replay_sheets::agrees(kind, number, s)
+        }
         10 => replay_sessions::register_session(number, s),
         11 => replay_sessions::remove_session(number, s),
         12 => replay_sessions::handle_datagram(number, s),
@@ -26,7 +26,8 @@ fn agrees(kind: u8, number: u8, s: &[u8]) -> bool {
     }
 }
 
-// A record begins with its kind, the length of what follows the first 4 bytes (2 bytes), and the number that the Rust refuses by, or 0.
+// A record begins with its kind, the length of what follows the first 4 bytes (2 bytes), and the number that the Rust
+// refuses by, or 0.
 fn record_length(s: &[u8], at: usize) -> usize
     ensures { λ r. ⌜ 4 ≤ r ⌝ }
 {
@@ -39,9 +40,8 @@ fn replay_record(record: &[u8], at: usize, counts: &mut [u64]) {
     let agreed = agrees(kind, number, replay_data::rest(record, 4));
     summary::note(counts, kind, number, agreed);
     if !agreed {
-        io::write_all(1, b"differs: the record at byte ");
-        io::print_decimal(1, at as u64);
-        io::write_all(1, b"\n");
+        text::print_count(b"differs: the record at byte ", at as u64);
+        text::print(b"\n");
     }
 }
 
@@ -59,40 +59,41 @@ fn replay(s: &[u8], counts: &mut [u64]) -> usize {
     at
 }
 
-fn print_line(counts: &[u64], kind: u8, name: &[u8]) {
-    summary::print_row(counts, kind, name);
-    io::write_all(1, b"\n");
+// The names of the calls, in the order of their kinds; a space ends each.
+const NAMES: [u8; 221] =
+    *b"checksum build_measurement_tpdu decode_measurement_tpdu echo_tpdu generate \
+    validate_error_indication_ies record_sent record_received_tpdu record_return_gtpu_datagram report \
+    register_session remove_session handle_datagram ";
+
+// How many kinds there are.
+const KINDS: u8 = 13;
+
+fn print_line(counts: &[u64], kind: u8) {
+    summary::print_row(counts, kind, text::item(&NAMES, kind as usize));
+    text::print(b"\n");
 }
 
 fn print_lines(counts: &[u64]) {
-    print_line(counts, 0, b"checksum");
-    print_line(counts, 1, b"build_measurement_tpdu");
-    print_line(counts, 2, b"decode_measurement_tpdu");
-    print_line(counts, 3, b"echo_tpdu");
-    print_line(counts, 4, b"generate");
-    print_line(counts, 5, b"validate_error_indication_ies");
-    print_line(counts, 6, b"record_sent");
-    print_line(counts, 7, b"record_received_tpdu");
-    print_line(counts, 8, b"record_return_gtpu_datagram");
-    print_line(counts, 9, b"report");
-    print_line(counts, 10, b"register_session");
-    print_line(counts, 11, b"remove_session");
-    print_line(counts, 12, b"handle_datagram");
+    let mut kind = 0;
+    while kind < KINDS {
+        print_line(counts, kind);
+        kind += 1;
+    }
 }
 
-// The last line has the data's checksum too, which no change of 16 neighbouring bits or fewer leaves as it is.
+// The last line also has the data's checksum. A change within 16 neighbouring bits changes it, unless it turns 16 equal
+// bits.
 fn replay_and_print(s: &[u8], counts: &mut [u64]) {
     let end = replay(s, counts);
     if end < s.len() {
-        io::write_all(1, b"cut: the record at byte ");
-        io::print_decimal(1, end as u64);
-        io::write_all(1, b"\n");
+        text::print_count(b"cut: the record at byte ", end as u64);
+        text::print(b"\n");
     }
     print_lines(counts);
     summary::print_row(counts, summary::ALL, b"all");
-    io::write_all(1, b", checksum of the data 0x");
+    text::print(b", checksum of the data 0x");
     io::print_hex(1, testkit_packets::testkit_checksum(s) as u64, 4);
-    io::write_all(1, b"\n");
+    text::print(b"\n");
 }
 
 // Room for the data, and for half as much again.

@@ -1,5 +1,5 @@
-// What is counted while the records are replayed: a row of cells for each kind of record, and one for all. Its cells: how many records, how
-// many agree, and for each number how many records are due it.
+// What is counted while the records are replayed: a row of cells for each kind of record, and one for all. Its cells:
+// how many records, how many agree, and for each number how many records are due it.
 ghost use mathlib.Core.Path.{_≡_};
 ghost use lib.ListN.{length};
 
@@ -74,12 +74,9 @@ fn refusals(counts: &[u64], row: u8) -> u64 {
 
 // A row as text, without the end of the line.
 pub fn print_row(counts: &[u64], row: u8, name: &[u8]) {
-    io::write_all(1, name);
-    io::write_all(1, b": ");
-    io::print_decimal(1, cell(counts, place(row, RECORDS)));
-    io::write_all(1, b" records, ");
-    io::print_decimal(1, cell(counts, place(row, AGREED)));
-    io::write_all(1, b" agree, ");
-    io::print_decimal(1, refusals(counts, row));
-    io::write_all(1, b" refusal numbers");
+    text::print(name);
+    text::print_count(b": ", cell(counts, place(row, RECORDS)));
+    text::print_count(b" records, ", cell(counts, place(row, AGREED)));
+    text::print_count(b" agree, ", refusals(counts, row));
+    text::print(b" refusal numbers");
 }

@@ -11,22 +11,16 @@ pub fn byte(s: &[u8], at: usize) -> u8 {
     0
 }
 
-// The place so many bytes after another.
+// The place `n` bytes after another.
 pub fn after(at: usize, n: usize) -> usize {
     std::num::wrapping_add_usize(at, n)
-}
-
-fn wide(x: u8) -> u64
-    ensures { λ r. ⌜ r < 256 ⌝ }
-{
-    x as u64
 }
 
 // The number in two bytes, the high one first.
 fn word_as_u64(s: &[u8], at: usize) -> u64
     ensures { λ r. ⌜ r < 65536 ⌝ }
 {
-    wide(byte(s, at)) * 256 + wide(byte(s, after(at, 1)))
+    field::wide(byte(s, at)) * 256 + field::wide(byte(s, after(at, 1)))
 }
 
 pub fn word(s: &[u8], at: usize) -> u16 {
@@ -53,6 +47,20 @@ pub fn teid(s: &[u8], at: usize) -> u32 {
 // The number in eight bytes.
 pub fn number(s: &[u8], at: usize) -> u64 {
     double_word(s, at) * 4294967296 + double_word(s, after(at, 4))
+}
+
+// Whether the data begins with these numbers, 8 bytes each.
+pub fn same_numbers(numbers: &[u64], due: &[u8]) -> bool {
+    let mut at = 0;
+    let mut i = 0;
+    while i < numbers.len() {
+        if numbers[i] != number(due, at) {
+            return false;
+        }
+        at = after(at, 8);
+        i += 1;
+    }
+    true
 }
 
 // What follows the first `at` bytes.

@@ -1,4 +1,5 @@
-// The calls on packets, each on a record of the data: whether it answers what the Rust answered, and leaves every byte of the output so.
+// The calls on packets, each on a record of the data: whether it answers what the Rust answered, and leaves every byte
+// of the output so.
 use plan::TrafficPlan;
 use testkit_packets::TestkitTpdu;
 use testkit_packets::TestkitWritten;
@@ -9,7 +10,7 @@ pub fn checksum(number: u8, s: &[u8]) -> bool {
         && testkit_packets::testkit_checksum(replay_data::rest(s, 2)) == replay_data::word(s, 0)
 }
 
-// Whether a call answers this number, and that it wrote so many bytes.
+// Whether a call answers this number, and that it wrote this many bytes.
 fn same_written(written: TestkitWritten, number: u8, bytes: u16) -> bool {
     written.number == number && written.bytes == bytes as usize
 }
@@ -30,8 +31,8 @@ fn build_into(s: &[u8], room: usize, out: &mut [u8]) -> TestkitWritten {
     )
 }
 
-// A flow: version, source, destination and both ports, in 37 bytes. A sequence and a time, 16 bytes; how many bytes are written; and the
-// output afterwards.
+// A flow: version, source, destination and both ports, in 37 bytes. A sequence and a time, 16 bytes; how many bytes are
+// written; and the output afterwards.
 pub fn build(number: u8, s: &[u8]) -> bool {
     let due = replay_data::rest(s, 55);
     let mut out = replay_data::dirty();
@@ -105,8 +106,8 @@ fn generate_into(s: &[u8], next_sequence: &mut u64, room: usize, out: &mut [u8])
     )
 }
 
-// A flow as above; count, rate, first time and next sequence; the next sequence afterwards; how many bytes are written; and the output
-// afterwards.
+// A flow as above; count, rate, first time and next sequence; the next sequence afterwards; how many bytes are written;
+// and the output afterwards.
 pub fn generate(number: u8, s: &[u8]) -> bool {
     let due = replay_data::rest(s, 79);
     let mut next_sequence = replay_data::number(s, 61);

@@ -1,10 +1,10 @@
-// The reflector's calls, each on a record of the data. A record begins with the table before the call: the used count (1 byte), the maximum
-// (2) and 6 rows of 27 bytes, each both TEIDs and the peer's address; an address is version, 16 bytes and port. Every row is compared
-// afterwards, used or not.
+// The reflector's calls, each on a record of the data. A record begins with the table before the call: the used count
+// (1 byte), the maximum (2) and 6 rows of 27 bytes, each both TEIDs and the peer's address; an address is version, 16
+// bytes and port. Every row is compared afterwards, used or not.
+use reflector_by_value::RegisteredRows;
+use reflector_by_value::RemovedRows;
 use reflector_sessions::LentSocketAddr;
 use reflector_sessions::ReflectorSession;
-use reflector_tables::RegisteredRows;
-use reflector_tables::RemovedRows;
 use testkit_reflector::TestkitGtpuMessage;
 use testkit_reflector::TestkitHandled;
 use testkit_reflector::TestkitReflectorConfig;
@@ -93,7 +93,7 @@ fn same_rows(rows: [ReflectorSession; 6], due: &[u8]) -> bool {
 }
 
 fn registered_rows(s: &[u8]) -> RegisteredRows {
-    reflector_tables::register_session(
+    reflector_by_value::register_session(
         rows(replay_data::rest(s, ROWS)),
         used(s),
         max_sessions(s),
@@ -114,7 +114,7 @@ pub fn register_session(number: u8, s: &[u8]) -> bool {
 }
 
 fn removed_rows(s: &[u8]) -> RemovedRows {
-    reflector_tables::remove_session(
+    reflector_by_value::remove_session(
         rows(replay_data::rest(s, ROWS)),
         used(s),
         max_sessions(s),
@@ -232,7 +232,7 @@ fn same_handled(handled: TestkitHandled, number: u8, s: &[u8]) -> bool {
 
 fn handle_into(s: &[u8], payload: &[u8], room: usize, out: &mut [u8]) -> TestkitHandled {
     let n = replay_data::at_most(room, out.len());
-    reflector_tables::handle_datagram(
+    reflector_by_value::handle_datagram(
         rows(replay_data::rest(s, ROWS)),
         used(s),
         config(s),
@@ -244,8 +244,8 @@ fn handle_into(s: &[u8], payload: &[u8], room: usize, out: &mut [u8]) -> Testkit
     )
 }
 
-// What the reflector is set up with; its counts; the source; the message's type, TEID and sequence; what is answered; the counts
-// afterwards; the output's length and the output afterwards; and the payload.
+// What the reflector is set up with; its counts; the source; the message's type, TEID and sequence; what is answered;
+// the counts afterwards; the output's length and the output afterwards; and the payload.
 pub fn handle_datagram(number: u8, s: &[u8]) -> bool {
     let length = replay_data::word(s, OUTPUT_LENGTH) as usize;
     let after = replay_data::rest(s, OUTPUT);

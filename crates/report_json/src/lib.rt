@@ -1,4 +1,5 @@
-// A report as parts of a JSON object (RFC 8259): the budget, the figures, and the verdict with its reason and the two numbers of the reason.
+// A report as parts of a JSON object (RFC 8259): the budget, the figures, and the verdict with its reason and the two
+// numbers of the reason.
 use evidence::Latency;
 use evidence::LatencySummary;
 use evidence::PacketContinuityBudget;
@@ -80,7 +81,7 @@ fn print_reason(verdict: Verdict) {
         Verdict::NothingReturned => text::print(b"\"nothing came back\""),
         Verdict::TooManyLost(_, _) => text::print(b"\"too many lost\""),
         Verdict::TooManyInARow(_, _) => text::print(b"\"too many lost in a row\""),
-        Verdict::OutageTooLong(_, _) => text::print(b"\"outage too long, in ns\""),
+        Verdict::OutageTooLong(_, _) => text::print(b"\"outage too long\""),
         Verdict::ErrorIndicated(_) => text::print(b"\"error indications\""),
     }
 }

@@ -1,13 +1,34 @@
 // What the way back does to the bytes of a return, as the scenario says.
+use measurement::layout;
 use scenario::Scenario;
 
-// Where the parts of a T-PDU stand: the protocol, the UDP header and the measurement.
+// Where the protocol stands in a T-PDU, and where its UDP header starts. The probe follows that.
 fn protocol_at(ip: u64) -> usize {
-    if ip == 4 { 9 } else { 6 }
+    if ip == 4 {
+        layout::IPV4_PROTOCOL
+    } else {
+        layout::IPV6_NEXT_HEADER
+    }
 }
 
 fn udp_at(ip: u64) -> usize {
-    if ip == 4 { 20 } else { 40 }
+    if ip == 4 {
+        layout::IPV4_HEADER_BYTES
+    } else {
+        layout::IPV6_HEADER_BYTES
+    }
+}
+
+// Where a field of the UDP header, and where one of the probe, stands.
+fn udp_field(ip: u64, field: usize) -> usize {
+    std::num::wrapping_add_usize(udp_at(ip), field)
+}
+
+fn probe_field(ip: u64, field: usize) -> usize {
+    udp_field(
+        ip,
+        std::num::wrapping_add_usize(layout::UDP_HEADER_BYTES, field),
+    )
 }
 
 fn set(tpdu: &mut [u8; 72], at: usize, byte: u8) {
@@ -41,7 +62,6 @@ fn exchange_words(tpdu: &mut [u8; 72], at: usize) {
 // Damage to the headers: the version, the protocol, the UDP length exchanged with a port, no checksum.
 fn damage_headers(s: &Scenario, probe: u64, tpdu: &mut [u8; 72]) {
     let ip = scenario::first(s, scenario::IP);
-    let udp = udp_at(ip);
     if scenario::does(s, scenario::BAD_VERSION, probe) {
         set(tpdu, 0, 0x50);
     }
@@ -49,27 +69,27 @@ fn damage_headers(s: &Scenario, probe: u64, tpdu: &mut [u8; 72]) {
         set(tpdu, protocol_at(ip), 6);
     }
     if scenario::does(s, scenario::BAD_LENGTH, probe) {
-        exchange_words(tpdu, std::num::wrapping_add_usize(udp, 2));
+        exchange_words(tpdu, udp_field(ip, layout::UDP_DESTINATION_PORT));
     }
     if scenario::does(s, scenario::NO_CHECKSUM, probe) {
-        set(tpdu, std::num::wrapping_add_usize(udp, 6), 0);
-        set(tpdu, std::num::wrapping_add_usize(udp, 7), 0);
+        set(tpdu, udp_field(ip, layout::UDP_CHECKSUM), 0);
+        set(tpdu, udp_field(ip, layout::UDP_CHECKSUM + 1), 0);
     }
 }
 
 // Damage to the measurement: a byte of its time; the words of its magic, or those of its sequence, exchanged.
 fn damage_measurement(s: &Scenario, probe: u64, tpdu: &mut [u8; 72]) {
-    let udp = udp_at(scenario::first(s, scenario::IP));
-    let time_end = std::num::wrapping_add_usize(udp, 31);
+    let ip = scenario::first(s, scenario::IP);
+    let time_end = probe_field(ip, layout::PROBE_SEND_TIME + 7);
     if scenario::does(s, scenario::DAMAGE, probe) {
         let byte = get(tpdu, time_end);
         set(tpdu, time_end, std::num::wrapping_add_u8(byte, 1));
     }
     if scenario::does(s, scenario::BAD_MAGIC, probe) {
-        exchange_words(tpdu, std::num::wrapping_add_usize(udp, 8));
+        exchange_words(tpdu, probe_field(ip, layout::PROBE_TAG));
     }
     if scenario::does(s, scenario::NOT_SENT, probe) {
-        exchange_words(tpdu, std::num::wrapping_add_usize(udp, 20));
+        exchange_words(tpdu, probe_field(ip, layout::PROBE_SEQUENCE + 4));
     }
 }
 

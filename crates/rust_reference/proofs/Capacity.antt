@@ -10,11 +10,11 @@ use lib.Dec.{eqb, ltb}
 use lib.ListN.{length, getD}
 use borrow.Author.Tests.{eqb-true, eqb-false, ltb-true, ltb-false}
 use Rattle.error.specs.Outcome.{Outcome, refused, gives, Cause, _⇒_, firstCause}
-use Rattle.error.proofs.Causes.{Refuses, refuses, passes, refused-gives}
+use Rattle.error.proofs.Causes.{Refuses, refuses, passes, refused-gives, not-by}
 use Rattle.measurement.specs.declared.DecodedTpdu.{DecodedTpdu}
 use Rattle.measurement.specs.declared.IpVersion.{IpVersion}
 use Rattle.measurement.specs.declared.IpVersion.the-variants.{V4, V6}
-use Rattle.measurement_reading.specs.Read.{probeCauses, udpCauses, readProbe, readUdp, tpduCauses, ipv4Causes, readIpv4, ipv6Causes, readIpv6, readOf}
+use Rattle.measurement_reading.specs.Read.{payload, probeCauses, udpCauses, readProbe, readUdp, tpduCauses, ipv4Causes, readIpv4, ipv6Causes, readIpv6, readOf}
 use Rattle.measurement_damage.specs.Echo.{echoOfTpdu, echoOf}
 use Rattle.reflector.specs.Handle.{handleDatagram}
 use Rattle.reflector_answer.specs.Answer.{handedOn, Action, noop, gpdu, reflected, gpduOutcome, gpduKnown, gpduUnknown, echoRequestOutcome, echoRequest, otherMessage, gpduAnswer, Answer, answer}
@@ -116,17 +116,6 @@ sound-table rows used maximum onward above most added = by (fitting rows used ma
 other-number : {A : Type 0} {n m : ℕ} {o : Outcome A} → (n ≡ m → ⊥) → refused n ≡ o → o ≡ refused m → ⊥
 other-number {n = n} {m = m} differ e f = let same : refused n ≡ refused m = e ∙ f in differ cc
 
--- rows of other numbers
-data Without (m : ℕ) : List Cause → Type 0 where
-  end : Without m []
-  row : {t : Bool} {n : ℕ} {rows : List Cause} → (n ≡ m → ⊥) → Without m rows → Without m ((t ⇒ n) ∷ rows)
-
-not-by : {A : Type 0} {m : ℕ} {rows : List Cause} (o : Outcome A) → Without m rows → (o ≡ refused m → ⊥) → firstCause rows o ≡ refused m → ⊥
-unfolding firstCause
-not-by o end h e = h e
-not-by o (row {t = true} k q) h e = other-number k refl e
-not-by o (row {t = false} k q) h e = not-by o q h e
-
 table-not-30 : {A : Type 0} (rows used maximum : ℕ) (onward : Outcome A) → Fits maximum → (onward ≡ refused 30 → ⊥)
     → firstCause (tableCauses rows used maximum) onward ≡ refused 30 → ⊥
 table-not-30 rows used maximum onward fits h e = by (fitting rows used maximum fits)
@@ -138,21 +127,16 @@ table-not-30 rows used maximum onward fits h e = by (fitting rows used maximum f
 -- a T-PDU is refused by 1 to 14
 part-not-30 : (v : IpVersion) (src dst u : List ℕ) → readUdp v src dst u ≡ refused 30 → ⊥
 unfolding readUdp udpCauses readProbe probeCauses
-part-not-30 V4 src dst u =
-    not-by _ (row (λ z. omega arith) (row (λ z. omega arith) end)) (not-by _ (row (λ z. omega arith) (row (λ z. omega arith) end)) (λ e. refused-gives (sym e)))
-part-not-30 V6 src dst u =
-    not-by _ (row (λ z. omega arith) (row (λ z. omega arith) (row (λ z. omega arith) end)))
-    (not-by _ (row (λ z. omega arith) (row (λ z. omega arith) end)) (λ e. refused-gives (sym e)))
+part-not-30 V4 src dst u = not-by 30 (udpCauses V4 src dst u) _ refl (not-by 30 (probeCauses (payload u)) _ refl (λ e. refused-gives (sym e)))
+part-not-30 V6 src dst u = not-by 30 (udpCauses V6 src dst u) _ refl (not-by 30 (probeCauses (payload u)) _ refl (λ e. refused-gives (sym e)))
 
 read-not-30 : (p : List ℕ) → readOf p ≡ refused 30 → ⊥
 unfolding readOf tpduCauses readIpv4 ipv4Causes readIpv6 ipv6Causes
-read-not-30 p = not-by _ (row (λ z. omega arith) (row (λ z. omega arith) end)) (either (eqb (getD p 0 0 / 16) 4))
+read-not-30 p = not-by 30 (tpduCauses p) _ refl (either (eqb (getD p 0 0 / 16) 4))
   where
     either : (b : Bool) → _≡_ {A = Outcome DecodedTpdu} (elim b [ true ↦ readIpv4 p | false ↦ readIpv6 p ]) (refused 30) → ⊥
-    either true =
-        not-by _ (row (λ z. omega arith) (row (λ z. omega arith) (row (λ z. omega arith) (row (λ z. omega arith) (row (λ z. omega arith) end)))))
-        (part-not-30 V4 _ _ _)
-    either false = not-by _ (row (λ z. omega arith) (row (λ z. omega arith) (row (λ z. omega arith) end))) (part-not-30 V6 _ _ _)
+    either true = not-by 30 (ipv4Causes p) _ refl (part-not-30 V4 _ _ _)
+    either false = not-by 30 (ipv6Causes p) _ refl (part-not-30 V6 _ _ _)
 
 echo-not-30 : (session : ReflectorSession) (p : List ℕ) → reflected session (echoOf p) ≡ refused 30 → ⊥
 unfolding echoOf
@@ -176,7 +160,7 @@ answer-not-30 : (r : Reflector) (session : Option ReflectorSession) (source : So
 unfolding answer gpduKnown gpduOutcome gpduUnknown echoRequest echoRequestOutcome otherMessage
 answer-not-30 r session source message payload =
     either-not-30 (eqb (message .«message_type») 255) _ _ (gpdu-not session)
-    (either-not-30 (eqb (message .«message_type») 1) _ _ (not-by _ (row (λ z. omega arith) (row (λ z. omega arith) end)) (λ e. refused-gives (sym e)))
+    (either-not-30 (eqb (message .«message_type») 1) _ _ (not-by 30 _ _ refl (λ e. refused-gives (sym e)))
     (either-not-30 (eqb (message .«message_type») 2) _ _ (λ e. refused-gives (sym e))
     (either-not-30 (eqb (message .«message_type») 26) _ _ (λ e. refused-gives (sym e))
     (either-not-30 (eqb (message .«message_type») 254) _ _ (λ e. refused-gives (sym e))
@@ -209,15 +193,15 @@ module _ (r : Reflector) where
   unfolding registerSession registerOutcome sessionOutcome
   registering session =
       as-new-multi (r .config) (registerSession (tableIn r) session .outcome) (λ h. refuses _ (is-30 rows (r .used) maximum h))
-      (λ h. table-not-30 rows (r .used) maximum _ h (not-by _ (row (λ z. omega arith) end) (onward (find (session .«local_teid») (usedRows (tableIn r))))))
+      (λ h. table-not-30 rows (r .used) maximum _ h (not-by 30 _ _ refl (onward (find (session .«local_teid») (usedRows (tableIn r))))))
     where
       onward : (existing : Option ReflectorSession)
           → _≡_ {A = Outcome Bool} (elim existing [
             | some other ↦ firstCause ((not (sameSession other session) ⇒ 33) ∷ []) (gives false)
             | none ↦ firstCause ((eqb (r .used) maximum ⇒ 34) ∷ []) (gives true)
           ]) (refused 30) → ⊥
-      onward (some other) = not-by _ (row (λ z. omega arith) end) (λ e. refused-gives (sym e))
-      onward none = not-by _ (row (λ z. omega arith) end) (λ e. refused-gives (sym e))
+      onward (some other) = not-by 30 _ _ refl (λ e. refused-gives (sym e))
+      onward none = not-by 30 _ _ refl (λ e. refused-gives (sym e))
 
   removing : (teid : ℕ) → RefusesAsNewMulti (r .config) (removeSession (tableIn r) teid .outcome)
   unfolding removeSession removeOutcome

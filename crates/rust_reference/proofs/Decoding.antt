@@ -21,7 +21,7 @@ use Rattle.measurement.specs.declared.DecodedTpdu.{DecodedTpdu}
 use Rattle.measurement.specs.declared.MeasurementHeader.{MeasurementHeader}
 use Rattle.measurement.specs.declared.IpVersion.the-variants.{V4, V6}
 use Rattle.measurement_reading.specs.Read.{payload, lengthWrong, covered, sumWrong, probeCauses, udpCauses, readProbe, readUdp, ihl, ipv4Causes, readIpv4, ipv6Causes, readIpv6, readOf}
-use Rattle.measurement_reading.proofs.Rows.{row-1, row-2, version-4, version-6}
+use Rattle.measurement_reading.proofs.Rows.{tpdu-rows, row-1, past-1, row-2, past-2-ipv4, past-2-ipv6}
 use Rattle.rust_reference.specs.Claims.{DecodeMeasurementTpdu}
 use Rattle.rust_reference.specs.Error as error
 use Rattle.rust_reference.specs.Error.{Result, Ok, Err, UnsupportedIpVersion, InvalidPacket, returnIf, _>>=_, _>>_}
@@ -274,7 +274,7 @@ module _ (p : List ℕ) (b : Bytes p) where
 pub decoded : (p : List ℕ) → Bytes p → outcomeBy tpduOf (rust.«decode_measurement_tpdu» p) ≡ readOf p
 unfolding rust.«decode_measurement_tpdu»
 decoded p b =
-    unless tpduOf (eqb (length p) 0) _ _ _ (λ e. row-1 p (eqb-true (length p) 0 e))
+    unless tpduOf (eqb (length p) 0) _ _ _ (λ e. row-1 p (tpdu-rows p) (eqb-true (length p) 0 e))
     (λ e. by (eqb-false (length p) 0 e) (eqb (index p 0 / 16) 4) refl (eqb (index p 0 / 16) 6) refl)
   where
     by : (length p ≡ 0 → ⊥) → (t : Bool) → eqb (index p 0 / 16) 4 ≡ t → (u : Bool) → eqb (index p 0 / 16) 6 ≡ u
@@ -282,9 +282,9 @@ decoded p b =
           | true ↦ rust.«decode_ipv4_measurement» p
           | false ↦ elim u [ true ↦ rust.«decode_ipv6_measurement» p | false ↦ Err (UnsupportedIpVersion (index p 0 / 16)) ]
         ]) ≡ readOf p
-    by h true e u f = ipv4-read p b ∙ version-4 p h refl (eqb-true (index p 0 / 16) 4 e)
-    by h false e true f = ipv6-read p b ∙ version-6 p h refl (eqb-true (index p 0 / 16) 6 f)
-    by h false e false f = row-2 p h refl (eqb-false (index p 0 / 16) 4 e) (eqb-false (index p 0 / 16) 6 f)
+    by h true e u f = ipv4-read p b ∙ past-2-ipv4 p refl (past-1 p (tpdu-rows p) h) (eqb-true (index p 0 / 16) 4 e)
+    by h false e true f = ipv6-read p b ∙ past-2-ipv6 p refl (past-1 p (tpdu-rows p) h) (eqb-true (index p 0 / 16) 6 f)
+    by h false e false f = row-2 p refl (past-1 p (tpdu-rows p) h) (eqb-false (index p 0 / 16) 4 e) (eqb-false (index p 0 / 16) 6 f)
 
 pub decoded-told : DecodeMeasurementTpdu
 decoded-told p b = decoded p (compared-bytes p b) ∙ told-is (readOf p)

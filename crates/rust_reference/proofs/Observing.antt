@@ -27,10 +27,10 @@ use Rattle.observer.proofs.Claims.{fresh-is-well, calls-keep-well}
 use Rattle.observer.proofs.Keeping.{well-rows}
 use Rattle.observer.proofs.Rows.{rows-with, capacity-with}
 use Rattle.observer.proofs.Judging.{well}
-use Rattle.continuity.specs.Returns.{sequenceRead, recordReceivedTpdu, MessageStep, asMessage, unchanged, recordReturnMessage}
-use Rattle.continuity.proofs.Laws.{kind-2, kind-ignored, kind-other, message-255, message-26, message-other}
-use Rattle.continuity.specs.declared.GtpuReturnDatagramOutcome.{GtpuReturnDatagramOutcome}
-use Rattle.continuity.specs.declared.GtpuReturnDatagramOutcome.the-variants.{MeasurementTpdu, ErrorIndication, EchoResponse, Ignored}
+use Rattle.return_calls.specs.Returns.{sequenceRead, recordReceivedTpdu, MessageStep, asMessage, unchanged, recordReturnMessage}
+use Rattle.return_calls.proofs.Laws.{kind-2, kind-ignored, kind-other, message-255, message-26, message-other}
+use Rattle.return_calls.specs.declared.GtpuReturnDatagramOutcome.{GtpuReturnDatagramOutcome}
+use Rattle.return_calls.specs.declared.GtpuReturnDatagramOutcome.the-variants.{MeasurementTpdu, ErrorIndication, EchoResponse, Ignored}
 use Rattle.rust_reference.specs.Claims.{New, EverySheet, RecordSent, RecordReceivedTpdu, RecordReturnGtpuDatagram}
 use Rattle.rust_reference.specs.Error as error
 use Rattle.rust_reference.specs.Error.{DataplaneTestkitError, Result, Ok, Err, InvalidPacket, TimestampReversed}

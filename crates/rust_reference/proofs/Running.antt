@@ -11,7 +11,7 @@ use Rattle.error.proofs.Tests.{true-not-false}
 use Rattle.observer.specs.Observer.{Observer, capacity, rows, sentRow}
 use Rattle.observer.specs.Place.{wasSent}
 use Rattle.observer.specs.Sending.{recordSent}
-use Rattle.continuity.specs.Returns.{recordReceivedTpdu, recordReturnMessage}
+use Rattle.return_calls.specs.Returns.{recordReceivedTpdu, recordReturnMessage}
 use Rattle.report.specs.Report.{reporting}
 use Rattle.observer.proofs.Judging.{well}
 use Rattle.observer.proofs.Keeping.{well-rows}
@@ -20,8 +20,8 @@ use Rattle.rows.proofs.Within.{holds-2048}
 use Rattle.observer.specs.Counts.{fresh}
 use Rattle.rust_reference.specs.Claims.{NoneAdded, AllTyped, NoneAddedIn, Runs, RunsUpTo2048}
 use Rattle.rust_reference.specs.Sheet.{sentOf, Same}
-use Rattle.continuity.specs.declared.GtpuReturnDatagramOutcome.{GtpuReturnDatagramOutcome}
-use Rattle.continuity.specs.declared.GtpuReturnDatagramOutcome.the-variants.{MeasurementTpdu, ErrorIndication, EchoResponse, Ignored}
+use Rattle.return_calls.specs.declared.GtpuReturnDatagramOutcome.{GtpuReturnDatagramOutcome}
+use Rattle.return_calls.specs.declared.GtpuReturnDatagramOutcome.the-variants.{MeasurementTpdu, ErrorIndication, EchoResponse, Ignored}
 use Rattle.rust_reference.specs.Compared.{told}
 use Rattle.rust_reference.specs.Error as error
 use Rattle.rust_reference.specs.Error.{Result, Ok, Err, InvalidPacket, TimestampReversed}

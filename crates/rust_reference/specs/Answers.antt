@@ -1,5 +1,5 @@
--- The Rust's values as the port has them ("What must change shape", document 01): flows and T-PDUs; `Vec`s in a lent
--- buffer; the report.
+-- The Rust's values as ours ("What must change shape", document 01): flows and T-PDUs; `Vec`s in a lent buffer; the
+-- report.
 use Prim.Native.Nat.{ℕ}
 use mathlib.Core.List.{List, [], _∷_, _++_, map}
 use lib.ListN.{length, drop}
@@ -24,7 +24,7 @@ use Rattle.rust_reference.specs.Measurement as rust
 use Rattle.rust_reference.specs.Traffic.{GeneratedPacket}
 use Rattle.traffic.specs.Generate.{Generating}
 
--- A flow of the port, handed to the Rust: "of an IPv4 address only the first 4 bytes count".
+-- Our flow, handed to the Rust: "of an IPv4 address only the first 4 bytes count".
 abbrev pub rustFlowOf : IpVersion → List ℕ → List ℕ → ℕ → ℕ → rust.InnerIpFlow
 rustFlowOf V4 src dst src-port dst-port = rust.Ipv4 (address V4 src) (address V4 dst) src-port dst-port
 rustFlowOf V6 src dst src-port dst-port = rust.Ipv6 (address V6 src) (address V6 dst) src-port dst-port
@@ -34,18 +34,30 @@ rustFlow flow = rustFlowOf (flow .version) (flow .src) (flow .dst) (flow .«src_
 
 -- A flow that the Rust answers: "what makes one leaves the rest 0".
 abbrev pub flowOf : rust.InnerIpFlow → InnerIpFlow
-flowOf (rust.Ipv4 src dst src-port dst-port) = record { version = V4; src = padded src; dst = padded dst; «src_port» = src-port; «dst_port» = dst-port }
-flowOf (rust.Ipv6 src dst src-port dst-port) = record { version = V6; src = padded src; dst = padded dst; «src_port» = src-port; «dst_port» = dst-port }
+flowOf (rust.Ipv4 src dst src-port dst-port) = record {
+  version = V4;
+  src = padded src;
+  dst = padded dst;
+  «src_port» = src-port;
+  «dst_port» = dst-port;
+}
+flowOf (rust.Ipv6 src dst src-port dst-port) = record {
+  version = V6;
+  src = padded src;
+  dst = padded dst;
+  «src_port» = src-port;
+  «dst_port» = dst-port;
+}
 
 abbrev pub tpduOf : rust.DecodedTpdu → DecodedTpdu
 tpduOf decoded = record { flow = flowOf (decoded .flow); measurement = decoded .measurement }
 
--- The Rust's `Vec` at the front of the lent buffer, what lies past it kept; an error, as its number, leaves every byte.
+-- The Rust's `Vec` at the front of the lent buffer; the bytes past it are kept, and an error keeps them all.
 abbrev pub inBuffer : Result (List ℕ) → List ℕ → Writing
 inBuffer (Ok vec) buffer = record { outcome = gives (length vec); buffer = vec ++ drop (length vec) buffer }
 inBuffer (Err error) buffer = record { outcome = refused (errorNumber error); buffer = buffer }
 
--- The Rust's packets, one behind the other.
+-- The Rust's packets, end to end.
 abbrev pub vecs : List GeneratedPacket → List ℕ
 vecs [] = []
 vecs (p ∷ packets) = p .tpdu ++ vecs packets
@@ -54,10 +66,13 @@ vecs (p ∷ packets) = p .tpdu ++ vecs packets
 abbrev pub headersOf : List GeneratedPacket → List MeasurementHeader
 headersOf packets = map (λ p. record { sequence = p .sequence; «send_timestamp_ns» = p .«send_timestamp_ns» }) packets
 
--- Likewise of the Rust's packets: end to end at the front of the lent buffer. The engine's next sequence is the Rust's,
--- after an error too.
+-- The same for these packets, with the next sequence of the Rust's engine, after an error too.
 abbrev pub packetsInBuffer : Result (List GeneratedPacket) → ℕ → List ℕ → Generating
-packetsInBuffer (Ok packets) next buffer = record { outcome = gives (length (vecs packets)); next = next; buffer = vecs packets ++ drop (length (vecs packets)) buffer }
+packetsInBuffer (Ok packets) next buffer = record {
+  outcome = gives (length (vecs packets));
+  next = next;
+  buffer = vecs packets ++ drop (length (vecs packets)) buffer;
+}
 packetsInBuffer (Err error) next buffer = record { outcome = refused (errorNumber error); next = next; buffer = buffer }
 
 -- What our generator leaves, in the numbers that are compared.

@@ -1,6 +1,6 @@
--- Demand 2: "where no refusal marked added is due, the results equal the Rust's". For each ported function of the Rust,
--- by its name: its result, with errors as numbers, equals document 01's definition, the one that the contract of the
--- call names. Our numbers are compared as Compared.antt tells them. proofs/ proves each claim.
+-- Demand 2: "where no refusal marked added is due, the results equal the Rust's". Each ported function of the Rust has
+-- a claim of its name: its result, with errors as numbers, is that of document 01's definition, which our call's
+-- contract names. Compared.antt says what is compared. proofs/ proves each claim.
 use Prim.Native.Nat.{ℕ, _%_, _≤_}
 use mathlib.Core.Path.{_≡_}
 use mathlib.Core.List.{List, [], _∷_, flatten, map}
@@ -29,8 +29,8 @@ use Rattle.observer.specs.Counts.{fresh}
 use Rattle.observer.specs.Judge.{wellFormed}
 use Rattle.observer.specs.Observer.{Observer, rows}
 use Rattle.observer.specs.Sending.{recordSent}
-use Rattle.continuity.specs.Returns.{recordReceivedTpdu, recordReturnMessage}
-use Rattle.continuity.specs.declared.GtpuReturnDatagramOutcome.{GtpuReturnDatagramOutcome}
+use Rattle.return_calls.specs.Returns.{recordReceivedTpdu, recordReturnMessage}
+use Rattle.return_calls.specs.declared.GtpuReturnDatagramOutcome.{GtpuReturnDatagramOutcome}
 use Rattle.report.specs.Report.{reporting}
 use Rattle.evidence.specs.Budget.{zeroLoss}
 use Rattle.evidence.specs.declared.PacketContinuityBudget.{PacketContinuityBudget}
@@ -71,7 +71,7 @@ NoneAdded o = (n : ℕ) → Added n → o ≡ refused n → ⊥
 
 -- ---- what is compared
 
--- Every T-PDU; every message that is no T-PDU, whatever its payload; and no two of our numbers are compared as one.
+-- Every T-PDU; every message that carries none, whatever its payload; and no two of our numbers are compared as one.
 pub record WhatIsCompared : Type 0 where
   pub every-tpdu : (tpdu : List ℕ) → Bytes tpdu → Compared tpdu
   pub every-other-return : (messageType : ℕ) (payload : List ℕ) → (messageType ≡ gtpuMsgGpdu → ⊥)
@@ -136,7 +136,7 @@ ValidateErrorIndicationIes = (payload : List ℕ)
 abbrev pub IntervalNs : Type 0
 IntervalNs = (plan : TrafficPlan) → outcomeOf (traffic.«interval_ns» plan) ≡ told (intervalOf (plan .«target_rate_pps»))
 
--- Both ways to make an engine: the sequence that it starts at.
+-- Both ways to make an engine, by the sequence that it starts at.
 abbrev pub Engines : Type 0
 Engines = (traffic.«TrafficEngine_new» .«next_sequence» ≡ firstSequence)
     × ((first : ℕ) → traffic.«with_first_sequence» first .«next_sequence» ≡ first)
@@ -150,13 +150,13 @@ Generate = (flow : InnerIpFlow) (plan : TrafficPlan) (next : ℕ) → InRange fl
     (packetsInBuffer (rust .result) (rust .«next_sequence») buffer ≡ toldGenerating (generateOf flow plan next buffer))
     × (outcomeBy headersOf (rust .result) ≡ told (judgePlan plan next .outcome))
 
--- `Same` relates the Rust's maps and the sheet; a fresh sheet of any columns is the Rust's new observer, and each call
--- on related ones has the same answer and leaves related ones.
+-- `Same` relates the Rust's observer and a sheet. A fresh sheet of any columns is related to the Rust's new observer,
+-- and each call on related ones has the same answer and leaves them related.
 abbrev pub New : Type 0
 New = (o : Observer) → o .counts ≡ fresh → Same traffic.new o
 
--- Every sheet on which 21 is not due is related to an observer of the Rust's type, whether or not calls lead there; its
--- latencies are u64s.
+-- Every sheet on which 21 is not due, and whose latencies are u64s, is related to an observer of the Rust, whether or
+-- not calls lead there.
 abbrev pub EverySheet : Type 0
 EverySheet = (o : Observer) → wellFormed o ≡ true → ValuesFit (receivedOf (rows o)) → Same (rustObserver o) o
 
@@ -187,7 +187,8 @@ RecordReturnGtpuDatagram = (rust : traffic.ContinuityObserver) (o : Observer) �
 abbrev pub Report : Type 0
 Report = (rust : traffic.ContinuityObserver) (o : Observer) → Same rust o
     → (windowStart windowEnd : ℕ) (budget : PacketContinuityBudget)
-    → gives (reportOf (traffic.report rust windowStart windowEnd budget)) ≡ told (reporting o windowStart windowEnd budget)
+    → gives (reportOf (traffic.report rust windowStart windowEnd budget))
+    ≡ told (reporting o windowStart windowEnd budget)
 
 -- ---- whole runs
 
@@ -200,18 +201,18 @@ abbrev pub NoneAddedIn : Observer → List Call → Type 0
 NoneAddedIn o [] = Unit {0}
 NoneAddedIn o (call ∷ calls) = NoneAdded (answerTo o call) × NoneAddedIn (afterCall o call) calls
 
--- Every answer of a run, each report on the way among them, is the Rust's, and the observers that are left hold the
--- same.
+-- Every answer of a run is the Rust's, each report on the way too, and the observers that are left hold the same.
 abbrev pub SameRun : Observer → List Call → Type 0
 SameRun o calls =
-    (rustAnswersTo traffic.new calls ≡ map told (answersTo o calls)) × Same (rustAfter traffic.new calls) (after o calls)
+    (rustAnswersTo traffic.new calls ≡ map told (answersTo o calls))
+    × Same (rustAfter traffic.new calls) (after o calls)
 
 -- Every list of calls on a fresh sheet of any columns.
 abbrev pub Runs : Type 0
 Runs = (o : Observer) → o .counts ≡ fresh → (calls : List Call) → AllTyped calls → NoneAddedIn o calls → SameRun o calls
 
--- "runs up to 2,048 sequences": with columns of 2,048 entries, all that is asked is that the Rust's map of what was sent
--- ends with no more.
+-- "runs up to 2,048 sequences": with columns of 2,048 entries, all that is asked is that the Rust's map of what was
+-- sent ends with no more than these.
 abbrev pub RunsUpTo2048 : Type 0
 RunsUpTo2048 = (o : Observer) → o .counts ≡ fresh → EachHas 2048 (columnLengths (o .columns)) → (calls : List Call)
     → AllTyped calls → length (rustAfter traffic.new calls .sent) ≤ 2048 → SameRun o calls
@@ -243,7 +244,8 @@ pub record NewMulti : Type 0 where
 abbrev pub RegisterSession : Type 0
 RegisterSession = (r : Reflector) → IsMade r → (session : ReflectorSession)
     → NoneAdded (registerSession (tableIn r) session .outcome)
-    → let after : reflector.Called (Result Bool) = reflector.«register_session» (rustReflector r) (rustSession session) in
+    → let after : reflector.Called (Result Bool) =
+    reflector.«register_session» (rustReflector r) (rustSession session) in
     (outcomeOf (after .result) ≡ told (registerSession (tableIn r) session .outcome))
     × (after .reflector ≡ rustReflector (withTable (registerSession (tableIn r) session .table) r))
 
@@ -259,11 +261,13 @@ RemoveSession = (r : Reflector) → IsMade r → (teid : ℕ) → NoneAdded (rem
 -- Rust's reflector, with its counts and its error sequence.
 abbrev pub HandleDatagram : Type 0
 HandleDatagram = (r : Reflector) → IsMade r → SequenceFits r
-    → (source : SocketAddr) (message : GtpuMessage) (payload : List ℕ) → ComparedMessage (r .config .policy) message payload
+    → (source : SocketAddr) (message : GtpuMessage) (payload : List ℕ)
+    → ComparedMessage (r .config .policy) message payload
     → (buffer : List ℕ) → NoneAdded (handling r source message payload buffer .outcome)
     → let after : reflector.Called (Result reflector.ReflectorAction) =
     reflector.«handle_datagram» (rustReflector r) (rustAddress source) (rustMessage message payload) in
-    (outcomeOf (after .result) ≡ outcomeTo (rustAction payload) (told (handling r source message payload buffer .outcome)))
+    (outcomeOf (after .result)
+    ≡ outcomeTo (rustAction payload) (told (handling r source message payload buffer .outcome)))
     × (inOutput (after .result) buffer ≡ placed (handling r source message payload buffer .outcome) buffer)
     × (after .reflector ≡ rustReflector (withState (handling r source message payload buffer .state) r))
 
@@ -284,7 +288,8 @@ SameReflectorRun made r calls =
 
 -- Every list of calls on what `new_multi` made, and on a fresh reflector with any slice.
 abbrev pub ReflectorRuns : Type 0
-ReflectorRuns = (sessions : List ReflectorSession) (config : MultiSessionReflectorConfig) (made : reflector.GtpuReflector)
+ReflectorRuns =
+    (sessions : List ReflectorSession) (config : MultiSessionReflectorConfig) (made : reflector.GtpuReflector)
     → reflector.«new_multi» (rustConfig config) ≡ Ok made → (calls : List reflecting.Call)
     → AllCallsTyped (config .policy) calls → NoneAddedInCalls (freshReflector sessions config) calls
     → SameReflectorRun made (freshReflector sessions config) calls
@@ -293,8 +298,8 @@ abbrev pub AllOutputsFit : List reflecting.Call → Type 0
 AllOutputsFit [] = Unit {0}
 AllOutputsFit (call ∷ calls) = reflecting.OutputFits call × AllOutputsFit calls
 
--- The same where the slice has a row for each session of the maximum and the outputs have 72 bytes: then neither 31 nor
--- 15 is ever due.
+-- The same where the slice has as many rows as the maximum and each output has 72 bytes: then neither 31 nor 15 is ever
+-- due.
 abbrev pub ReflectorRunsWithRoom : Type 0
 ReflectorRunsWithRoom = (sessions : List ReflectorSession) (config : MultiSessionReflectorConfig)
     → (made : reflector.GtpuReflector) → reflector.«new_multi» (rustConfig config) ≡ Ok made

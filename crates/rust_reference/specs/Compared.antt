@@ -15,16 +15,16 @@ use Rattle.reflector_answer.specs.declared.ReflectorPolicy.the-variants.{Echo, 
 abbrev pub Compared : List ℕ → Type 0
 Compared tpdu = Bytes tpdu
 
--- A message that came back: the payload of a G-PDU is a T-PDU. Every other message is compared.
+-- Of the messages that come back only a G-PDU carries a T-PDU; every other message is compared.
 abbrev pub ComparedReturn : ℕ → List ℕ → Type 0
 ComparedReturn messageType payload = messageType ≡ gtpuMsgGpdu → Compared payload
 
--- A T-PDU at the reflector: only an echo reads it. A route sends it on as it came, and the stand-in for the codec
--- carries "a payload of at most 65,535 bytes".
+-- At the reflector only an echo reads the T-PDU. A route sends it on as it came, and the stand-in for the codec carries
+-- "a payload of at most 65,535 bytes".
 abbrev pub ComparedGpdu : ReflectorPolicy → List ℕ → Type 0
 ComparedGpdu policy tpdu = (policy ≡ Echo → Compared tpdu) × (policy ≡ Route → length tpdu ≤ 65535)
 
--- A message at the reflector. Every one but a G-PDU is compared.
+-- A message at the reflector: every one but a G-PDU is compared.
 abbrev pub ComparedMessage : ReflectorPolicy → GtpuMessage → List ℕ → Type 0
 ComparedMessage policy message payload = message .«message_type» ≡ gtpuMsgGpdu → ComparedGpdu policy payload
 

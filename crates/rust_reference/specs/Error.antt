@@ -1,5 +1,5 @@
--- The Rust's error.rs, lines 8 to 60, as far as the ported functions answer by it, and its `Result`. A text is a
--- constructor, with hyphens for its spaces.
+-- The Rust's error.rs, lines 8 to 60, as far as the ported functions use it, and `Result`. A text is a constructor,
+-- with hyphens for its spaces.
 use Prim.Native.Nat.{ℕ}
 use mathlib.Core.Bool.{Bool, true, false}
 
@@ -11,7 +11,8 @@ pub data Context : Type 0 where
 -- `InvalidPacket { reason }`
 pub data Reason : Type 0 where
   measurement-magic-mismatch : Reason
-  invalid-IPv4-IHL invalid-IPv4-total-length IPv4-payload-is-not-UDP invalid-IPv4-header-checksum invalid-IPv4-UDP-checksum : Reason
+  invalid-IPv4-IHL invalid-IPv4-total-length IPv4-payload-is-not-UDP : Reason
+  invalid-IPv4-header-checksum invalid-IPv4-UDP-checksum : Reason
   IPv6-payload-is-not-UDP invalid-IPv6-payload-length IPv6-UDP-checksum-is-zero invalid-IPv6-UDP-checksum : Reason
   invalid-UDP-length : Reason
   target-rate-must-be-non-zero target-rate-exceeds-nanosecond-timestamp-resolution : Reason
@@ -32,7 +33,8 @@ pub data DataplaneTestkitError : Type 0 where
   TimestampReversed : DataplaneTestkitError
   -- `GtpuEncode(String)`: the text is the codec's, which is not among the sources
   GtpuEncode : DataplaneTestkitError
-  InvalidReflectorCapacity InvalidReflectorSession ReflectorSessionConflict ReflectorSessionCapacityExceeded : DataplaneTestkitError
+  InvalidReflectorCapacity InvalidReflectorSession : DataplaneTestkitError
+  ReflectorSessionConflict ReflectorSessionCapacityExceeded : DataplaneTestkitError
 
 -- `Result<A, DataplaneTestkitError>`
 pub data Result (A : Type 0) : Type 0 where

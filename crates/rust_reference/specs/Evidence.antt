@@ -1,5 +1,5 @@
--- The Rust's evidence.rs: `PacketContinuityBudget` and `LatencySummary`, lines 17 to 47, of which the port's structs
--- have the same fields, and `PacketContinuityReport`, lines 55 to 89, less `schema_version` and `flow_id`, which
+-- The Rust's evidence.rs: `PacketContinuityBudget` and `LatencySummary`, lines 17 to 47, whose fields our structs
+-- have too, and `PacketContinuityReport`, lines 55 to 89, less `schema_version` and `flow_id`, which
 -- document 01 leaves out.
 use Prim.Native.Nat.{ℕ}
 use mathlib.Core.Bool.{Bool}

@@ -1,6 +1,6 @@
 -- The Rust's gtpu.rs: the message types, lines 15 to 26, the messages that the reflector sends, lines 46 to 106, and
--- `validate_error_indication_ies`, lines 109 to 189. Offsets are `usize` there, and every `checked_add` succeeds: an
--- offset is at most the payload's length when 65,538 at most is added to it, and a slice of bytes has fewer than 2^63.
+-- `validate_error_indication_ies`, lines 109 to 189. Offsets are `usize` there, and every `checked_add` succeeds: at
+-- most 65,538 is added to an offset within the payload, and a slice has fewer than 2^63 bytes.
 use Prim.Native.Nat.{ℕ, zero, suc, _+_}
 use mathlib.Core.List.{List, [], _∷_}
 use mathlib.Core.Bool.{Bool, true, false, not, _&&_}
@@ -28,8 +28,8 @@ abbrev pub «GTPU_MSG_END_MARKER» : ℕ
 abbrev pub «GTPU_MSG_GPDU» : ℕ
 «GTPU_MSG_GPDU» = 255
 
--- A message, of its header the three fields that the reflector reads and writes. The codec is not among the sources, so
--- a datagram is the message that `decode_gtpu` makes of it, and `encode_message` answers the message that it encodes.
+-- A message, with the three header fields that the reflector reads and writes. The codec is not among the sources, so a
+-- datagram is the message that `decode_gtpu` makes of it, and `encode_message` answers the message that it encodes.
 pub record GtpuMessage : Type 0 where
   pub «message_type» : ℕ
   pub teid : ℕ
@@ -49,11 +49,13 @@ abbrev pub «encode_gpdu» : ℕ → List ℕ → Result GtpuMessage
 
 -- lines 80 to 92
 abbrev pub «encode_echo_response» : ℕ → ℕ → Result GtpuMessage
-«encode_echo_response» sequence-number recovery-counter = «encode_message» «GTPU_MSG_ECHO_RESPONSE» 0 (Some sequence-number) (14 ∷ recovery-counter ∷ [])
+«encode_echo_response» sequence-number recovery-counter =
+    «encode_message» «GTPU_MSG_ECHO_RESPONSE» 0 (Some sequence-number) (14 ∷ recovery-counter ∷ [])
 
 -- lines 94 to 106
 abbrev pub «encode_error_indication» : ℕ → List ℕ → Result GtpuMessage
-«encode_error_indication» sequence-number payload = «encode_message» «GTPU_MSG_ERROR_INDICATION» 0 (Some sequence-number) payload
+«encode_error_indication» sequence-number payload =
+    «encode_message» «GTPU_MSG_ERROR_INDICATION» 0 (Some sequence-number) payload
 
 -- lines 178 to 188: behind the loop
 unfoldable pub «required_ies» : Bool → Bool → Result (Unit {0})
@@ -62,8 +64,8 @@ unfoldable pub «required_ies» : Bool → Bool → Result (Unit {0})
   returnIf (not has-peer-address) (InvalidPacket Error-Indication-missing-GTP-U-Peer-Address-IE)
   Ok tt
 
--- lines 114 to 176: `while offset < payload.len()`, with a bound on the turns. Each turn raises the offset, so the
--- payload's length is bound enough.
+-- lines 114 to 176: `while offset < payload.len()`, with a bound on the turns: the payload's length will do, since each
+-- turn raises the offset.
 unfoldable pub «while_ies» : ℕ → List ℕ → ℕ → Bool → Bool → Result (Unit {0})
 «while_ies» zero payload offset has-teid-data has-peer-address = «required_ies» has-teid-data has-peer-address
 «while_ies» (suc turns) payload offset has-teid-data has-peer-address =
@@ -82,7 +84,8 @@ unfoldable pub «while_ies» : ℕ → List ℕ → ℕ → Bool → Bool → Re
                     let len-end : ℕ = offset + 1 + 2
                     returnIf (ltb (length payload) len-end) (Truncated GTP-U-Peer-Address-IE)
                     let len : ℕ = «u16_at» payload (offset + 1)
-                    returnIf (not (eqb len 4) && not (eqb len 16)) (InvalidPacket GTP-U-Peer-Address-IE-length-must-be-IPv4-or-IPv6)
+                    returnIf (not (eqb len 4) && not (eqb len 16))
+                        (InvalidPacket GTP-U-Peer-Address-IE-length-must-be-IPv4-or-IPv6)
                     let value-end : ℕ = len-end + len
                     returnIf (ltb (length payload) value-end) (Truncated GTP-U-Peer-Address-IE)
                     «while_ies» turns payload value-end has-teid-data true

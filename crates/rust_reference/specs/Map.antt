@@ -34,7 +34,11 @@ insert key value [] = record { key = key; value = value } ∷ []
 insert key value (e ∷ entries) =
     elim (ltb key (e .key)) [
       | true ↦ record { key = key; value = value } ∷ e ∷ entries
-      | false ↦ elim (eqb key (e .key)) [ true ↦ record { key = key; value = value } ∷ entries | false ↦ e ∷ insert key value entries ]
+      | false ↦
+          elim (eqb key (e .key)) [
+            | true ↦ record { key = key; value = value } ∷ entries
+            | false ↦ e ∷ insert key value entries
+          ]
     ]
 
 abbrev pub keys : List Entry → List ℕ

@@ -40,8 +40,8 @@ abbrev pub reversed : InnerIpFlow → InnerIpFlow
 reversed (Ipv4 src dst src-port dst-port) = Ipv4 dst src dst-port src-port
 reversed (Ipv6 src dst src-port dst-port) = Ipv6 dst src dst-port src-port
 
--- lines 104 to 109, `MeasurementHeader`: the port's struct has the same two fields. Lines 114 to 120: the array of
--- zeros, written in three places.
+-- lines 104 to 109, `MeasurementHeader`: our struct has the same two fields. Lines 114 to 120: the array of zeros,
+-- written in three places.
 unfoldable pub encode : MeasurementHeader → List ℕ
 encode header =
     let out : List ℕ = replicate «MEASUREMENT_HEADER_LEN» 0 in
@@ -72,7 +72,8 @@ unfoldable pub «add_parts» : ℕ → List (List ℕ) → ℕ
 -- lines 470 to 472: `while (sum >> 16) != 0`, with a bound on the turns. Each turn makes the sum less.
 unfoldable pub «while_carries» : ℕ → ℕ → ℕ
 «while_carries» zero sum = sum
-«while_carries» (suc turns) sum = elim (eqb (sum / 65536) 0) [ true ↦ sum | false ↦ «while_carries» turns (sum % 65536 + sum / 65536) ]
+«while_carries» (suc turns) sum =
+    elim (eqb (sum / 65536) 0) [ true ↦ sum | false ↦ «while_carries» turns (sum % 65536 + sum / 65536) ]
 
 -- `!(sum as u16)`
 unfoldable pub checksum : List (List ℕ) → ℕ
@@ -88,7 +89,8 @@ unfoldable pub «ipv4_pseudo» : List ℕ → List ℕ → List ℕ → List ℕ
 
 -- lines 423 to 428, and again 443 to 448
 unfoldable pub «ipv6_pseudo» : List ℕ → List ℕ → List ℕ → List ℕ
-«ipv6_pseudo» src dst udp = src ++ dst ++ bigEndian 4 (length udp % 4294967296) ++ (0 ∷ 0 ∷ 0 ∷ []) ++ («UDP_PROTOCOL» ∷ [])
+«ipv6_pseudo» src dst udp =
+    src ++ dst ++ bigEndian 4 (length udp % 4294967296) ++ (0 ∷ 0 ∷ 0 ∷ []) ++ («UDP_PROTOCOL» ∷ [])
 
 -- lines 412 to 450
 unfoldable pub «udp_checksum_ipv4» : List ℕ → List ℕ → List ℕ → ℕ
@@ -132,9 +134,11 @@ unfoldable pub «ipv4_header» : List ℕ → List ℕ → ℕ → List ℕ
 unfoldable pub «ipv4_packet» : List ℕ → List ℕ → ℕ → ℕ → ℕ → ℕ → List ℕ → List ℕ
 «ipv4_packet» src dst src-port dst-port udp-len total-len udp-payload =
     let packet : List ℕ = «ipv4_header» src dst total-len in
-    let packet : List ℕ = «copy_from_slice» packet 10 (bigEndian 2 (checksum (range packet 0 «IPV4_HEADER_LEN» ∷ []))) in
+    let packet : List ℕ =
+    «copy_from_slice» packet 10 (bigEndian 2 (checksum (range packet 0 «IPV4_HEADER_LEN» ∷ []))) in
     let packet : List ℕ = «write_udp_segment» packet «IPV4_HEADER_LEN» src-port dst-port udp-len udp-payload in
-    «copy_from_slice» packet («IPV4_HEADER_LEN» + 6) (bigEndian 2 («udp_checksum_ipv4» src dst (drop «IPV4_HEADER_LEN» packet)))
+    «copy_from_slice» packet («IPV4_HEADER_LEN» + 6)
+    (bigEndian 2 («udp_checksum_ipv4» src dst (drop «IPV4_HEADER_LEN» packet)))
 
 -- lines 201 to 247
 unfoldable pub «build_ipv4_udp» : List ℕ → List ℕ → ℕ → ℕ → List ℕ → Result (List ℕ)
@@ -161,7 +165,8 @@ unfoldable pub «ipv6_packet» : List ℕ → List ℕ → ℕ → ℕ → ℕ �
 «ipv6_packet» src dst src-port dst-port udp-len total-len udp-payload =
     let packet : List ℕ = «ipv6_header» src dst udp-len total-len in
     let packet : List ℕ = «write_udp_segment» packet «IPV6_HEADER_LEN» src-port dst-port udp-len udp-payload in
-    «copy_from_slice» packet («IPV6_HEADER_LEN» + 6) (bigEndian 2 («udp_checksum_ipv6» src dst (drop «IPV6_HEADER_LEN» packet)))
+    «copy_from_slice» packet («IPV6_HEADER_LEN» + 6)
+    (bigEndian 2 («udp_checksum_ipv6» src dst (drop «IPV6_HEADER_LEN» packet)))
 
 -- lines 249 to 286
 unfoldable pub «build_ipv6_udp» : List ℕ → List ℕ → ℕ → ℕ → List ℕ → Result (List ℕ)
@@ -177,7 +182,8 @@ unfoldable pub «build_udp_tpdu» : InnerIpFlow → List ℕ → Result (List �
 
 -- lines 153 to 163
 unfoldable pub «build_measurement_tpdu» : InnerIpFlow → ℕ → ℕ → Result (List ℕ)
-«build_measurement_tpdu» flow sequence time = «build_udp_tpdu» flow (encode (record { sequence = sequence; «send_timestamp_ns» = time }))
+«build_measurement_tpdu» flow sequence time =
+    «build_udp_tpdu» flow (encode (record { sequence = sequence; «send_timestamp_ns» = time }))
 
 -- ---- decoding
 
@@ -205,16 +211,19 @@ unfoldable pub «decode_ipv4_measurement» : List ℕ → Result DecodedTpdu
 «decode_ipv4_measurement» tpdu = do
   returnIf (ltb (length tpdu) «IPV4_HEADER_LEN») (Truncated error.IPv4-header)
   let ihl : ℕ = index tpdu 0 % 16 * 4
-  returnIf (ltb ihl «IPV4_HEADER_LEN» || ltb (length tpdu) (ihl + «UDP_HEADER_LEN»)) (InvalidPacket error.invalid-IPv4-IHL)
+  returnIf (ltb ihl «IPV4_HEADER_LEN» || ltb (length tpdu) (ihl + «UDP_HEADER_LEN»))
+      (InvalidPacket error.invalid-IPv4-IHL)
   let total-len : ℕ = «u16_at» tpdu 2
-  returnIf (ltb total-len (ihl + «UDP_HEADER_LEN») || ltb (length tpdu) total-len) (InvalidPacket error.invalid-IPv4-total-length)
+  returnIf (ltb total-len (ihl + «UDP_HEADER_LEN») || ltb (length tpdu) total-len)
+      (InvalidPacket error.invalid-IPv4-total-length)
   returnIf (not (eqb (index tpdu 9) «UDP_PROTOCOL»)) (InvalidPacket error.IPv4-payload-is-not-UDP)
   returnIf (not (eqb (checksum (range tpdu 0 ihl ∷ [])) 0)) (InvalidPacket error.invalid-IPv4-header-checksum)
   let src : List ℕ = index tpdu 12 ∷ index tpdu 13 ∷ index tpdu 14 ∷ index tpdu 15 ∷ []
   let dst : List ℕ = index tpdu 16 ∷ index tpdu 17 ∷ index tpdu 18 ∷ index tpdu 19 ∷ []
   let udp : List ℕ = range tpdu ihl total-len
   segment ← «parse_udp_segment» udp
-  returnIf (not (eqb («u16_at» udp 6) 0) && not (eqb («checksum_udp_ipv4_including_checksum» src dst udp) 0)) (InvalidPacket error.invalid-IPv4-UDP-checksum)
+  returnIf (not (eqb («u16_at» udp 6) 0) && not (eqb («checksum_udp_ipv4_including_checksum» src dst udp) 0))
+      (InvalidPacket error.invalid-IPv4-UDP-checksum)
   measurement ← decode (segment .payload)
   Ok (record { flow = Ipv4 src dst (segment .src-port) (segment .dst-port); measurement = measurement })
 
@@ -225,12 +234,14 @@ unfoldable pub «decode_ipv6_measurement» : List ℕ → Result DecodedTpdu
   returnIf (not (eqb (index tpdu 6) «UDP_PROTOCOL»)) (InvalidPacket error.IPv6-payload-is-not-UDP)
   let payload-len : ℕ = «u16_at» tpdu 4
   let total-len : ℕ = «IPV6_HEADER_LEN» + payload-len
-  returnIf (ltb (length tpdu) total-len || ltb payload-len «UDP_HEADER_LEN») (InvalidPacket error.invalid-IPv6-payload-length)
+  returnIf (ltb (length tpdu) total-len || ltb payload-len «UDP_HEADER_LEN»)
+      (InvalidPacket error.invalid-IPv6-payload-length)
   let src : List ℕ = range tpdu 8 24
   let dst : List ℕ = range tpdu 24 40
   let udp : List ℕ = range tpdu «IPV6_HEADER_LEN» total-len
   returnIf (eqb («u16_at» udp 6) 0) (InvalidPacket error.IPv6-UDP-checksum-is-zero)
-  returnIf (not (eqb («checksum_udp_ipv6_including_checksum» src dst udp) 0)) (InvalidPacket error.invalid-IPv6-UDP-checksum)
+  returnIf (not (eqb («checksum_udp_ipv6_including_checksum» src dst udp) 0))
+      (InvalidPacket error.invalid-IPv6-UDP-checksum)
   segment ← «parse_udp_segment» udp
   measurement ← decode (segment .payload)
   Ok (record { flow = Ipv6 src dst (segment .src-port) (segment .dst-port); measurement = measurement })
@@ -242,7 +253,8 @@ unfoldable pub «decode_measurement_tpdu» : List ℕ → Result DecodedTpdu
   let version : ℕ = index tpdu 0 / 16
   elim (eqb version 4) [
     | true ↦ «decode_ipv4_measurement» tpdu
-    | false ↦ elim (eqb version 6) [ true ↦ «decode_ipv6_measurement» tpdu | false ↦ Err (UnsupportedIpVersion version) ]
+    | false ↦
+        elim (eqb version 6) [ true ↦ «decode_ipv6_measurement» tpdu | false ↦ Err (UnsupportedIpVersion version) ]
   ]
 
 -- lines 178 to 182

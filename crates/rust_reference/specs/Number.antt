@@ -5,7 +5,7 @@ use Rattle.error.specs.Outcome.{Outcome, refused, gives}
 use Rattle.rust_reference.specs.Error as rust
 use Rattle.rust_reference.specs.Error.{Context, Reason, Field, DataplaneTestkitError, Result, Truncated, UnsupportedIpVersion, InvalidPacket, Overflow, TimestampReversed, GtpuEncode, InvalidReflectorCapacity, InvalidReflectorSession, ReflectorSessionConflict, ReflectorSessionCapacityExceeded, Ok, Err}
 
--- An error that the Rust can write down and never answers by. The card has no such number, so each claim also says that
+-- An error that the Rust's code can make and never answers. The card has no such number, so each claim also says that
 -- it does not occur.
 abbrev pub notOnTheCard : ℕ
 notOnTheCard = 0
@@ -67,6 +67,6 @@ abbrev pub outcomeBy : {A B : Type 0} → (A → B) → Result A → Outcome B
 outcomeBy value (Ok x) = gives (value x)
 outcomeBy value (Err error) = refused (errorNumber error)
 
--- the same where the value is document 01's already
+-- the same where the value needs no change
 abbrev pub outcomeOf : {A : Type 0} → Result A → Outcome A
 outcomeOf result = outcomeBy (λ x. x) result

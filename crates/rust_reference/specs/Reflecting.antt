@@ -29,7 +29,7 @@ Typed policy (register session) = Unit {0}
 Typed policy (remove teid) = Unit {0}
 Typed policy (handle source message payload buffer) = ComparedMessage policy message payload
 
--- Its output, where it is lent one, has the bytes that document 01 asks for: 15 is not due.
+-- The output that it is lent, if any, has the bytes that document 01 asks for: 15 is not due.
 abbrev pub OutputFits : Call → Type 0
 OutputFits (register session) = Unit {0}
 OutputFits (remove teid) = Unit {0}
@@ -41,15 +41,21 @@ pub data Given : Type 0 where
   removed : Option rust.ReflectorSession → Given
   acted : rust.ReflectorAction → Given
 
--- A call's outcome, and the output as it leaves it, where one was lent.
+-- A call's outcome, and the output, if it was lent one, as it leaves it.
 pub record Answer : Type 0 where
   pub outcome : Outcome Given
   pub output : List ℕ
 
 -- By document 01's definitions.
 abbrev pub answerTo : Reflector → Call → Answer
-answerTo r (register session) = record { outcome = outcomeTo registered (registerSession (tableIn r) session .outcome); output = [] }
-answerTo r (remove teid) = record { outcome = outcomeTo removed (outcomeTo rustRemoved (removeSession (tableIn r) teid .outcome)); output = [] }
+answerTo r (register session) = record {
+  outcome = outcomeTo registered (registerSession (tableIn r) session .outcome);
+  output = [];
+}
+answerTo r (remove teid) = record {
+  outcome = outcomeTo removed (outcomeTo rustRemoved (removeSession (tableIn r) teid .outcome));
+  output = [];
+}
 answerTo r (handle source message payload buffer) = record {
   outcome = outcomeTo acted (outcomeTo (rustAction payload) (handling r source message payload buffer .outcome));
   output = placed (handling r source message payload buffer .outcome) buffer;
@@ -64,7 +70,7 @@ abbrev pub answersTo : Reflector → List Call → List Answer
 answersTo r [] = []
 answersTo r (call ∷ calls) = answerTo r call ∷ answersTo (afterCall r call) calls
 
--- An answer of ours, in the numbers that are compared.
+-- Our answer, in the numbers that are compared.
 abbrev pub toldAnswer : Answer → Answer
 toldAnswer answer = record { outcome = told (answer .outcome); output = answer .output }
 
@@ -74,17 +80,22 @@ after r (call ∷ calls) = after (afterCall r call) calls
 
 -- By the Rust's.
 abbrev pub rustAnswerTo : rust.GtpuReflector → Call → Answer
-rustAnswerTo r (register session) = record { outcome = outcomeTo registered (outcomeOf (rust.«register_session» r (rustSession session) .result)); output = [] }
+rustAnswerTo r (register session) = record {
+  outcome = outcomeTo registered (outcomeOf (rust.«register_session» r (rustSession session) .result));
+  output = [];
+}
 rustAnswerTo r (remove teid) = record { outcome = gives (removed (rust.«remove_session» r teid .result)); output = [] }
 rustAnswerTo r (handle source message payload buffer) = record {
-  outcome = outcomeTo acted (outcomeOf (rust.«handle_datagram» r (rustAddress source) (rustMessage message payload) .result));
+  outcome = outcomeTo acted
+      (outcomeOf (rust.«handle_datagram» r (rustAddress source) (rustMessage message payload) .result));
   output = inOutput (rust.«handle_datagram» r (rustAddress source) (rustMessage message payload) .result) buffer;
 }
 
 abbrev pub rustAfterCall : rust.GtpuReflector → Call → rust.GtpuReflector
 rustAfterCall r (register session) = rust.«register_session» r (rustSession session) .reflector
 rustAfterCall r (remove teid) = rust.«remove_session» r teid .reflector
-rustAfterCall r (handle source message payload buffer) = rust.«handle_datagram» r (rustAddress source) (rustMessage message payload) .reflector
+rustAfterCall r (handle source message payload buffer) =
+    rust.«handle_datagram» r (rustAddress source) (rustMessage message payload) .reflector
 
 abbrev pub rustAnswersTo : rust.GtpuReflector → List Call → List Answer
 rustAnswersTo r [] = []

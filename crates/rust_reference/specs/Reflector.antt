@@ -54,10 +54,11 @@ pub record MultiSessionReflectorConfig : Type 0 where
   pub «recovery_counter» : ℕ
   pub policy : ReflectorPolicy
 
--- Lines 85 to 98, `ReflectorStats`, and lines 102 to 111, `ReflectorSendReason`: the port's have the same fields and
--- cases. Lines 115 to 130; a text is a constructor, with hyphens for its spaces.
+-- Lines 85 to 98, `ReflectorStats`, and lines 102 to 111, `ReflectorSendReason`: ours have the same fields and cases.
+-- Lines 115 to 130; a text is a constructor, with hyphens for its spaces.
 pub data NoopReason : Type 0 where
-  echo-response-observed error-indication-observed end-marker-ignored supported-extension-headers-notification-ignored G-PDU-sunk : NoopReason
+  echo-response-observed error-indication-observed end-marker-ignored : NoopReason
+  supported-extension-headers-notification-ignored G-PDU-sunk : NoopReason
 
 pub data ReflectorAction : Type 0 where
   Noop : NoopReason → ReflectorAction
@@ -101,7 +102,8 @@ sameSession a b =
 -- lines 150 to 158
 abbrev pub find : ℕ → List ReflectorSession → Option ReflectorSession
 find local-teid [] = None
-find local-teid (session ∷ sessions) = elim (eqb (session .«local_teid») local-teid) [ true ↦ Some session | false ↦ find local-teid sessions ]
+find local-teid (session ∷ sessions) =
+    elim (eqb (session .«local_teid») local-teid) [ true ↦ Some session | false ↦ find local-teid sessions ]
 
 -- `position`, lines 184 to 186
 abbrev pub position : ℕ → List ReflectorSession → Option ℕ
@@ -112,12 +114,12 @@ position local-teid (session ∷ sessions) =
       | false ↦ elim (position local-teid sessions) [ None ↦ None | Some index ↦ Some (suc index) ]
     ]
 
--- What a `Vec` has at an index. The Rust panics past the end; here each index is that of a `position`, or of the last
--- element.
+-- What a `Vec` has at an index. The Rust panics past the end; each index here is a `position`, or the last one.
 abbrev pub at : List ReflectorSession → ℕ → ReflectorSession
-at sessions index = getD sessions index (record { «local_teid» = 0; «peer_teid» = 0; «peer_addr» = record { ip = V4 []; port = 0 } })
+at sessions index =
+    getD sessions index (record { «local_teid» = 0; «peer_teid» = 0; «peer_addr» = record { ip = V4 []; port = 0 } })
 
--- `Vec::swap_remove`, what it leaves: the last element stands in the hole, and the `Vec` is one shorter.
+-- What `Vec::swap_remove` leaves: the last element stands in the hole, and the `Vec` is one shorter.
 abbrev pub «swap_remove» : List ReflectorSession → ℕ → List ReflectorSession
 «swap_remove» sessions index = take (length sessions - 1) (set sessions index (at sessions (length sessions - 1)))
 
@@ -137,20 +139,29 @@ withSessions sessions r = record {
 -- lines 224 to 236
 unfoldable pub «new_multi» : MultiSessionReflectorConfig → Result GtpuReflector
 «new_multi» config = do
-  returnIf (eqb (config .«max_sessions») 0 || ltb «MAX_REFLECTOR_SESSIONS» (config .«max_sessions»)) InvalidReflectorCapacity
+  returnIf (eqb (config .«max_sessions») 0 || ltb «MAX_REFLECTOR_SESSIONS» (config .«max_sessions»))
+      InvalidReflectorCapacity
   Ok (record {
     sessions = [];
     «max_sessions» = config .«max_sessions»;
     «recovery_counter» = config .«recovery_counter»;
     policy = config .policy;
-    stats = record { «gpdu_received» = 0; «gpdu_forwarded» = 0; «gpdu_sunk» = 0; «echo_requests_answered» = 0; «error_indications_sent» = 0; «malformed_rejected» = 0 };
+    stats = record {
+      «gpdu_received» = 0;
+      «gpdu_forwarded» = 0;
+      «gpdu_sunk» = 0;
+      «echo_requests_answered» = 0;
+      «error_indications_sent» = 0;
+      «malformed_rejected» = 0;
+    };
     «next_error_sequence» = 1;
   })
 
 -- lines 417 to 422
 unfoldable pub «validate_session» : ReflectorSession → Result (Unit {0})
 «validate_session» session = do
-  returnIf (eqb (session .«local_teid») 0 || (eqb (session .«peer_teid») 0 || eqb (session .«peer_addr» .port) 0)) InvalidReflectorSession
+  returnIf (eqb (session .«local_teid») 0 || (eqb (session .«peer_teid») 0 || eqb (session .«peer_addr» .port) 0))
+      InvalidReflectorSession
   Ok tt
 
 -- lines 264 to 281
@@ -175,7 +186,10 @@ unfoldable pub «remove_session» : GtpuReflector → ℕ → Called (Option Ref
 «remove_session» r local-teid =
     elim (position local-teid (r .sessions)) [
       | None ↦ record { result = None; reflector = r }
-      | Some index ↦ record { result = Some (at (r .sessions) index); reflector = withSessions («swap_remove» (r .sessions) index) r }
+      | Some index ↦ record {
+        result = Some (at (r .sessions) index);
+        reflector = withSessions («swap_remove» (r .sessions) index) r;
+      }
     ]
 
 -- ---- a datagram
@@ -257,8 +271,10 @@ unfoldable pub «take_error_sequence» : GtpuReflector → Called ℕ
 
 -- lines 424 to 443
 unfoldable pub «error_indication_payload» : ℕ → IpAddr → List ℕ
-«error_indication_payload» offending-teid (V4 octets) = (16 ∷ []) ++ bigEndian 4 offending-teid ++ (133 ∷ []) ++ bigEndian 2 4 ++ octets
-«error_indication_payload» offending-teid (V6 octets) = (16 ∷ []) ++ bigEndian 4 offending-teid ++ (133 ∷ []) ++ bigEndian 2 16 ++ octets
+«error_indication_payload» offending-teid (V4 octets) =
+    (16 ∷ []) ++ bigEndian 4 offending-teid ++ (133 ∷ []) ++ bigEndian 2 4 ++ octets
+«error_indication_payload» offending-teid (V6 octets) =
+    (16 ∷ []) ++ bigEndian 4 offending-teid ++ (133 ∷ []) ++ bigEndian 2 16 ++ octets
 
 -- lines 376 to 408
 unfoldable pub «handle_gpdu» : GtpuReflector → ReflectorSession → List ℕ → Called (Result ReflectorAction)
@@ -287,10 +303,16 @@ unfoldable pub «unknown_teid» : GtpuReflector → SocketAddr → GtpuMessage �
 unfoldable pub «echo_request» : GtpuReflector → SocketAddr → GtpuMessage → Called (Result ReflectorAction)
 «echo_request» r source message =
     elim (not (eqb (message .teid) 0)) [
-      | true ↦ record { result = Err (InvalidPacket error.Echo-Request-TEID-must-be-zero); reflector = count MalformedRejected r }
+      | true ↦ record {
+        result = Err (InvalidPacket error.Echo-Request-TEID-must-be-zero);
+        reflector = count MalformedRejected r;
+      }
       | false ↦
           elim (message .«sequence_number») [
-            | None ↦ record { result = Err (InvalidPacket error.Echo-Request-missing-sequence-number); reflector = count MalformedRejected r }
+            | None ↦ record {
+              result = Err (InvalidPacket error.Echo-Request-missing-sequence-number);
+              reflector = count MalformedRejected r;
+            }
             | Some sequence ↦
                 let r : GtpuReflector = count EchoRequestsAnswered r in
                 attempted («encode_echo_response» sequence (r .«recovery_counter»)) r λ packet.
@@ -309,7 +331,10 @@ unfoldable pub «other_message» : GtpuReflector → ℕ → Called (Result Refl
           | true ↦ record { result = Ok (Noop end-marker-ignored); reflector = r }
           | false ↦ elim (eqb message-type «GTPU_MSG_SUPPORTED_EXTENSION_HEADERS_NOTIFICATION») [
             | true ↦ record { result = Ok (Noop supported-extension-headers-notification-ignored); reflector = r }
-            | false ↦ record { result = Err (InvalidPacket error.unsupported-GTP-U-message-type); reflector = count MalformedRejected r }
+            | false ↦ record {
+              result = Err (InvalidPacket error.unsupported-GTP-U-message-type);
+              reflector = count MalformedRejected r;
+            }
           ]
         ]
       ]

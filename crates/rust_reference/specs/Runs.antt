@@ -8,8 +8,8 @@ use Rattle.evidence.specs.declared.PacketContinuityReport.{PacketContinuityRepo
 use Rattle.observer.specs.Observer.{Observer}
 use Rattle.observer.specs.Sending.{recordSent}
 use Rattle.report.specs.Report.{reporting}
-use Rattle.continuity.specs.Returns.{recordReceivedTpdu, recordReturnMessage}
-use Rattle.continuity.specs.declared.GtpuReturnDatagramOutcome.{GtpuReturnDatagramOutcome}
+use Rattle.return_calls.specs.Returns.{recordReceivedTpdu, recordReturnMessage}
+use Rattle.return_calls.specs.declared.GtpuReturnDatagramOutcome.{GtpuReturnDatagramOutcome}
 use Rattle.rust_reference.specs.Number.{outcomeOf}
 use Rattle.rust_reference.specs.Compared.{Compared, ComparedReturn}
 use Rattle.rust_reference.specs.Values.{«u64_max»}
@@ -45,7 +45,8 @@ answering answer (gives x) = gives (answer x)
 abbrev pub answerTo : Observer → Call → Outcome Answer
 answerTo o (sending sequence time) = answering (λ u. done) (recordSent o sequence time .outcome)
 answerTo o (receiving time tpdu) = answering (λ u. done) (recordReceivedTpdu o time tpdu .outcome)
-answerTo o (returning time messageType payload) = answering message (recordReturnMessage o time messageType payload .outcome)
+answerTo o (returning time messageType payload) =
+    answering message (recordReturnMessage o time messageType payload .outcome)
 answerTo o (reporting-on windowStart windowEnd budget) = answering reported (reporting o windowStart windowEnd budget)
 
 abbrev pub afterCall : Observer → Call → Observer
@@ -65,14 +66,18 @@ after o (call ∷ calls) = after (afterCall o call) calls
 -- By the Rust's.
 abbrev pub rustAnswerTo : traffic.ContinuityObserver → Call → Outcome Answer
 rustAnswerTo o (sending sequence time) = gives done
-rustAnswerTo o (receiving time tpdu) = answering (λ u. done) (outcomeOf (traffic.«record_received_tpdu» o time tpdu .result))
-rustAnswerTo o (returning time messageType payload) = answering message (outcomeOf (traffic.«record_return_gtpu_datagram» o time messageType payload .result))
-rustAnswerTo o (reporting-on windowStart windowEnd budget) = gives (reported (reportOf (traffic.report o windowStart windowEnd budget)))
+rustAnswerTo o (receiving time tpdu) =
+    answering (λ u. done) (outcomeOf (traffic.«record_received_tpdu» o time tpdu .result))
+rustAnswerTo o (returning time messageType payload) =
+    answering message (outcomeOf (traffic.«record_return_gtpu_datagram» o time messageType payload .result))
+rustAnswerTo o (reporting-on windowStart windowEnd budget) =
+    gives (reported (reportOf (traffic.report o windowStart windowEnd budget)))
 
 abbrev pub rustAfterCall : traffic.ContinuityObserver → Call → traffic.ContinuityObserver
 rustAfterCall o (sending sequence time) = traffic.«record_sent» o sequence time
 rustAfterCall o (receiving time tpdu) = traffic.«record_received_tpdu» o time tpdu .observer
-rustAfterCall o (returning time messageType payload) = traffic.«record_return_gtpu_datagram» o time messageType payload .observer
+rustAfterCall o (returning time messageType payload) =
+    traffic.«record_return_gtpu_datagram» o time messageType payload .observer
 rustAfterCall o (reporting-on windowStart windowEnd budget) = o
 
 abbrev pub rustAnswersTo : traffic.ContinuityObserver → List Call → List (Outcome Answer)

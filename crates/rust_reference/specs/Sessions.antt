@@ -1,4 +1,4 @@
--- The port's reflector, and the Rust's that holds the same: the `Vec` of sessions is the used rows of the lent slice.
+-- Our reflector, and the Rust's that holds the same: the `Vec` of sessions is the used rows of the lent slice.
 use Prim.Native.Nat.{ℕ, _<_}
 use mathlib.Core.Path.{_≡_}
 use mathlib.Core.List.{List, map, _++_}
@@ -49,9 +49,10 @@ withTable t r = record { sessions = t .sessions; used = t .used; config = r .con
 abbrev pub withState : ReflectorState → Reflector → Reflector
 withState state r = record { sessions = r .sessions; used = r .used; config = r .config; state = state }
 
--- The answer to a message there.
+-- Its answer to a message.
 abbrev pub handling : Reflector → SocketAddr → GtpuMessage → List ℕ → List ℕ → Answer
-handling r source message payload buffer = handleDatagram (r .sessions) (r .used) (r .config) (r .state) source message payload buffer
+handling r source message payload buffer =
+    handleDatagram (r .sessions) (r .used) (r .config) (r .state) source message payload buffer
 
 -- "Fresh: no used row, all counts 0, error sequence 1."
 abbrev pub freshReflector : List ReflectorSession → MultiSessionReflectorConfig → Reflector
@@ -68,7 +69,11 @@ abbrev pub rustAddress : SocketAddr → rust.SocketAddr
 rustAddress a = record { ip = rustIp (a .version) (a .address); port = a .port }
 
 abbrev pub rustSession : ReflectorSession → rust.ReflectorSession
-rustSession s = record { «local_teid» = s .«local_teid»; «peer_teid» = s .«peer_teid»; «peer_addr» = rustAddress (valueOf (s .«peer_addr»)) }
+rustSession s = record {
+  «local_teid» = s .«local_teid»;
+  «peer_teid» = s .«peer_teid»;
+  «peer_addr» = rustAddress (valueOf (s .«peer_addr»));
+}
 
 abbrev pub rustPolicy : ReflectorPolicy → RouteTarget → rust.ReflectorPolicy
 rustPolicy Echo target = rust.Echo
@@ -135,17 +140,20 @@ abbrev pub outcomeTo : {A B : Type 0} → (A → B) → Outcome A → Outcome B
 outcomeTo value (refused n) = refused n
 outcomeTo value (gives x) = gives (value x)
 
--- The output beside the Rust's action: a packet's payload at the front, what lies past it kept. "Route hands on the
--- payload uncopied."
+-- The output beside the Rust's action: the payload of what is sent at the front, and the bytes past it kept. "Route
+-- hands on the payload uncopied."
 abbrev pub inOutput : Result rust.ReflectorAction → List ℕ → List ℕ
 inOutput (Err error) buffer = buffer
 inOutput (Ok (rust.Noop reason)) buffer = buffer
 inOutput (Ok (rust.Send destination packet RoutedGpdu)) buffer = buffer
-inOutput (Ok (rust.Send destination packet ReflectedGpdu)) buffer = packet .payload ++ drop (length (packet .payload)) buffer
-inOutput (Ok (rust.Send destination packet EchoResponse)) buffer = packet .payload ++ drop (length (packet .payload)) buffer
-inOutput (Ok (rust.Send destination packet ErrorIndication)) buffer = packet .payload ++ drop (length (packet .payload)) buffer
+inOutput (Ok (rust.Send destination packet ReflectedGpdu)) buffer =
+    packet .payload ++ drop (length (packet .payload)) buffer
+inOutput (Ok (rust.Send destination packet EchoResponse)) buffer =
+    packet .payload ++ drop (length (packet .payload)) buffer
+inOutput (Ok (rust.Send destination packet ErrorIndication)) buffer =
+    packet .payload ++ drop (length (packet .payload)) buffer
 
--- ---- what the Rust's types, its codec and `new_multi` see to
+-- ---- what the Rust's types and `new_multi` see to
 
 -- There is such a reflector in the Rust: `new_multi` makes one of this configuration.
 abbrev pub IsMade : Reflector → Type 0

@@ -1,5 +1,5 @@
--- The Rust's maps and the port's run sheet: what it is for an observer of the one and one of the other to hold the same
--- ("`BTreeMap` becomes sorted columns", document 01).
+-- The Rust's maps and our run sheet: when two observers hold the same ("`BTreeMap` becomes sorted columns", document
+-- 01).
 use Prim.Native.Nat.{ℕ, _≤_, max}
 use mathlib.Core.Path.{_≡_}
 use mathlib.Core.List.{List, [], _∷_}
@@ -19,7 +19,11 @@ sentOf (r ∷ rs) = record { key = r .sequence; value = r .«send_timestamp_ns»
 -- The map of what was received: an entry for each marked row, its latency.
 abbrev pub receivedOf : List Row → List Entry
 receivedOf [] = []
-receivedOf (r ∷ rs) = elim (eqb (r .mark) 1) [ true ↦ record { key = r .sequence; value = r .latency } ∷ receivedOf rs | false ↦ receivedOf rs ]
+receivedOf (r ∷ rs) =
+    elim (eqb (r .mark) 1) [
+      | true ↦ record { key = r .sequence; value = r .latency } ∷ receivedOf rs
+      | false ↦ receivedOf rs
+    ]
 
 -- The highest key of a map.
 abbrev pub highestKey : List Entry → Option ℕ

@@ -7,8 +7,8 @@ use lib.Dec.{eqb, leb, ltb}
 use lib.ListN.{length}
 use Rattle.evidence.specs.declared.LatencySummary.{LatencySummary}
 use Rattle.evidence.specs.declared.PacketContinuityBudget.{PacketContinuityBudget}
-use Rattle.continuity.specs.declared.GtpuReturnDatagramOutcome.{GtpuReturnDatagramOutcome}
-use Rattle.continuity.specs.declared.GtpuReturnDatagramOutcome.the-variants.{MeasurementTpdu, ErrorIndication, EchoResponse, Ignored}
+use Rattle.return_calls.specs.declared.GtpuReturnDatagramOutcome.{GtpuReturnDatagramOutcome}
+use Rattle.return_calls.specs.declared.GtpuReturnDatagramOutcome.the-variants.{MeasurementTpdu, ErrorIndication, EchoResponse, Ignored}
 use Rattle.plan.specs.declared.TrafficPlan.{TrafficPlan}
 use Rattle.rust_reference.specs.Error as error
 use Rattle.rust_reference.specs.Error.{DataplaneTestkitError, Result, Ok, Err, InvalidPacket, Overflow, TimestampReversed, returnIf, _>>_}
@@ -20,7 +20,7 @@ use Rattle.rust_reference.specs.Gtpu.{«GTPU_MSG_ECHO_RESPONSE», «GTPU
 
 -- ---- the generator
 
--- lines 18 to 25, `TrafficPlan`: the port's struct has the same three fields. Lines 29 to 42:
+-- lines 18 to 25, `TrafficPlan`: our struct has the same three fields. Lines 29 to 42:
 unfoldable pub «interval_ns» : TrafficPlan → Result ℕ
 «interval_ns» plan = do
   returnIf (eqb (plan .«target_rate_pps») 0) (InvalidPacket error.target-rate-must-be-non-zero)
@@ -61,18 +61,22 @@ checked number e = elim (leb number «u64_max») [ true ↦ Ok number | false �
 -- lines 89 to 112: `for offset in 0..plan.packet_count`, the turns that are left from this offset on, with the engine's
 -- next sequence and the packets that were pushed
 unfoldable pub «for_offset» : ℕ → ℕ → InnerIpFlow → TrafficPlan → ℕ → ℕ → List GeneratedPacket → Generated
-«for_offset» zero offset flow plan interval-ns next-sequence packets = record { result = Ok packets; «next_sequence» = next-sequence }
+«for_offset» zero offset flow plan interval-ns next-sequence packets = record {
+  result = Ok packets;
+  «next_sequence» = next-sequence;
+}
 «for_offset» (suc turns) offset flow plan interval-ns next-sequence packets =
     let sequence : ℕ = next-sequence in
     attempted (checked (next-sequence + 1) (Overflow error.sequence)) next-sequence λ next-sequence.
     attempted (checked (offset * interval-ns) (Overflow error.«send_timestamp_ns»)) next-sequence λ offset-ns.
-    attempted (checked (plan .«first_send_timestamp_ns» + offset-ns) (Overflow error.«send_timestamp_ns»)) next-sequence λ send-timestamp-ns.
+    attempted (checked (plan .«first_send_timestamp_ns» + offset-ns) (Overflow error.«send_timestamp_ns»))
+    next-sequence λ send-timestamp-ns.
     attempted («build_measurement_tpdu» flow sequence send-timestamp-ns) next-sequence λ tpdu.
     «for_offset» turns (suc offset) flow plan interval-ns next-sequence
     (packets ++ record { sequence = sequence; «send_timestamp_ns» = send-timestamp-ns; tpdu = tpdu } ∷ [])
 
--- lines 78 to 114. `usize::try_from(plan.packet_count)` does not fail where a `usize` has 64 bits, and only reserves
--- room.
+-- lines 78 to 114. `usize::try_from(plan.packet_count)` only reserves room, and does not fail where a `usize` has 64
+-- bits.
 unfoldable pub generate : ℕ → InnerIpFlow → TrafficPlan → Generated
 generate next-sequence flow plan =
     attempted («interval_ns» plan) next-sequence λ interval-ns.
@@ -151,14 +155,17 @@ unfoldable pub «first_return» : ContinuityObserver → ℕ → ℕ → Continu
     | false ↦ o .«out_of_order_packets»
   ];
   «gtpu_error_indications» = o .«gtpu_error_indications»;
-  «highest_received_sequence» = Some («map_or» (o .«highest_received_sequence») sequence (λ highest. max highest sequence));
+  «highest_received_sequence» =
+      Some («map_or» (o .«highest_received_sequence») sequence (λ highest. max highest sequence));
 }
 
 -- lines 169 to 203
 unfoldable pub «record_received_tpdu» : ContinuityObserver → ℕ → List ℕ → Recorded (Unit {0})
 «record_received_tpdu» o return-timestamp-ns tpdu =
     tried («decode_measurement_tpdu» tpdu) o λ decoded.
-    tried («ok_or» (get (decoded .measurement .sequence) (o .sent)) (InvalidPacket error.received-sequence-was-not-sent)) o λ send-timestamp-ns.
+    tried
+    («ok_or» (get (decoded .measurement .sequence) (o .sent)) (InvalidPacket error.received-sequence-was-not-sent))
+    o λ send-timestamp-ns.
     tried («ok_or» («checked_sub» return-timestamp-ns send-timestamp-ns) TimestampReversed) o λ latency-ns.
     elim («contains_key» (decoded .measurement .sequence) (o .received)) [
       | true ↦ record { result = Ok tt; observer = duplicate o }
@@ -182,15 +189,22 @@ unfoldable pub «record_return_gtpu_datagram» : ContinuityObserver → ℕ → 
     elim (eqb message-type «GTPU_MSG_GPDU») [
       | true ↦
           let recorded : Recorded (Unit {0}) = «record_received_tpdu» o return-timestamp-ns payload in
-          tried (recorded .result) (recorded .observer) λ u. record { result = Ok MeasurementTpdu; observer = recorded .observer }
+          tried (recorded .result) (recorded .observer) λ u.
+          record { result = Ok MeasurementTpdu; observer = recorded .observer }
       | false ↦ elim (eqb message-type «GTPU_MSG_ERROR_INDICATION») [
-        | true ↦ tried («validate_error_indication_ies» payload) o λ u. record { result = Ok ErrorIndication; observer = «error_indication» o }
+        | true ↦
+            tried («validate_error_indication_ies» payload) o λ u.
+            record { result = Ok ErrorIndication; observer = «error_indication» o }
         | false ↦ elim (eqb message-type «GTPU_MSG_ECHO_RESPONSE») [
           | true ↦ record { result = Ok EchoResponse; observer = o }
-          | false ↦ elim (eqb message-type «GTPU_MSG_END_MARKER» || eqb message-type «GTPU_MSG_SUPPORTED_EXTENSION_HEADERS_NOTIFICATION») [
-            | true ↦ record { result = Ok (Ignored message-type); observer = o }
-            | false ↦ record { result = Err (InvalidPacket error.unsupported-GTP-U-return-message-type); observer = o }
-          ]
+          | false ↦ elim (eqb message-type «GTPU_MSG_END_MARKER»
+              || eqb message-type «GTPU_MSG_SUPPORTED_EXTENSION_HEADERS_NOTIFICATION») [
+                | true ↦ record { result = Ok (Ignored message-type); observer = o }
+                | false ↦ record {
+                  result = Err (InvalidPacket error.unsupported-GTP-U-return-message-type);
+                  observer = o;
+                }
+              ]
         ]
       ]
     ]
@@ -199,9 +213,14 @@ unfoldable pub «record_return_gtpu_datagram» : ContinuityObserver → ℕ → 
 
 -- lines 284 to 295: `for latency in values`, with what the loop carries
 unfoldable pub «for_latency» : List ℕ → ℕ → ℕ → ℕ → ℕ → LatencySummary
-«for_latency» [] min-ns max-ns sum count = record { «min_ns» = min-ns; «max_ns» = max-ns; «avg_ns» = sum / count % 18446744073709551616 }
+«for_latency» [] min-ns max-ns sum count = record {
+  «min_ns» = min-ns;
+  «max_ns» = max-ns;
+  «avg_ns» = sum / count % 18446744073709551616;
+}
 «for_latency» (latency ∷ latencies) min-ns max-ns sum count =
-    «for_latency» latencies (min min-ns latency) (max max-ns latency) («saturating_add_u128» sum latency) («saturating_add_u128» count 1)
+    «for_latency» latencies (min min-ns latency) (max max-ns latency)
+    («saturating_add_u128» sum latency) («saturating_add_u128» count 1)
 
 -- lines 272 to 296, of `self.received.values()`
 unfoldable pub «latency_summary» : List ℕ → Option LatencySummary
@@ -217,14 +236,19 @@ pub record GapSummary : Type 0 where
 unfoldable pub «for_sent» : List Entry → List ℕ → ℕ → ℕ → ℕ → ℕ → ℕ → GapSummary
 «for_sent» [] received window-end-ns current-count current-start-ts max-count max-duration =
     elim (ltb 0 current-count) [
-      | true ↦ record { max-count = max max-count current-count; max-duration = max max-duration (window-end-ns - current-start-ts) }
+      | true ↦ record {
+        max-count = max max-count current-count;
+        max-duration = max max-duration (window-end-ns - current-start-ts);
+      }
       | false ↦ record { max-count = max-count; max-duration = max-duration }
     ]
 «for_sent» (e ∷ sent) received window-end-ns current-count current-start-ts max-count max-duration =
     elim (contains (e .key) received) [
       | true ↦
           elim (ltb 0 current-count) [
-            | true ↦ «for_sent» sent received window-end-ns 0 current-start-ts (max max-count current-count) (max max-duration (e .value - current-start-ts))
+            | true ↦
+                «for_sent» sent received window-end-ns 0 current-start-ts
+                (max max-count current-count) (max max-duration (e .value - current-start-ts))
             | false ↦ «for_sent» sent received window-end-ns current-count current-start-ts max-count max-duration
           ]
       | false ↦

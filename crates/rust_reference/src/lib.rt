@@ -1,6 +1,6 @@
-// The Rust itself as definitions (specs/: a file for each of its files, each definition in the shape of the function
-// that it names), and demand 2's "the results equal the Rust's" as theorems about them. That the definitions are the
-// Rust is read side by side, and run: compare/.
+// The Rust itself as definitions (specs/: a file for each of its files, each function in its own shape), and demand 2's
+// "the results equal the Rust's" as theorems about them. That the definitions are the Rust is read side by side, and
+// run: compare/.
 ghost use Rattle.rust_reference.specs.Claims.{EqualsTheRust};
 
 // Carries demand 2: where no added refusal is due, the results equal the Rust's.

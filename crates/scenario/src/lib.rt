@@ -1,5 +1,5 @@
-// A plan, a budget and what the path does to the probes: a table that has for each word of the rehearsal its number, or the first and the last
-// probe of its window.
+// A plan, a budget and what the path does to the probes: a table that has for each word of the rehearsal its number, or
+// the first and the last probe of its window.
 
 // The words, as rows of the table. First those with a number.
 pub const IP: usize = 0;
@@ -64,8 +64,8 @@ pub const CSV: u64 = 2;
 // The most probes that a plan may have.
 pub const MOST_PROBES: u64 = 2048;
 
-// In the first half of the table stand the numbers and the first probes of windows, in the second the last probes, and 1 for a number that
-// was given. Probes are numbered from 1: a window that was not given is 0 to 0.
+// In the first half of the table stand the numbers and the first probes of windows, in the second the last probes, and
+// 1 for a number that was given. Probes are numbered from 1: a window that was not given is 0 to 0.
 pub type Scenario = [u64; 48];
 
 // The number of a word, or the first probe of its window.
@@ -105,7 +105,8 @@ pub fn quiet() -> Scenario {
     s
 }
 
-// The cutover that is run without words: eight probes are lost while the path changes, and the new path does not settle at once.
+// The cutover that is run without words: eight probes are lost while the path changes, and the new path does not settle
+// at once.
 pub fn default_cutover() -> Scenario {
     let mut s = quiet();
     set(&mut s, LOSE, 41, 48);

@@ -1,4 +1,4 @@
-// The one line that words get which are not accepted: at most 80 columns.
+// The one line printed for words that are not accepted: at most 80 columns.
 use scenario::Scenario;
 use scenario_words::Judged;
 
@@ -44,14 +44,22 @@ fn print_twice(word: usize) {
 
 // A window in the wrong place, as it was given, and why it is not accepted.
 fn print_misplaced(word: &[u8], why: &[u8]) {
-    text::print_word(word, 40);
+    text::print_word(word, 32);
     text::print(why);
+}
+
+// A window, of which only the end where the whole would be too long for its line.
+fn print_window(first: u64, last: u64) {
+    if first < last && 9_999_999 < last {
+        return text::print_count(b"..", last);
+    }
+    word_names::print_probes(first, last)
 }
 
 fn print_past_count(s: &Scenario, word: usize) {
     word_names::print_name(word);
     text::print(b"=");
-    word_names::print_probes(scenario::first(s, word), scenario::last(s, word));
+    print_window(scenario::first(s, word), scenario::last(s, word));
     text::print_count(b" is past the count, ", scenario::first(s, scenario::COUNT));
 }
 
@@ -66,6 +74,7 @@ fn print_reason(s: &Scenario, j: Judged, word: &[u8]) {
         scenario_words::BAD_WINDOW => print_bad_window(j.word, text::after(word, b'=')),
         scenario_words::BACKWARD_WINDOW => print_misplaced(word, b" ends before it starts"),
         scenario_words::WINDOW_FROM_ZERO => print_misplaced(word, b": the first probe is 1"),
+        scenario_words::NO_LOSS => text::print(b"latency-after-us needs lose"),
         _ => print_past_count(s, j.word),
     }
 }

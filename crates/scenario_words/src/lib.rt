@@ -1,4 +1,5 @@
-// A scenario read from words, each `name=value`: every word is taken, or the first that is not accepted is told with the reason.
+// A scenario read from words, each `name=value`: every word is taken, or the first that is not accepted is told with
+// the reason.
 use scenario::Scenario;
 
 fn format_named(value: &[u8]) -> u64 {
@@ -50,6 +51,8 @@ pub const BACKWARD_WINDOW: u8 = 6;
 pub const WINDOW_FROM_ZERO: u8 = 7;
 
 pub const WINDOW_PAST_COUNT: u8 = 8;
+
+pub const NO_LOSS: u8 = 9;
 
 // What became of words: accepted, or the first reason and its row.
 pub struct Judged {
@@ -134,10 +137,10 @@ fn placed(j: Judged, at: usize, length: usize) -> Judged {
     }
 }
 
-// Takes every word; a separator ends each. The first that is not accepted ends it.
+// Takes every word; a separator stands between two. The first that is not accepted ends it.
 fn take_each(s: &mut Scenario, words: &[u8], separator: u8) -> Judged {
     let mut at = 0;
-    while at < words.len() {
+    while at <= words.len() {
         let end = text::find_from(words, at, separator);
         let taken = take_word(s, text::part(words, at, end - at));
         if taken.reason != ACCEPTED {
@@ -163,11 +166,20 @@ fn past_count(s: &Scenario) -> Judged {
     answer(ACCEPTED, scenario::WORDS)
 }
 
-// Takes every word into a scenario. Windows are held to the count last, since it may be given after them.
+// Whether a latency after the loss is given, and no loss.
+fn misses_loss(s: &Scenario) -> bool {
+    scenario::last(s, scenario::LATENCY_AFTER_US) > 0 && scenario::last(s, scenario::LOSE) == 0
+}
+
+// Takes every word into a scenario, one at least: no bytes are an empty word. What two words say together is judged
+// last, since either may be given first.
 pub fn take_words(s: &mut Scenario, words: &[u8], separator: u8) -> Judged {
     let taken = take_each(s, words, separator);
     if taken.reason != ACCEPTED {
         return taken;
+    }
+    if misses_loss(s) {
+        return answer(NO_LOSS, scenario::LATENCY_AFTER_US);
     }
     past_count(s)
 }

@@ -26,7 +26,7 @@ use Rattle.sent_plan.specs.SendingPlan.{sendInTurn, rowsNeeded, freeRows}
 use Rattle.observer.proofs.Calls.{judged-malformed, judged-well, refusing-malformed, return-malformed, sent-malformed, sent-again, sent-full, sent-new}
 use Rattle.sent_plan.proofs.SendingPlan.{one-refused, entering-whole, plan-judged}
 use Rattle.sent_plan.proofs.PlanClaims.{all-or-nothing}
-use Rattle.continuity.specs.Returns.{sequenceRead, recordReceivedTpdu}
+use Rattle.return_calls.specs.Returns.{sequenceRead, recordReceivedTpdu}
 use Rattle.received_tpdus.specs.Received.{Received, tpdusOf, receivedOf, recordReceived, returnsIn, recordReceivedTpdus}
 use Rattle.tally.specs.Demand.{sendAll, NoneRefused, receiveAll}
 use Rattle.tally.specs.Batches.{PlanEntered, handedTpdu, ReturnsTaken, Batches}

@@ -24,7 +24,7 @@ use Rattle.observer.specs.Sending.{entered, sendingCauses, recordSent}
 use Rattle.observer.specs.Returning.{returnCauses, afterReturn, recordReturn}
 use Rattle.rows.specs.Columns.{columnsOf}
 use Rattle.observer.specs.Answer.{observerOf}
-use Rattle.continuity.specs.Returns.{sequenceRead, recordReceivedTpdu}
+use Rattle.return_calls.specs.Returns.{sequenceRead, recordReceivedTpdu}
 use Rattle.report.specs.Report.{reportOf, reporting}
 use Rattle.tally.specs.Cases.{Figure, number, figures, ipv4Flow, sends, freshObserver, sentFive, returns, longest, EightCases}
 use Rattle.measurement_damage.proofs.Claims.{reads-back-alone}

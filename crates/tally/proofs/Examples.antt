@@ -33,9 +33,9 @@ use Rattle.observer.specs.Sending as sending
 use Rattle.observer.specs.Sending.{sendingCauses, recordSent}
 use Rattle.observer.specs.Returning as returning
 use Rattle.observer.specs.Returning.{returnCauses, recordReturn}
-use Rattle.continuity.specs.Kinds.{messageKind}
-use Rattle.continuity.specs.Returns.{sequenceRead, recordReceivedTpdu, recordReturnMessage, asMessage}
-use Rattle.continuity.specs.declared.GtpuReturnDatagramOutcome.the-variants.{MeasurementTpdu}
+use Rattle.return_calls.specs.Kinds.{messageKind}
+use Rattle.return_calls.specs.Returns.{sequenceRead, recordReceivedTpdu, recordReturnMessage, asMessage}
+use Rattle.return_calls.specs.declared.GtpuReturnDatagramOutcome.the-variants.{MeasurementTpdu}
 use Rattle.tally.specs.Tally.{isRefused}
 use Rattle.tally.specs.Demand.{Accepted, sendAll, Takes, Call, tpduCall, messageCall, someLegTurned, bytesGiven, receive}
 use Rattle.tally.specs.Cases.{ipv4Flow, ipv6Flow}

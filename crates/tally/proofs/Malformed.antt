@@ -11,10 +11,10 @@ use Rattle.observer.specs.Returning.{recordReturn, recordErrorIndication}
 use Rattle.observer.proofs.Calls.{judged-malformed, sent-malformed, return-malformed, indication-malformed, refusing-malformed}
 use Rattle.sent_plan.specs.SendingPlan.{recordSentPlan}
 use Rattle.gtpu.specs.Element.{elementsOf}
-use Rattle.continuity.specs.Kinds.{messageKind}
-use Rattle.continuity.specs.Returns.{sequenceRead, recordReceivedTpdu, MessageStep, asMessage, unchanged, recordKind, recordReturnMessage}
-use Rattle.continuity.specs.declared.GtpuReturnDatagramOutcome.{GtpuReturnDatagramOutcome}
-use Rattle.continuity.specs.declared.GtpuReturnDatagramOutcome.the-variants.{MeasurementTpdu, ErrorIndication, EchoResponse, Ignored}
+use Rattle.return_calls.specs.Kinds.{messageKind}
+use Rattle.return_calls.specs.Returns.{sequenceRead, recordReceivedTpdu, MessageStep, asMessage, unchanged, recordKind, recordReturnMessage}
+use Rattle.return_calls.specs.declared.GtpuReturnDatagramOutcome.{GtpuReturnDatagramOutcome}
+use Rattle.return_calls.specs.declared.GtpuReturnDatagramOutcome.the-variants.{MeasurementTpdu, ErrorIndication, EchoResponse, Ignored}
 use Rattle.received_tpdus.proofs.Received.{received-malformed}
 use Rattle.report.specs.Report.{reporting}
 use Rattle.tally.specs.Malformed.{MalformedFirst}

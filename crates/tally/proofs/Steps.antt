@@ -21,9 +21,9 @@ use Rattle.observer.specs.declared.ObserverCounts.{ObserverCounts}
 use Rattle.observer.proofs.Rows.{rows-with}
 use Rattle.observer.proofs.Calls.{judged-malformed, judged-well, refusing-well, return-early, return-duplicate, return-first}
 use Rattle.observer.proofs.Claims.{calls-keep-well, search-finds}
-use Rattle.continuity.specs.Kinds.{messageKind}
-use Rattle.continuity.specs.Returns.{sequenceRead, recordReceivedTpdu, recordReturnMessage}
-use Rattle.continuity.specs.declared.GtpuReturnDatagramOutcome.the-variants.{MeasurementTpdu}
+use Rattle.return_calls.specs.Kinds.{messageKind}
+use Rattle.return_calls.specs.Returns.{sequenceRead, recordReceivedTpdu, recordReturnMessage}
+use Rattle.return_calls.specs.declared.GtpuReturnDatagramOutcome.the-variants.{MeasurementTpdu}
 use Rattle.tally.specs.Tally.{Tally, Fed, isRefused, rowOfPacket, higherMarked, marked, counted, tallyReturn}
 use Rattle.tally.specs.Demand.{Call, tpduCall, messageCall, Taken, takenBy}
 use Rattle.tally.proofs.Rows.{Consecutive, sequence-is, consecutive-set, higher-is}

@@ -24,12 +24,16 @@ use Rattle.tally.specs.Demand.{Accepted, packet, sendAll, Takes, Call, t
 
 -- A plan that breaks no rule of leaf 5 is accepted, for every flow.
 abbrev pub PlansAccepted : Type 0
-PlansAccepted = (flow : InnerIpFlow) (plan : TrafficPlan) (next : ℕ) → InRange flow next (plan .«first_send_timestamp_ns») → Acceptable plan next
+PlansAccepted =
+    (flow : InnerIpFlow) (plan : TrafficPlan) (next : ℕ)
+    → InRange flow next (plan .«first_send_timestamp_ns») → Acceptable plan next
     → Accepted flow plan next
 
 -- What is sent is what the generator wrote: packet k at its place in the buffer, "packets lie end to end".
 abbrev pub PacketsGenerated : Type 0
-PacketsGenerated = (flow : InnerIpFlow) (plan : TrafficPlan) (next : ℕ) (accepted : Accepted flow plan next) (k : ℕ) → k < plan .«packet_count»
+PacketsGenerated =
+    (flow : InnerIpFlow) (plan : TrafficPlan) (next : ℕ) (accepted : Accepted flow plan next)
+    → (k : ℕ) → k < plan .«packet_count»
     → (let size : ℕ = ipHeaderLength (flow .version) + 32 in
     take size (drop (k * size) (generateOf flow plan next (accepted .buffer) .buffer)) ≡ packet flow plan next k)
 
@@ -56,7 +60,9 @@ pub record Undamaged (flow : InnerIpFlow) (plan : TrafficPlan) (next k n time : 
   pub not-at-the-end : damagedAtTheEnd return ≡ false
 
 abbrev pub UndamagedComes : Type 0
-UndamagedComes = (flow : InnerIpFlow) (plan : TrafficPlan) (next : ℕ) → Accepted flow plan next → (k n time : ℕ) → k < plan .«packet_count» → (call : Call)
+UndamagedComes =
+    (flow : InnerIpFlow) (plan : TrafficPlan) (next : ℕ) → Accepted flow plan next
+    → (k n time : ℕ) → k < plan .«packet_count» → (call : Call)
     → Undamaged flow plan next k n time call
 
 -- ---- examples: a plan of one packet, that of document 01's case 1 or 3 by its flow
@@ -79,8 +85,8 @@ pub record Fate : Type 0 where
   pub at-the-end : Bool
   pub refused : Bool
 
--- The packet comes back by this call, with these numbers in a field of it at the end of each leg: there is one echo
--- less than there are numbers.
+-- The packet comes back by this call. At the end of each leg a field of it has these numbers: one for each leg, and so
+-- one more than there are echoes.
 pub record Comes (flow : InnerIpFlow) (call : Call) (part : List ℕ → ℕ) (found : List ℕ) (fate : Fate) : Type 0 where
   pub accepted : Accepted flow examplePlan 1
   pub takes : Takes examplePlan 1 exampleObserver
@@ -106,13 +112,13 @@ pub record Attained : Type 0 where
   pub packets-generated : PacketsGenerated
   pub room-takes : RoomTakes
   pub undamaged-comes : UndamagedComes
-  -- A bit of the send time turned is found.
+  -- A turned bit of the send time is found.
   pub damage-refused : Comes ipv6Flow tpduCall sendTime (1 ∷ [])
       (record { on-a-leg = true; at-the-end = true; refused = true })
-  -- The hop limit, sent as 64, is under no checksum: a bit of it turned is not found.
+  -- The hop limit, sent as 64, is under no checksum: a turned bit of it is not found.
   pub damage-accepted : Comes ipv6Flow tpduCall hopLimit (65 ∷ [])
       (record { on-a-leg = true; at-the-end = true; refused = false })
-  -- Turned before an echo it is mended there: the two readings of "damaged" differ.
+  -- Turned before an echo, it is mended there: the two readings of "damaged" differ.
   pub damage-mended : Comes ipv6Flow tpduCall hopLimit (65 ∷ 64 ∷ [])
       (record { on-a-leg = true; at-the-end = false; refused = false })
   -- "An IPv4 UDP checksum field of 0 is not verified": case 1's 0xB1D8, whose 16 bits are not all equal, turned to 0.

@@ -22,7 +22,7 @@ use Rattle.observer.specs.Observer.{Observer}
 use Rattle.observer.specs.Sending.{recordSent}
 use Rattle.tally.specs.Tally.{eachColumn}
 use Rattle.observer.specs.Answer.{observerOf}
-use Rattle.continuity.specs.Returns.{recordReceivedTpdu}
+use Rattle.return_calls.specs.Returns.{recordReceivedTpdu}
 use Rattle.report.specs.Report.{reporting}
 
 -- What a case is about: numbers, verdicts, latencies.
@@ -101,20 +101,49 @@ table windowStart windowEnd =
       computed = gives (ipv4HeaderChecksum (buildOf ipv4Flow 1 0) ∷ ipv4UdpChecksum (buildOf ipv4Flow 1 0) ∷ []);
       expected = gives (number 0x66b7 ∷ number 0xb1d8 ∷ []);
     }
-    ∷ record { case = 2; computed = gives (ipv4UdpChecksum (buildOf ipv4Flow 1 45528) ∷ []); expected = gives (number 0xffff ∷ []) }
-    ∷ record { case = 3; computed = gives (ipv6UdpChecksum (buildOf ipv6Flow 1 0) ∷ []); expected = gives (number 0xc5d8 ∷ []) }
+    ∷ record {
+      case = 2;
+      computed = gives (ipv4UdpChecksum (buildOf ipv4Flow 1 45528) ∷ []);
+      expected = gives (number 0xffff ∷ []);
+    }
+    ∷ record {
+      case = 3;
+      computed = gives (ipv6UdpChecksum (buildOf ipv6Flow 1 0) ∷ []);
+      expected = gives (number 0xc5d8 ∷ []);
+    }
     -- "its echo has the same"
-    ∷ record { case = 3; computed = figures (λ echo. ipv6UdpChecksum echo ∷ []) (echoOf (buildOf ipv6Flow 1 0)); expected = gives (number 0xc5d8 ∷ []) }
-    ∷ record { case = 4; computed = figures (λ i. number i ∷ []) (intervalOf 1000000000); expected = gives (number 1 ∷ []) }
+    ∷ record {
+      case = 3;
+      computed = figures (λ echo. ipv6UdpChecksum echo ∷ []) (echoOf (buildOf ipv6Flow 1 0));
+      expected = gives (number 0xc5d8 ∷ []);
+    }
+    ∷ record {
+      case = 4;
+      computed = figures (λ i. number i ∷ []) (intervalOf 1000000000);
+      expected = gives (number 1 ∷ []);
+    }
     ∷ record { case = 4; computed = figures (λ i. number i ∷ []) (intervalOf 1000000001); expected = refused 17 }
-    ∷ record { case = 4; computed = figures (λ i. number i ∷ []) (intervalOf 3); expected = gives (number 333333333 ∷ []) }
+    ∷ record {
+      case = 4;
+      computed = figures (λ i. number i ∷ []) (intervalOf 3);
+      expected = gives (number 333333333 ∷ []);
+    }
     ∷ record {
       case = 5;
-      computed = figures longest (reporting (returns (returns sentFive 2 10 50) 5 40 60) windowStart windowEnd zeroLoss);
+      computed = figures longest
+          (reporting (returns (returns sentFive 2 10 50) 5 40 60) windowStart windowEnd zeroLoss);
       expected = gives (number 2 ∷ number 20 ∷ []);
     }
-    ∷ record { case = 6; computed = figures longest (reporting (returns sentFive 2 10 50) windowStart 100 zeroLoss); expected = gives (number 3 ∷ number 80 ∷ []) }
-    ∷ record { case = 6; computed = figures longest (reporting (returns sentFive 2 10 50) windowStart 15 zeroLoss); expected = gives (number 3 ∷ number 10 ∷ []) }
+    ∷ record {
+      case = 6;
+      computed = figures longest (reporting (returns sentFive 2 10 50) windowStart 100 zeroLoss);
+      expected = gives (number 3 ∷ number 80 ∷ []);
+    }
+    ∷ record {
+      case = 6;
+      computed = figures longest (reporting (returns sentFive 2 10 50) windowStart 15 zeroLoss);
+      expected = gives (number 3 ∷ number 10 ∷ []);
+    }
     ∷ record {
       case = 7;
       computed = figures verdicts (reporting freshObserver windowStart windowEnd zeroLoss);

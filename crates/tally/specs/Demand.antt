@@ -17,9 +17,10 @@ use Rattle.traffic.specs.Generate.{generateOf}
 use Rattle.plan.specs.declared.TrafficPlan.{TrafficPlan}
 use Rattle.gtpu.specs.Message.{gtpuMsgGpdu}
 use Rattle.observer.specs.Counts.{fresh}
+use Rattle.observer.specs.Judge.{Step}
 use Rattle.observer.specs.Observer.{Observer, rows}
 use Rattle.observer.specs.Sending.{recordSent}
-use Rattle.continuity.specs.Returns.{recordReceivedTpdu, recordReturnMessage}
+use Rattle.return_calls.specs.Returns.{recordReceivedTpdu, MessageStep, recordReturnMessage}
 use Rattle.report.specs.Report.{reporting}
 use Rattle.tally.specs.Tally.{Tally, tallyOf, Fed, isRefused, tallyReturns, countsOf, tallyReport}
 
@@ -74,9 +75,10 @@ pub record Taken : Type 0 where
 
 abbrev pub takenBy : Call → Observer → ℕ → List ℕ → Taken
 takenBy tpduCall o time tpdu =
-    record { refuses = isRefused (recordReceivedTpdu o time tpdu .outcome); observer = recordReceivedTpdu o time tpdu .observer }
+    let s : Step = recordReceivedTpdu o time tpdu in record { refuses = isRefused (s .outcome); observer = s .observer }
 takenBy messageCall o time tpdu =
-    record { refuses = isRefused (recordReturnMessage o time gtpuMsgGpdu tpdu .outcome); observer = recordReturnMessage o time gtpuMsgGpdu tpdu .observer }
+    let s : MessageStep = recordReturnMessage o time gtpuMsgGpdu tpdu in
+    record { refuses = isRefused (s .outcome); observer = s .observer }
 
 abbrev pub receive : Observer → Handed → Taken
 receive o h = takenBy (h .call) o (h .time) (h .tpdu)
@@ -101,7 +103,8 @@ pub record Return (flow : InnerIpFlow) (plan : TrafficPlan) (next : ℕ) : Type 
 -- some bit was turned on some leg
 abbrev pub someLegTurned : {sent arrived : List ℕ} {n : ℕ} → Travelled sent n arrived → Bool
 someLegTurned (arrives {sent = sent} {arrived = arrived} turned) = not (sameBytes arrived sent)
-someLegTurned (echoes {sent = sent} {at-echo = at-echo} turned echoed onward) = not (sameBytes at-echo sent) || someLegTurned onward
+someLegTurned (echoes {sent =
+    sent} {at-echo = at-echo} turned echoed onward) = not (sameBytes at-echo sent) || someLegTurned onward
 
 -- the bytes of an echo that is not refused
 abbrev pub bytesGiven : Outcome (List ℕ) → List ℕ
@@ -130,8 +133,7 @@ module _ {flow : InnerIpFlow} {plan : TrafficPlan} {next : ℕ} where
   damagedAtTheEnd r = not (sameBytes (r .arrived) (wholeBytes r))
 
   -- The second list: "the same returns at the same times, each damaged one left out if refused, else made whole".
-  -- Whether a return is refused is what the call answers at that point of the first run, whose observer is carried
-  -- along.
+  -- Whether a return is refused is asked of the call at that point of the first run, whose observer is carried along.
   abbrev pub secondList : (Return flow plan next → Bool) → Observer → List (Return flow plan next) → List Handed
   secondList damaged o [] = []
   secondList damaged o (r ∷ rs) =
@@ -152,7 +154,8 @@ module _ {flow : InnerIpFlow} {plan : TrafficPlan} {next : ℕ} where
   -- left out if refused, else made whole"
   abbrev pub secondRun : (Return flow plan next → Bool) → Observer → Observer → List (Return flow plan next) → Observer
   secondRun damaged first second returns =
-      receiveAll (sendAll second (packetsOf plan next)) (secondList damaged (sendAll first (packetsOf plan next)) returns)
+      receiveAll (sendAll second (packetsOf plan next))
+      (secondList damaged (sendAll first (packetsOf plan next)) returns)
 
   -- the tally, fed the packets and then the returns
   abbrev pub tallyRun : List (Return flow plan next) → Tally
@@ -168,8 +171,9 @@ pub record IsTally (o : Observer) (a : Tally) : Type 0 where
   pub report : (windowStart windowEnd : ℕ) (budget : PacketContinuityBudget)
       → reporting o windowStart windowEnd budget ≡ gives (tallyReport a windowStart windowEnd budget)
 
--- Both observers, which need not be alike: whatever their columns held, and however long these are.
-pub record Run {flow : InnerIpFlow} {plan : TrafficPlan} {next : ℕ} (first second : Observer) (returns : List (Return flow plan next)) : Type 0 where
+-- Both observers, which need not be alike: their columns may hold anything and have any lengths.
+pub record Run {flow : InnerIpFlow} {plan : TrafficPlan} {next : ℕ} (first second : Observer)
+    (returns : List (Return flow plan next)) : Type 0 where
   pub tally : IsTally (firstRun first returns) (tallyRun returns)
   pub whole : IsTally (secondRun damagedOnALeg first second returns) (tallyRun returns)
   pub whole-at-the-end : IsTally (secondRun damagedAtTheEnd first second returns) (tallyRun returns)
@@ -179,5 +183,6 @@ pub record Demand3 : Type 0 where
   pub one-leg : DamageFound
   -- the second and the third: "for every accepted plan, all entered on a fresh sheet, and every list of returns after
   -- that"
-  pub all-returns : (flow : InnerIpFlow) (plan : TrafficPlan) (next : ℕ) → Accepted flow plan next → (first second : Observer)
-      → Takes plan next first → Takes plan next second → (returns : List (Return flow plan next)) → Run first second returns
+  pub all-returns : (flow : InnerIpFlow) (plan : TrafficPlan) (next : ℕ) → Accepted flow plan next
+      → (first second : Observer) → Takes plan next first → Takes plan next second
+      → (returns : List (Return flow plan next)) → Run first second returns

@@ -12,7 +12,7 @@ use Rattle.observer.specs.Judge.{wellFormed}
 use Rattle.observer.specs.Observer.{Observer}
 use Rattle.observer.specs.Sending.{recordSent}
 use Rattle.sent_plan.specs.SendingPlan.{recordSentPlan}
-use Rattle.continuity.specs.Returns.{recordReceivedTpdu, recordReturnMessage}
+use Rattle.return_calls.specs.Returns.{recordReceivedTpdu, recordReturnMessage}
 use Rattle.received_tpdus.specs.Received.{recordReceivedTpdus}
 use Rattle.report.specs.Report.{reporting}
 

@@ -60,11 +60,19 @@ marked time r = rowOfFields (r .sequence) (r .«send_timestamp_ns») (time - r .
 unfoldable pub counted : Tally → ℕ → ℕ → Row → Tally
 counted a k time r =
     elim (eqb (r .mark) 1) [
-      | true ↦ record { rows = a .rows; duplicates = oneMore (a .duplicates); outOfOrder = a .outOfOrder; errorIndications = a .errorIndications }
+      | true ↦ record {
+        rows = a .rows;
+        duplicates = oneMore (a .duplicates);
+        outOfOrder = a .outOfOrder;
+        errorIndications = a .errorIndications;
+      }
       | false ↦ record {
         rows = set (a .rows) k (marked time r);
         duplicates = a .duplicates;
-        outOfOrder = elim (higherMarked (r .sequence) (a .rows)) [ true ↦ oneMore (a .outOfOrder) | false ↦ a .outOfOrder ];
+        outOfOrder = elim (higherMarked (r .sequence) (a .rows)) [
+          | true ↦ oneMore (a .outOfOrder)
+          | false ↦ a .outOfOrder
+        ];
         errorIndications = a .errorIndications;
       }
     ]

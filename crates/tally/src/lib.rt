@@ -5,6 +5,7 @@ ghost use Rattle.tally.specs.Attained.{Attained};
 ghost use Rattle.tally.specs.Cases.{EightCases};
 ghost use Rattle.tally.specs.Batches.{Batches};
 ghost use Rattle.tally.specs.Malformed.{MalformedFirst};
+ghost use Rattle.tally.specs.Generated.{PacketsReadBack};
 
 // Demand 3, whole.
 pub fn demand_3()
@@ -29,4 +30,9 @@ pub fn batch_calls_are_single_calls()
 // On a malformed sheet every call refuses by 21 and leaves all as it was.
 pub fn malformed_sheet_is_refused()
     ensures { λ _. ⌜ MalformedFirst ⌝ }
+{}
+
+// Each packet that a plan generates reads back, at its place, to its flow, sequence and time.
+pub fn every_packet_reads_back()
+    ensures { λ _. ⌜ PacketsReadBack ⌝ }
 {}

@@ -1,7 +1,9 @@
 -- The reflector's answers in numbers, from the case of each answer's enum.
 use Prim.Native.Nat.{ℕ}
-use mathlib.Core.Path.{_≡_, sym, ap, _∙_}
+use mathlib.Core.Path.{_≡_, sym, ap, _∙_, subst}
 use mathlib.Core.List.{List}
+use mathlib.Core.Option.{Option}
+use Rattle.gtpu.specs.declared.GtpuMessage.{GtpuMessage}
 use Rattle.reflector_sessions.specs.Register.{Registering, Registers, registrationMeans}
 use Rattle.reflector_sessions.specs.Remove.{Removing, Removes, removalMeans}
 use Rattle.reflector_sessions.specs.declared.ReflectorSession.{ReflectorSession}
@@ -10,8 +12,11 @@ use Rattle.reflector_sessions.specs.declared.Registration.{Registration}
 use Rattle.reflector_sessions.specs.declared.Removal.{Removal}
 use Rattle.reflector_sessions.specs.declared.RemovedSession.{RemovedSession}
 use Rattle.reflector_answer.specs.Answer.{Answer}
-use Rattle.reflector_answer.specs.Handle.{Answers}
+use Rattle.reflector_answer.specs.Handle.{Answers, handleFound}
 use Rattle.reflector_answer.specs.declared.Handled.{Handled}
+use Rattle.reflector_answer.specs.declared.MultiSessionReflectorConfig.{MultiSessionReflectorConfig}
+use Rattle.reflector_answer.specs.declared.ReflectorState.{ReflectorState}
+use Rattle.reflector_sessions.specs.declared.SocketAddr.{SocketAddr}
 use Rattle.reflector_answer.specs.declared.ReflectorAction.{ReflectorAction}
 use Rattle.reflector_answer.specs.declared.ReflectorAction.the-variants.{Noop, Send}
 use Rattle.reflector_answer.specs.declared.ReflectorNoopReason.{ReflectorNoopReason}
@@ -49,3 +54,10 @@ removes-numbers r x rows to e p = (e ∙ (λ i. removedNumbers (p .outcome i) (p
 
 pub answers-numbers : (r : TestkitHandled) (x : Handled) (after : List ℕ) (a : Answer) (before : List ℕ) → r ≡ handledNumbers x → Answers x after a before → AnswersNumbers r after a before
 answers-numbers r x after a before e p = (e ∙ ap handledNumbers (p .0), p .1)
+
+-- the same of what was found, with each of the values that it is handled with
+pub found-numbers : (r : TestkitHandled) (x : Handled) (after : List ℕ) (rows used : ℕ) (session : Option ReflectorSession) (payload before : List ℕ) {config config′ : MultiSessionReflectorConfig} {state state′ : ReflectorState} {source source′ : SocketAddr} {message message′ : GtpuMessage}
+    → config ≡ config′ → state ≡ state′ → source ≡ source′ → message ≡ message′ → r ≡ handledNumbers x → Answers x after (handleFound rows used config state session source message payload before) before
+    → AnswersNumbers r after (handleFound rows used config′ state′ session source′ message′ payload before) before
+found-numbers r x after rows used session payload before {config} {config′} {state} {state′} {source} {source′} {message} {message′} config-is state-is source-is message-is e p =
+    subst (λ (a : Answer). AnswersNumbers r after a before) (λ i. handleFound rows used (config-is i) (state-is i) session (source-is i) (message-is i) payload before) (answers-numbers r x after (handleFound rows used config state session source message payload before) before e p)

@@ -89,7 +89,7 @@ module _ (P G N : RattleType) where
       to-show r w = ((tt, tt, tt, (r, tt), (w ∷ [], tt)), tt)
 
       show-goes : (r : G .Denot) (w : Val) → Is G r (w ∷ []) → ent 𝓤 (sem 𝓤 H A ftrue) (Shows 𝓤 H A Same .pre (to-show r w))
-      show-goes r w is = qed W (‵ ftrue ∷ []) ∵ nothing ! $ owned ! G (Is G) (answer .makes 𝓤 H A W) r _ is $ fjoin ! $ move ! (1 ∷ 0 ∷ []) $ join ! $ frame ! $ done !
+      show-goes r w is = qed W (‵ ftrue ∷ []) ∵ nothing ! $ owned ! G (Is G) (answer .one .makes 𝓤 H A W) r _ is $ fjoin ! $ move ! (1 ∷ 0 ∷ []) $ join ! $ frame ! $ done !
 
       told : (r : G .Denot) (t : N .Denot) → ent 𝓤 (ensured 𝓤 H A showing (shown 𝓤 Same) tt (r, tt) tt t) (fact 𝓤 (Same r t))
       told r t = exE 𝓤 _ (λ ends. snd∗ 𝓤 (sem 𝓤 H A (lasts showing tt (r, tt) ends)) (fact 𝓤 (Same r t)))
@@ -99,7 +99,7 @@ module _ (P G N : RattleType) where
       walk =
           qed W ((‵ (flft κ q) ⊛ ‵ ftrue) ∷ ‵ (owns (MutSlice (named 0) κ R ∷ usize ∷ usize ∷ P ∷ []) a at) ∷ []) ∵ enter ! (𝓣 .C) (𝓣 .Λ) function (s ∷ vint w64 used ∷ vint w64 maximum ∷ argument .val p ∷ []) _ $
           alloc1 ! (λ l₀. alloc1 ! (λ l₁. alloc1 ! (λ l₂. alloc1 ! (λ l₃. alloc1 ! (λ l₄. alloc1 ! (λ l₅. alloc1 ! (λ l₆. alloc1 ! (λ l₇. alloc0 ! $ params1 ! $
-          pass1 ! (init ! 12 refl (tt, (tt, (record { fits = room .0 }, tt)))) $ pass1 ! (init ! 10 refl (tt, record { fits = used-fits })) $ pass1 ! (init ! 8 refl (tt, record { fits = maximum-fits })) $ pass1 ! (init ! 6 refl (argument .typed 𝓤 H A W p _ p-is)) $ pass0 ! $
+          pass1 ! (init ! 12 refl (tt, (tt, (record { fits = room .0 }, tt)))) $ pass1 ! (init ! 10 refl (tt, record { fits = used-fits })) $ pass1 ! (init ! 8 refl (tt, record { fits = maximum-fits })) $ pass1 ! (init ! 6 refl (argument .one .typed 𝓤 H A W p _ p-is)) $ pass0 ! $
           -- [_7; …; _6; …; _5; …; _4; …; _3; …; _2; …; _1; …; room for _0; …; the token; what the parameters own]: the
           -- slice is lent on
           assigns ! (addr ! (from ! (fld ! refl (hop ! (look-in ! 12 (sub ! 0 refl (whole !))) (stop !))))) (from ! (stop !)) (init ! 2 refl (tt, tt)) $
@@ -112,13 +112,13 @@ module _ (P G N : RattleType) where
           split ! $ move ! (1 ∷ []) $ heard ! (Done ys used maximum p r (zs .0)) (λ done-as. fsplit ! $ fsplit ! $ move ! (1 ∷ []) $ feqL ! (λ l.
           -- [the last list; …; the token and the answer; _7; …]
           move ! (2 ∷ []) $ split ! $ move ! (1 ∷ []) $ facts ! G (Is G) (shows 𝓤 H A G) r (w ∷ []) (λ is.
-          land ! (from ! (stop !)) (init ! 7 refl (answer .typed 𝓤 H A W r _ is)) $
+          land ! (from ! (stop !)) (init ! 7 refl (answer .one .typed 𝓤 H A W r _ is)) $
           -- [the token; the last list; …; _7; …]: the answer is put into the function's own
           nothing ! $ use1 W (raw (Shows 𝓤 H A Same .pre (to-show r w))) (show-goes r w is) $
           calls-at ! (fmOf 𝓤 H (W .laws) 𝓣) (Shows 𝓤 H A Same) showed (to-show r w) (and-then ! (load ! (from ! (stop !)) (look ! 8 refl)) (no-more !)) (λ w₁.
           use1 W (later (some (λ (t : N .Denot). (‵ ftrue ⊛ ‵ (N .own t (w₁ ∷ []))) ⊛ raw (ensured 𝓤 H A showing (shown 𝓤 Same) tt (r, tt) tt t)))) (id⊢ 𝓤 _) $ await ! tt $ pick ! (λ t.
           split ! $ move ! (1 ∷ []) $ use1 W (raw (fact 𝓤 (Same r t))) (told r t) $ heard ! (Same r t) (λ same. split ! $ drop ! $ facts ! N (Is N) (shows 𝓤 H A N) t (w₁ ∷ []) (λ t-is.
-          land ! (from ! (stop !)) (init ! 17 refl (result .typed 𝓤 H A W t _ t-is)) $
+          land ! (from ! (stop !)) (init ! 17 refl (result .one .typed 𝓤 H A W t _ t-is)) $
           returns ! (look ! 17 refl) $ forget ! 3 refl $ forget ! 5 refl $ forget ! 7 refl $ forget ! 9 refl $ forget ! 11 refl $ forget ! 13 refl $ forget ! 15 refl $ forget ! 17 refl $
           move ! (17 ∷ 18 ∷ []) $ free1 ! $ move ! (15 ∷ 16 ∷ []) $ free1 ! $ move ! (13 ∷ 14 ∷ []) $ free1 ! $ move ! (11 ∷ 12 ∷ []) $ free1 ! $ move ! (9 ∷ 10 ∷ []) $ free1 ! $ move ! (7 ∷ 8 ∷ []) $ free1 ! $ move ! (5 ∷ 6 ∷ []) $ free1 ! $ move ! (3 ∷ 4 ∷ []) $ free1 ! $ free0 ! $
           keep ! (0 ∷ 1 ∷ []) $ by ! (changes.ends P N argument result Due 𝓤 H A W κ q b o γ ys used maximum p used-fits maximum-fits p-is w₁ t (zs .0) t-is l (both ys used maximum p r t (zs .0) done-as same))))))))))))))))))))

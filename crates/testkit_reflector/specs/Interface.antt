@@ -1,5 +1,5 @@
--- How the C interface puts the reflector's values: a policy and a version as numbers, an answer as a number and values
--- beside it.
+-- How the reflector's values look at the C interface: a policy and a version are numbers, an answer is a number and
+-- values beside it.
 use Prim.Native.Nat.{ℕ}
 use mathlib.Core.Path.{_≡_}
 use mathlib.Core.List.{List}
@@ -32,7 +32,6 @@ use Rattle.gtpu.specs.declared.SequenceNumber.{SequenceNumber}
 use Rattle.gtpu.specs.declared.SequenceNumber.the-variants.{Absent, Present}
 use Rattle.measurement.specs.Flow.{versionNumber}
 use Rattle.testkit_reflector.specs.declared.ActionNumbers.{ActionNumbers}
-use Rattle.testkit_reflector.specs.declared.HandlingArguments.{HandlingArguments}
 use Rattle.testkit_reflector.specs.declared.SequenceNumbers.{SequenceNumbers}
 use Rattle.testkit_reflector.specs.declared.TestkitGtpuMessage.{TestkitGtpuMessage}
 use Rattle.testkit_reflector.specs.declared.TestkitHandled.{TestkitHandled}
@@ -60,11 +59,17 @@ isRemoved (gives none) = false
 isRemoved (gives (some session)) = true
 
 abbrev pub removedNumbers : Outcome (Option ReflectorSession) → ℕ → ReflectorSession → TestkitRemoved
-removedNumbers outcome used session = record { number = outcomeNumber outcome; removed = isRemoved outcome; used = used; session = session }
+removedNumbers outcome used session = record {
+  number = outcomeNumber outcome;
+  removed = isRemoved outcome;
+  used = used;
+  session = session;
+}
 
 -- The answer and the rows of a removal.
 abbrev pub RemovesNumbers : TestkitRemoved → List ReflectorSession → Removing → Type 0
-RemovesNumbers r rows to = (r ≡ removedNumbers (to .outcome) (to .table .used) (sessionOf (to .outcome))) × (rows ≡ to .table .sessions)
+RemovesNumbers r rows to = (r ≡ removedNumbers (to .outcome) (to .table .used) (sessionOf (to .outcome)))
+    × (rows ≡ to .table .sessions)
 
 -- What a message is handled with. Every number is a policy: 0 echo, 1 sink and count, every other route.
 unfoldable pub policyNumbered : ℕ → ReflectorPolicy
@@ -102,10 +107,11 @@ stateOf s = record {
 }
 
 abbrev pub messageOf : TestkitGtpuMessage → GtpuMessage
-messageOf m = record { «message_type» = m .«message_type»; teid = m .teid; «sequence_number» = sequenceOf (m .«has_sequence») (m .sequence) }
-
-abbrev pub argumentsOf : TestkitReflectorConfig → TestkitReflectorState → LentSocketAddr → TestkitGtpuMessage → HandlingArguments
-argumentsOf config state source message = record { config = configOf config; state = stateOf state; source = valueOf source; message = messageOf message }
+messageOf m = record {
+  «message_type» = m .«message_type»;
+  teid = m .teid;
+  «sequence_number» = sequenceOf (m .«has_sequence») (m .sequence);
+}
 
 -- Why nothing is sent, and why a message is.
 abbrev pub noopNumber : ReflectorNoopReason → ℕ

@@ -1,2 +1,2 @@
--- How the C interface puts what the reflector's calls answer.
+-- How the answers of the reflector's calls look at the C interface.
 pub mod Interface

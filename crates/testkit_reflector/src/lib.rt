@@ -13,6 +13,7 @@ use reflector_answer::ReflectorSendReason;
 use reflector_answer::ReflectorState;
 use reflector_answer::ReflectorStats;
 use reflector_answer::RouteTarget;
+use reflector_sessions::FoundSession;
 use reflector_sessions::LentSocketAddr;
 use reflector_sessions::ReflectorSession;
 use reflector_sessions::Registered;
@@ -24,8 +25,14 @@ ghost use mathlib.Core.Path.{_≡_};
 ghost use Rattle.reflector_sessions.specs.Table.{tableOf};
 ghost use Rattle.reflector_sessions.specs.Register.{registerSession, registrationMeans};
 ghost use Rattle.reflector_sessions.specs.Remove.{removeSession, removalMeans};
+ghost use Rattle.reflector_sessions.specs.Judge.{sessionFound};
+ghost use Rattle.reflector_answer.specs.Handle.{handleFound};
 ghost use Rattle.reflector.specs.Handle.{handleDatagram};
-ghost use Rattle.testkit_reflector.specs.Interface.{registeredNumbers, RegistersNumbers, removedNumbers, RemovesNumbers, policyNumbered, policyNumber, sequenceOf, configOf, stateOf, messageOf, argumentsOf, noopNumber, sendNumber, actionNumbers, sequenceNumbers, addressNumbers, messageNumbers, stateNumbers, handledNumbers, AnswersNumbers};
+ghost use Rattle.testkit_reflector.specs.Interface.{registeredNumbers, RegistersNumbers, removedNumbers};
+ghost use Rattle.testkit_reflector.specs.Interface.{RemovesNumbers, policyNumbered, policyNumber, sequenceOf};
+ghost use Rattle.testkit_reflector.specs.Interface.{configOf, stateOf, messageOf, noopNumber, sendNumber};
+ghost use Rattle.testkit_reflector.specs.Interface.{actionNumbers, sequenceNumbers, addressNumbers};
+ghost use Rattle.testkit_reflector.specs.Interface.{messageNumbers, stateNumbers, handledNumbers, AnswersNumbers};
 ghost use Rattle.reflector_sessions.specs.Session.{valueOf};
 
 // What registering answers: 0 and whether the session was added, or a refusal's number; and the used count that it
@@ -78,13 +85,15 @@ pub extern "C" fn testkit_register_session(
     max_sessions: usize,
     session: ReflectorSession,
 ) -> TestkitRegistered
-    ensures { λ r. ⌜ RegistersNumbers r (now (sessions .exit)) (registerSession (tableOf (now (sessions .entry)) used «max_sessions») session) ⌝ }
+    ensures { λ r. ⌜ RegistersNumbers r (now (sessions .exit))
+        (registerSession (tableOf (now (sessions .entry)) used «max_sessions») session) ⌝ }
 {
     registered_numbers(reflector_sessions::register_session(sessions, used, max_sessions, session))
 }
 
 fn removed_numbers(removed: RemovedSession) -> TestkitRemoved
-    ensures { λ r. ⌜ r ≡ removedNumbers (removalMeans (removed .removal) (removed .session)) (removed .used) (removed .session) ⌝ }
+    ensures { λ r. ⌜ r ≡ removedNumbers (removalMeans (removed .removal) (removed .session)) (removed .used)
+        (removed .session) ⌝ }
 {
     let removal = removed.removal;
     let session = removed.session;
@@ -118,7 +127,8 @@ pub extern "C" fn testkit_remove_session(
     max_sessions: usize,
     local_teid: u32,
 ) -> TestkitRemoved
-    ensures { λ r. ⌜ RemovesNumbers r (now (sessions .exit)) (removeSession (tableOf (now (sessions .entry)) used «max_sessions») «local_teid») ⌝ }
+    ensures { λ r. ⌜ RemovesNumbers r (now (sessions .exit))
+        (removeSession (tableOf (now (sessions .entry)) used «max_sessions») «local_teid») ⌝ }
 {
     removed_numbers(reflector_sessions::remove_session(sessions, used, max_sessions, local_teid))
 }
@@ -202,14 +212,6 @@ pub struct TestkitHandled {
     pub destination: LentSocketAddr,
     pub message: TestkitGtpuMessage,
     pub state: TestkitReflectorState,
-}
-
-// What a message is handled with, as values.
-struct HandlingArguments {
-    config: MultiSessionReflectorConfig,
-    state: ReflectorState,
-    source: SocketAddr,
-    message: GtpuMessage,
 }
 
 // An action in numbers.
@@ -297,22 +299,6 @@ fn message_of(message: TestkitGtpuMessage) -> GtpuMessage
         message_type: message.message_type,
         teid: message.teid,
         sequence_number: sequence_of(message.has_sequence, message.sequence),
-    }
-}
-
-fn handling_arguments(
-    config: TestkitReflectorConfig,
-    state: TestkitReflectorState,
-    source: LentSocketAddr,
-    message: TestkitGtpuMessage,
-) -> HandlingArguments
-    ensures { λ r. ⌜ r ≡ argumentsOf config state source message ⌝ }
-{
-    HandlingArguments {
-        config: config_of(config),
-        state: state_of(state),
-        source: source.value(),
-        message: message_of(message),
     }
 }
 
@@ -444,7 +430,37 @@ fn handled_numbers(handled: Handled) -> TestkitHandled
     }
 }
 
-// `reflector::handle_datagram`
+// `reflector_answer::handle_found`
+fn handle_found(
+    length: usize,
+    used: usize,
+    config: TestkitReflectorConfig,
+    state: TestkitReflectorState,
+    found: FoundSession,
+    source: LentSocketAddr,
+    message: TestkitGtpuMessage,
+    payload: &[u8],
+    out: &mut [u8],
+) -> TestkitHandled
+    ensures { λ r. ⌜ AnswersNumbers r (now (out .exit))
+        (handleFound length used (configOf config) (stateOf state) (sessionFound used found) (valueOf source)
+        (messageOf message) (now (payload .entry)) (now (out .entry)))
+        (now (out .entry)) ⌝ }
+{
+    handled_numbers(reflector_answer::handle_found(
+        length,
+        used,
+        config_of(config),
+        state_of(state),
+        found,
+        source.value(),
+        message_of(message),
+        payload,
+        out,
+    ))
+}
+
+// `reflector::handle_datagram`, by the same two steps: the search, and what is answered to what it found.
 #[no_mangle]
 pub extern "C" fn testkit_handle_datagram(
     sessions: &[ReflectorSession],
@@ -456,17 +472,21 @@ pub extern "C" fn testkit_handle_datagram(
     payload: &[u8],
     out: &mut [u8],
 ) -> TestkitHandled
-    ensures { λ r. ⌜ AnswersNumbers r (now (out .exit)) (handleDatagram (now (sessions .entry)) used (configOf config) (stateOf state) (valueOf source) (messageOf message) (now (payload .entry)) (now (out .entry))) (now (out .entry)) ⌝ }
+    ensures { λ r. ⌜ AnswersNumbers r (now (out .exit))
+        (handleDatagram (now (sessions .entry)) used (configOf config) (stateOf state) (valueOf source)
+        (messageOf message) (now (payload .entry)) (now (out .entry)))
+        (now (out .entry)) ⌝ }
 {
-    let to = handling_arguments(config, state, source, message);
-    handled_numbers(reflector::handle_datagram(
-        sessions,
+    let found = reflector_sessions::find_session(sessions, used, config.max_sessions, message.teid);
+    handle_found(
+        sessions.len(),
         used,
-        to.config,
-        to.state,
-        to.source,
-        to.message,
+        config,
+        state,
+        found,
+        source,
+        message,
         payload,
         out,
-    ))
+    )
 }

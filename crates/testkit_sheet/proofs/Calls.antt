@@ -7,10 +7,10 @@ use Rattle.observer.specs.Answer.{recordingMeans, recorded}
 use Rattle.observer.specs.Judge.{Step}
 use Rattle.observer.specs.declared.Recorded.{Recorded}
 use Rattle.received_tpdus.specs.declared.ReturnsRecorded.{ReturnsRecorded}
-use Rattle.continuity.specs.Answer.{messageMeans, messageRecorded}
+use Rattle.return_calls.specs.Answer.{messageMeans, messageRecorded}
 use Rattle.received_tpdus.specs.Received.{returnsMeans, ReturnsTaken, returnsRecorded}
-use Rattle.continuity.specs.Returns.{MessageStep}
-use Rattle.continuity.specs.declared.MessageRecorded.{MessageRecorded}
+use Rattle.return_calls.specs.Returns.{MessageStep}
+use Rattle.return_calls.specs.declared.MessageRecorded.{MessageRecorded}
 use Rattle.testkit_sheet.specs.Interface.{recordedNumbers, RecordedStep, returnsNumbers, ReturnsStep, datagramNumbers, DatagramStep}
 use Rattle.testkit_sheet.specs.declared.TestkitDatagramRecorded.{TestkitDatagramRecorded}
 use Rattle.testkit_sheet.specs.declared.TestkitRecorded.{TestkitRecorded}

@@ -9,11 +9,11 @@ use Rattle.observer.specs.Observer.{Observer}
 use Rattle.observer.specs.Judge.{Step}
 use Rattle.observer.specs.Answer.{lent}
 use Rattle.observer.specs.declared.ObserverCounts.{ObserverCounts}
-use Rattle.continuity.specs.Returns.{MessageStep}
+use Rattle.return_calls.specs.Returns.{MessageStep}
 use Rattle.received_tpdus.specs.Received.{ReturnsTaken}
 use Rattle.rows.specs.Columns.{Columns, Column, Sheet}
-use Rattle.continuity.specs.declared.GtpuReturnDatagramOutcome.{GtpuReturnDatagramOutcome}
-use Rattle.continuity.specs.declared.GtpuReturnDatagramOutcome.the-variants.{MeasurementTpdu, ErrorIndication, EchoResponse, Ignored}
+use Rattle.return_calls.specs.declared.GtpuReturnDatagramOutcome.{GtpuReturnDatagramOutcome}
+use Rattle.return_calls.specs.declared.GtpuReturnDatagramOutcome.the-variants.{MeasurementTpdu, ErrorIndication, EchoResponse, Ignored}
 use Rattle.evidence.specs.Budget.{zeroLoss}
 use Rattle.evidence.specs.Latency.{latencyMeans}
 use Rattle.evidence.specs.declared.LatencySummary.{LatencySummary}

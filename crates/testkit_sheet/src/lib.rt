@@ -1,9 +1,6 @@
 // The C interface to the run sheet, its report and the verdict on it: each call under the prefix `testkit_`, on numbers
 // and lent columns, with the call's own contract. A slice passes as a pointer and a length; counts, plans and budgets
 // go by value, as the crates below have them. A refusal is its number, and 0 is none.
-use continuity::GtpuReturnDatagramOutcome;
-use continuity::MessageRecorded;
-use continuity::ReturnRecording;
 use evidence::Latency;
 use evidence::LatencySummary;
 use evidence::PacketContinuityBudget;
@@ -17,6 +14,9 @@ use received_tpdus::ReturnsRecorded;
 use received_tpdus::ReturnsRecording;
 use report::LongestRuns;
 use report::Reported;
+use return_calls::GtpuReturnDatagramOutcome;
+use return_calls::MessageRecorded;
+use return_calls::ReturnRecording;
 use verdict::Verdict;
 ghost use mathlib.Core.Path.{_≡_};
 ghost use Rattle.error.specs.Outcome.{refused, gives, outcomeNumber};
@@ -24,8 +24,8 @@ ghost use Rattle.rows.specs.Columns.{sheet};
 ghost use Rattle.observer.specs.Sending.{recordSent};
 ghost use Rattle.observer.specs.Answer.{recordingMeans, lent};
 ghost use Rattle.sent_plan.specs.SendingPlan.{recordSentPlan};
-ghost use Rattle.continuity.specs.Returns.{recordReceivedTpdu, recordReturnMessage};
-ghost use Rattle.continuity.specs.Answer.{messageMeans};
+ghost use Rattle.return_calls.specs.Returns.{recordReceivedTpdu, recordReturnMessage};
+ghost use Rattle.return_calls.specs.Answer.{messageMeans};
 ghost use Rattle.received_tpdus.specs.Received.{returnsMeans, recordReceivedTpdus};
 ghost use Rattle.evidence.specs.Latency.{latencyMeans};
 ghost use Rattle.report.specs.Report.{reporting};
@@ -76,7 +76,7 @@ pub extern "C" fn testkit_record_sent(
     ))
 }
 
-// `continuity::record_received_tpdu`
+// `return_calls::record_received_tpdu`
 #[no_mangle]
 pub extern "C" fn testkit_record_received_tpdu(
     sequences: &[u64],
@@ -90,7 +90,7 @@ pub extern "C" fn testkit_record_received_tpdu(
     ensures { λ r. ⌜ Records (sheet sequences «send_timestamps» latencies marks) counts r
         (λ o. recordReceivedTpdu o «return_timestamp_ns» (now (tpdu .entry))) ⌝ }
 {
-    recorded_numbers(continuity::record_received_tpdu(
+    recorded_numbers(return_calls::record_received_tpdu(
         sequences,
         send_timestamps,
         latencies,
@@ -267,7 +267,7 @@ fn datagram_numbers(recorded: MessageRecorded) -> TestkitDatagramRecorded
     }
 }
 
-// `continuity::record_return_gtpu_datagram`, which looks at a message's type alone: so C names no more of it.
+// `return_calls::record_return_gtpu_datagram`, which looks at a message's type alone: so C names no more of it.
 #[no_mangle]
 pub extern "C" fn testkit_record_return_gtpu_datagram(
     sequences: &[u64],
@@ -282,7 +282,7 @@ pub extern "C" fn testkit_record_return_gtpu_datagram(
     ensures { λ r. ⌜ RecordsDatagram (sheet sequences «send_timestamps» latencies marks) counts r
         (λ o. recordReturnMessage o «return_timestamp_ns» «message_type» (now (payload .entry))) ⌝ }
 {
-    datagram_numbers(continuity::record_return_gtpu_datagram(
+    datagram_numbers(return_calls::record_return_gtpu_datagram(
         sequences,
         send_timestamps,
         latencies,

@@ -19,10 +19,10 @@ pub fn part(s: &[u8], at: usize, n: usize) -> &[u8] {
     &s[..0]
 }
 
-// Where a byte stands first from a place on, or the length.
+// Where a byte stands first from a place on, or the length; past the end, that place.
 pub fn find_from(s: &[u8], at: usize, byte: u8) -> usize
-    requires { ⌜ at ≤ length (now s) ⌝ }
-    ensures { λ r. ⌜ (at ≤ r) × (r ≤ length (now (s .entry))) ⌝ }
+    ensures { λ r. ⌜ at ≤ r ⌝ }
+    ensures { λ r. ⌜ (at ≤ length (now (s .entry)) → r ≤ length (now (s .entry))) ⌝ }
 {
     let mut i = at;
     while i < s.len() {
@@ -53,10 +53,15 @@ pub fn after(s: &[u8], byte: u8) -> &[u8] {
     &s[..0]
 }
 
-fn wide(x: u8) -> u64
-    ensures { λ r. ⌜ r ≡ x ⌝ }
-{
-    x as u64
+// The item of a list that has `number` others before it; none past the last. A space ends each.
+pub fn item(list: &[u8], number: usize) -> &[u8] {
+    let mut at = 0;
+    let mut i = 0;
+    while i < number {
+        at = std::num::wrapping_add_usize(find_from(list, at, b' '), 1);
+        i += 1;
+    }
+    part(list, at, find_from(list, at, b' ') - at)
 }
 
 // The number with one digit more, or NO_NUMBER.
@@ -64,7 +69,7 @@ fn with_digit(n: u64, digit: u8) -> u64 {
     if n > LARGEST {
         return NO_NUMBER;
     }
-    let value = wide(digit);
+    let value = field::wide(digit);
     if value < 48 {
         return NO_NUMBER;
     }

@@ -12,12 +12,9 @@ use lib.Seq.{drop-at, drop-drop}
 use borrow.Author.Tests.{ltb-true, ltb-false}
 use Rattle.error.specs.Outcome.{Outcome, refused, gives}
 use Rattle.error.proofs.Causes.{refused-gives}
-use Rattle.measurement.specs.Flow.{InRange}
 use Rattle.measurement.specs.declared.InnerIpFlow.{InnerIpFlow}
 use Rattle.measurement.specs.declared.MeasurementHeader.{MeasurementHeader}
 use Rattle.measurement_packet.specs.Packet.{buildOf}
-use Rattle.measurement_reading.specs.Read.{readOf}
-use Rattle.measurement_damage.proofs.Claims.{reads-back}
 use Rattle.measurement_build.proofs.Whole.{build-length}
 use Rattle.plan.specs.Plan.{timeAt, packetsFrom, packetsOf, judgePlan}
 use Rattle.plan.specs.Claims.{Acceptable, accepted}
@@ -25,7 +22,7 @@ use Rattle.plan.specs.declared.TrafficPlan.{TrafficPlan}
 use Rattle.plan.proofs.Judged.{plan-accepted}
 use Rattle.plan.proofs.Claims.{given, same-refusal, by-plan}
 use Rattle.traffic.specs.Generate.{endToEnd, Generating, generateOf}
-use Rattle.traffic.specs.Claims.{PacketsReadBack, SuccessIsComplete, RoomDecides, RefusalLeaves}
+use Rattle.traffic.specs.Claims.{SuccessIsComplete, RoomDecides, RefusalLeaves}
 use Rattle.traffic.proofs.Packets.{size}
 use Rattle.traffic.proofs.Answers.{placing-short, placing-fits, bytes-length, generate-refused, generate-accepted}
 
@@ -105,25 +102,6 @@ module _ (flow : InnerIpFlow) (plan : TrafficPlan) (next : ℕ) where
       ap₂ (λ (x : ℕ) (l : List ℕ). drop x l) place (append-assoc b more behind) ∙ sym (drop-drop (k * size flow) (size flow) (b ++ (more ++ behind)))
       ∙ ap (drop (k * size flow)) (drop-at b (more ++ behind) (size flow) (build-length flow (next + j) (timeAt plan j) (flow .version) refl)) in
       record { others = rest .others; is = past ∙ rest .is }
-
-pub packets-read-back : PacketsReadBack
-unfolding packetsOf
-packets-read-back flow plan next buffer g n e k h =
-    let s = success flow plan next buffer n e in
-    let b = endToEnd flow (packetsOf plan next) in
-    let at-exit : generateOf flow plan next buffer .buffer ≡ b ++ drop (length b) buffer = ap (λ (x : Generating). x .buffer) (s .is) in
-    let found = standing flow plan next (plan .«packet_count») 0 k k (drop (length b) buffer) h (omega arith) in
-    let range : InRange flow (next + k) (timeAt plan k) = record {
-      source = g .source;
-      destination = g .destination;
-      source-length = g .source-length;
-      destination-length = g .destination-length;
-      source-port = g .source-port;
-      destination-port = g .destination-port;
-      sequence = omega (arith, s .acceptable .sequences k h);
-      time = omega (arith, s .acceptable .times k h);
-    } in
-    ap readOf (ap (drop (k * size flow)) at-exit ∙ found .is) ∙ reads-back flow (next + k) (timeAt plan k) range (found .others)
 
 -- refusals
 pub refusal-leaves : RefusalLeaves

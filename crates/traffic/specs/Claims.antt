@@ -5,22 +5,12 @@ use mathlib.Core.List.{List}
 use mathlib.Core.Logic.{_⊎_}
 use lib.ListN.{length, drop}
 use Rattle.error.specs.Outcome.{refused, gives}
-use Rattle.measurement.specs.Flow.{InRange}
 use Rattle.measurement.specs.declared.InnerIpFlow.{InnerIpFlow}
 use Rattle.measurement_packet.specs.Packet.{ipHeaderLength}
-use Rattle.measurement_reading.specs.Read.{readOf}
-use Rattle.measurement_damage.specs.Claims.{tpduBuilt}
-use Rattle.plan.specs.Plan.{timeAt, judgePlan}
+use Rattle.plan.specs.Plan.{judgePlan}
 use Rattle.plan.specs.Claims.{accepted}
 use Rattle.plan.specs.declared.TrafficPlan.{TrafficPlan}
 use Rattle.traffic.specs.Generate.{generateOf}
-
--- Every packet stands at its place in the buffer, and reads back to the flow, its sequence and its time.
-abbrev pub PacketsReadBack : Type 0
-PacketsReadBack = (flow : InnerIpFlow) (plan : TrafficPlan) (next : ℕ) (buffer : List ℕ) → InRange flow next (plan .«first_send_timestamp_ns»)
-    → (n : ℕ) → generateOf flow plan next buffer .outcome ≡ gives n
-    → (k : ℕ) → k < plan .«packet_count»
-    → readOf (drop (k * (ipHeaderLength (flow .version) + 32)) (generateOf flow plan next buffer .buffer)) ≡ gives (tpduBuilt flow (next + k) (timeAt plan k))
 
 -- A success writes all packets, no more and no less.
 pub record Complete (flow : InnerIpFlow) (plan : TrafficPlan) (next : ℕ) (buffer : List ℕ) (n : ℕ) : Type 0 where
@@ -36,7 +26,8 @@ SuccessIsComplete = (flow : InnerIpFlow) (plan : TrafficPlan) (next : ℕ) (buff
 
 -- An accepted plan fails only for want of room, and then with 15.
 abbrev pub RoomDecides : Type 0
-RoomDecides = (flow : InnerIpFlow) (plan : TrafficPlan) (next : ℕ) (buffer : List ℕ) → judgePlan plan next ≡ accepted plan next
+RoomDecides =
+    (flow : InnerIpFlow) (plan : TrafficPlan) (next : ℕ) (buffer : List ℕ) → judgePlan plan next ≡ accepted plan next
     → (let bytes : ℕ = plan .«packet_count» * (ipHeaderLength (flow .version) + 32) in
     (length buffer < bytes → generateOf flow plan next buffer .outcome ≡ refused 15)
     × (bytes ≤ length buffer → generateOf flow plan next buffer .outcome ≡ gives bytes))
@@ -44,5 +35,8 @@ RoomDecides = (flow : InnerIpFlow) (plan : TrafficPlan) (next : ℕ) (buffer : L
 -- "A refusal returns its number and nothing else": no byte of the buffer changes; and the next sequence changes only
 -- with 19 and 20.
 abbrev pub RefusalLeaves : Type 0
-RefusalLeaves = (flow : InnerIpFlow) (plan : TrafficPlan) (next : ℕ) (buffer : List ℕ) (n : ℕ) → generateOf flow plan next buffer .outcome ≡ refused n
-    → (generateOf flow plan next buffer .buffer ≡ buffer) × ((n ≡ 19) ⊎ (n ≡ 20) ⊎ (generateOf flow plan next buffer .next ≡ next))
+RefusalLeaves =
+    (flow : InnerIpFlow) (plan : TrafficPlan) (next : ℕ) (buffer : List ℕ) (n : ℕ)
+    → generateOf flow plan next buffer .outcome ≡ refused n
+    → (generateOf flow plan next buffer .buffer ≡ buffer)
+    × ((n ≡ 19) ⊎ (n ≡ 20) ⊎ (generateOf flow plan next buffer .next ≡ next))

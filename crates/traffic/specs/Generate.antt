@@ -29,7 +29,11 @@ pub record Generating : Type 0 where
 unfoldable pub placing : List ℕ → ℕ → ℕ → List ℕ → Generating
 placing bytes next after buffer =
     let w : Writing = writing bytes buffer in
-    record { outcome = w .outcome; next = elim (w .outcome) [ refused n ↦ next | gives count ↦ after ]; buffer = w .buffer }
+    record {
+      outcome = w .outcome;
+      next = elim (w .outcome) [ refused n ↦ next | gives count ↦ after ];
+      buffer = w .buffer;
+    }
 
 -- The plan is judged first, "then 15"; a refusal leaves every byte.
 unfoldable pub generateOf : InnerIpFlow → TrafficPlan → ℕ → List ℕ → Generating

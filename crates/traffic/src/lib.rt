@@ -11,7 +11,7 @@ ghost use mathlib.Core.List.{_++_};
 ghost use lib.ListN.{drop};
 ghost use Rattle.measurement_packet.specs.Packet.{ipHeaderLength};
 ghost use Rattle.plan.specs.Plan.{packetsOf};
-ghost use Rattle.traffic.specs.Claims.{PacketsReadBack, SuccessIsComplete, RoomDecides, RefusalLeaves};
+ghost use Rattle.traffic.specs.Claims.{SuccessIsComplete, RoomDecides, RefusalLeaves};
 ghost use Rattle.traffic.specs.Generate.{firstSequence, endToEnd, generated, generateOf};
 ghost use Rattle.traffic.specs.Fits.{Fits};
 
@@ -34,7 +34,8 @@ fn write_packets(
     out: &mut [u8],
 )
     requires { ⌜ Fits flow plan interval «next_sequence» (now out) ⌝ }
-    ensures { λ _. ⌜ now (out .exit) ≡ endToEnd flow (packetsOf plan «next_sequence») ++ drop (plan .«packet_count» * (ipHeaderLength (flow .version) + 32)) (now (out .entry)) ⌝ }
+    ensures { λ _. ⌜ now (out .exit) ≡ endToEnd flow (packetsOf plan «next_sequence»)
+        ++ drop (plan .«packet_count» * (ipHeaderLength (flow .version) + 32)) (now (out .entry)) ⌝ }
 {
     let version = flow.version;
     let size = packet_length(version);
@@ -62,7 +63,8 @@ fn generate_packets(
     next_sequence: u64,
     out: &mut [u8],
 ) -> Generated
-    ensures { λ r. ⌜ generated (r .written) (r .«next_sequence») (now (out .exit)) ≡ generateOf flow plan «next_sequence» (now (out .entry)) ⌝ }
+    ensures { λ r. ⌜ generated (r .written) (r .«next_sequence») (now (out .exit))
+        ≡ generateOf flow plan «next_sequence» (now (out .entry)) ⌝ }
 {
     let judged = plan::judge_plan(plan, next_sequence);
     let answer = judged.interval;
@@ -89,15 +91,15 @@ fn generate_packets(
     }
 }
 
-// The packets of a plan, from the next sequence in the caller's own record, which is changed there, also by 19 and 20
-// (leaf 5).
+// The packets of a plan, from the next sequence in the caller's record. It is changed there, by 19 and 20 too (leaf 5).
 pub fn generate_from(
     next_sequence: &mut u64,
     flow: InnerIpFlow,
     plan: TrafficPlan,
     out: &mut [u8],
 ) -> Written
-    ensures { λ r. ⌜ generated r (now («next_sequence» .exit)) (now (out .exit)) ≡ generateOf flow plan (now («next_sequence» .entry)) (now (out .entry)) ⌝ }
+    ensures { λ r. ⌜ generated r (now («next_sequence» .exit)) (now (out .exit))
+        ≡ generateOf flow plan (now («next_sequence» .entry)) (now (out .entry)) ⌝ }
 {
     let answer = generate_packets(flow, plan, *next_sequence, out);
     *next_sequence = answer.next_sequence;
@@ -128,16 +130,16 @@ impl TrafficEngine {
 
     // The same, from the engine's next sequence.
     pub fn generate(&mut self, flow: InnerIpFlow, plan: TrafficPlan, out: &mut [u8]) -> Written
-        ensures { λ r. ⌜ generated r (now (self .exit) .«next_sequence») (now (out .exit)) ≡ generateOf flow plan (now (self .entry) .«next_sequence») (now (out .entry)) ⌝ }
+        ensures { λ r. ⌜ generated r (now (self .exit) .«next_sequence») (now (out .exit))
+            ≡ generateOf flow plan (now (self .entry) .«next_sequence») (now (out .entry)) ⌝ }
     {
         generate_from(&mut self.next_sequence, flow, plan, out)
     }
 }
 
-// Carries that a generated packet reads back at its place in the buffer, and that a success has every packet of the
-// plan.
-pub fn every_packet_reads_back()
-    ensures { λ _. ⌜ PacketsReadBack × SuccessIsComplete ⌝ }
+// Carries that a success has every packet of the plan. That each reads back is proved in the crate tally.
+pub fn success_is_complete()
+    ensures { λ _. ⌜ SuccessIsComplete ⌝ }
 {}
 
 // Carries that an accepted plan is refused only for want of room, and what a refusal leaves.

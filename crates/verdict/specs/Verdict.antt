@@ -6,17 +6,18 @@ use Rattle.evidence.specs.declared.PacketContinuityReport.{PacketContinuityRepo
 use Rattle.verdict.specs.declared.Verdict.{Verdict}
 use Rattle.verdict.specs.declared.Verdict.the-variants.{Pass, NothingReturned, TooManyLost, TooManyInARow, OutageTooLong, ErrorIndicated}
 
--- The first verdict where the test holds, else the second.
+-- The first verdict where the test holds, otherwise the second.
 unfoldable pub either : Bool → Verdict → Verdict → Verdict
 either true first second = first
 either false first second = second
 
--- Where a number is above the budget's, this reason with both numbers, else what follows.
+-- Where a number is above the budget's, this reason with both numbers; otherwise what follows.
 abbrev pub above : ℕ → ℕ → (ℕ → ℕ → Verdict) → Verdict → Verdict
 above number most reason = either (ltb most number) (reason number most)
 
--- A run passes where something returned and the report says that it kept to its budget. Else the first reason, in the order of document 01,
--- leaf 7: "lost, longest run and longest duration within budget and no error indication".
+-- A run passes where something returned and the report says that it kept to its budget. Otherwise the first reason
+-- counts, in the order of document 01, leaf 7: "lost, longest run and longest duration within budget and no error
+-- indication".
 unfoldable pub verdictOf : PacketContinuityReport → Verdict
 verdictOf report =
     either (not (report .«forwarding_proven»)) NothingReturned

@@ -1,5 +1,5 @@
-// The verdict on a run, from its report, with the numbers that say why. A crew acts on it, so it has a
-// contract (specs/Verdict.antt); that it is printed is left to its callers.
+// The verdict on a run, from its report, with the numbers that say why. A crew acts on it, so it has a contract
+// (specs/Verdict.antt); printing it is left to its callers.
 use evidence::PacketContinuityReport;
 ghost use mathlib.Core.Path.{_≡_};
 ghost use Rattle.verdict.specs.Verdict.{verdictOf};
@@ -14,7 +14,8 @@ pub enum Verdict {
     ErrorIndicated(u64),
 }
 
-// A run passes where something returned and the budget was kept; else the first reason, in the order of the budget.
+// A run passes where something returned and the budget was kept; otherwise the first reason counts, in the order of
+// the budget.
 pub fn judge(r: PacketContinuityReport) -> Verdict
     ensures { λ v. ⌜ v ≡ verdictOf r ⌝ }
 {

@@ -10,13 +10,18 @@ use Rattle.field.specs.Field.{bytesAt}
 use Rattle.measurement.specs.Flow.{addressLength}
 use Rattle.measurement.specs.declared.IpVersion.the-variants.{V4}
 use Rattle.measurement_reading.specs.Read.{ihl}
-use Rattle.measurement_reading.proofs.Rows.{row-3, row-4-low, row-4-cut, row-5-low, row-5-past, row-6-ipv4, row-7, rest-ipv4}
+use Rattle.measurement_reading.proofs.Rows.{LeftIpv4, ipv4-rows, row-3, past-3, row-4-low, row-4-cut, past-4, row-5-low, row-5-past, past-5, row-6-ipv4, past-6-ipv4, row-7, past-7, rest-ipv4}
 use Rattle.measurement_decode.proofs.Laws.{part-short, addresses}
 use Rattle.measurement_decode.proofs.judge_ipv4.Statement.{statement}
 use Rattle.measurement_decode.proofs.judge_ipv4.Tie as tie
 
 returns : tie.Need-returns
-returns c = ap outcomeNumber (row-3 (c .before .before .args .tpdu .now) (c .if1 .taken))
+returns c =
+    let p = c .before .before .args .tpdu .now in
+    ap outcomeNumber (row-3 p (ipv4-rows p) (c .if1 .taken))
+
+left-4 : (c : tie.Else1) → LeftIpv4 (c .before .before .args .tpdu .now) 4
+left-4 c = let p = c .before .before .args .tpdu .now in past-3 p (ipv4-rows p) (c .if1 .left)
 
 shared-slice-read-low-half : tie.Need-shared-slice-read-low-half
 shared-slice-read-low-half c = search needs
@@ -29,7 +34,7 @@ unfolding ihl
 returns-2 c =
     let l = c .before in
     let e1 = l .before .before in
-    ap outcomeNumber (row-4-low (e1 .before .before .args .tpdu .now) (e1 .if1 .left) (l .low-half .ensures .0) (c .if2 .taken))
+    ap outcomeNumber (row-4-low (e1 .before .before .args .tpdu .now) (l .low-half .ensures .0) (left-4 e1) (c .if2 .taken))
 
 mul-start : tie.Need-mul-start
 mul-start c = search needs
@@ -42,7 +47,15 @@ unfolding ihl
 returns-3 c =
     let l = c .before .before in
     let e1 = l .before .before in
-    ap outcomeNumber (row-4-cut (e1 .before .before .args .tpdu .now) (e1 .if1 .left) (l .low-half .ensures .0) (c .if3 .taken))
+    ap outcomeNumber (row-4-cut (e1 .before .before .args .tpdu .now) (l .low-half .ensures .0) (left-4 e1) (c .if3 .taken))
+
+left-5 : (c : tie.Else3) → LeftIpv4 (c .before .before .before .before .before .before .args .tpdu .now) 5
+unfolding ihl
+left-5 c =
+    let e2 = c .before in
+    let l = e2 .before in
+    let e1 = l .before .before in
+    past-4 (e1 .before .before .args .tpdu .now) (l .low-half .ensures .0) (left-4 e1) (e2 .if2 .left) (c .if3 .left)
 
 read-u16-requires : tie.Need-read-u16-requires
 read-u16-requires c κs = search needs
@@ -58,38 +71,45 @@ unfolding ihl
 returns-4 c =
     let w = c .before in
     let e3 = w .before in
-    let e2 = e3 .before in
-    let l = e2 .before in
-    let e1 = l .before .before in
-    let p = e1 .before .before .args .tpdu .now in
-    ap outcomeNumber (row-5-low p (e1 .if1 .left) (l .low-half .ensures .0) (e2 .if2 .left) (e3 .if3 .left) (w .read-u16 .ensures) (c .if4 .taken))
+    let l = e3 .before .before in
+    let p = l .before .before .before .before .args .tpdu .now in
+    ap outcomeNumber (row-5-low p (l .low-half .ensures .0) (w .read-u16 .ensures) (left-5 e3) (c .if4 .taken))
 
 returns-5 : tie.Need-returns-5
 unfolding ihl
 returns-5 c =
     let w = c .before .before in
     let e3 = w .before in
-    let e2 = e3 .before in
-    let l = e2 .before in
-    let e1 = l .before .before in
-    let p = e1 .before .before .args .tpdu .now in
-    ap outcomeNumber (row-5-past p (e1 .if1 .left) (l .low-half .ensures .0) (e2 .if2 .left) (e3 .if3 .left) (w .read-u16 .ensures) (c .if5 .taken))
+    let l = e3 .before .before in
+    let p = l .before .before .before .before .args .tpdu .now in
+    ap outcomeNumber (row-5-past p (l .low-half .ensures .0) (w .read-u16 .ensures) (left-5 e3) (c .if5 .taken))
+
+left-6 : (c : tie.Else5) → LeftIpv4 (c .before .before .before .before .before .before .before .before .before .args .tpdu .now) 6
+unfolding ihl
+left-6 c =
+    let e4 = c .before in
+    let w = e4 .before in
+    let e3 = w .before in
+    let l = e3 .before .before in
+    let p = l .before .before .before .before .args .tpdu .now in
+    past-5 p (l .low-half .ensures .0) (w .read-u16 .ensures) (left-5 e3) (e4 .if4 .left) (c .if5 .left)
 
 shared-slice-read-if6 : tie.Need-shared-slice-read-if6
 shared-slice-read-if6 c = search needs
 
 returns-6 : tie.Need-returns-6
-unfolding ihl
 returns-6 c =
     let e5 = c .before .before in
-    let e4 = e5 .before in
-    let w = e4 .before in
-    let e3 = w .before in
-    let e2 = e3 .before in
-    let l = e2 .before in
-    let e1 = l .before .before in
-    let p = e1 .before .before .args .tpdu .now in
-    ap outcomeNumber (row-6-ipv4 p (e1 .if1 .left) (l .low-half .ensures .0) (e2 .if2 .left) (e3 .if3 .left) (w .read-u16 .ensures) (e4 .if4 .left) (e5 .if5 .left) (c .if6 .taken))
+    let l = e5 .before .before .before .before .before in
+    let p = l .before .before .before .before .args .tpdu .now in
+    ap outcomeNumber (row-6-ipv4 p (left-6 e5) (c .if6 .taken))
+
+left-7 : (c : tie.Else6) → LeftIpv4 (c .before .before .before .before .before .before .before .before .before .before .before .args .tpdu .now) 7
+left-7 c =
+    let e5 = c .before .before in
+    let l = e5 .before .before .before .before .before in
+    let p = l .before .before .before .before .args .tpdu .now in
+    past-6-ipv4 p (left-6 e5) (c .if6 .left)
 
 slice-aggregate-checksum : tie.Need-slice-aggregate-checksum
 slice-aggregate-checksum c =
@@ -106,15 +126,9 @@ unfolding ihl
 returns-7 c =
     let k = c .before in
     let e6 = k .before .before in
-    let e5 = e6 .before .before in
-    let e4 = e5 .before in
-    let w = e4 .before in
-    let e3 = w .before in
-    let e2 = e3 .before in
-    let l = e2 .before in
-    let e1 = l .before .before in
-    let p = e1 .before .before .args .tpdu .now in
-    ap outcomeNumber (row-7 p (e1 .if1 .left) (l .low-half .ensures .0) (e2 .if2 .left) (e3 .if3 .left) (w .read-u16 .ensures) (e4 .if4 .left) (e5 .if5 .left) (e6 .if6 .left) (k .checksum .ensures) (c .if7 .taken))
+    let l = e6 .before .before .before .before .before .before .before in
+    let p = l .before .before .before .before .args .tpdu .now in
+    ap outcomeNumber (row-7 p (l .low-half .ensures .0) (k .checksum .ensures) (left-7 e6) (c .if7 .taken))
 
 sub-ipv4-address-sum : tie.Need-sub-ipv4-address-sum
 sub-ipv4-address-sum c = search needs
@@ -163,17 +177,12 @@ returns-8 c =
     let e7 = x .before .before in
     let k = e7 .before in
     let e6 = k .before .before in
-    let e5 = e6 .before .before in
-    let e4 = e5 .before in
-    let w = e4 .before in
-    let e3 = w .before in
-    let e2 = e3 .before in
-    let l = e2 .before in
-    let e1 = l .before .before in
-    let p = e1 .before .before .args .tpdu .now in
+    let w = e6 .before .before .before .before in
+    let l = w .before .before .before in
+    let p = l .before .before .before .before .args .tpdu .now in
     c .judge-ipv4-udp .ensures (bytesAt 4 12 p) (bytesAt 4 16 p)
     (addresses V4 p 12 16 20 (x .ipv4-address-sum .result) (y .ipv4-address-sum2 .result) (omega arith) (omega arith) (x .ipv4-address-sum .ensures .0) (y .ipv4-address-sum2 .ensures .0))
-    ∙ ap outcomeNumber (rest-ipv4 p (e1 .if1 .left) (l .low-half .ensures .0) (e2 .if2 .left) (e3 .if3 .left) (w .read-u16 .ensures) (e4 .if4 .left) (e5 .if5 .left) (e6 .if6 .left) (k .checksum .ensures) (e7 .if7 .left))
+    ∙ ap outcomeNumber (rest-ipv4 p (l .low-half .ensures .0) (w .read-u16 .ensures) (past-7 p (l .low-half .ensures .0) (k .checksum .ensures) (left-7 e6) (e7 .if7 .left)))
 
 pub judge-ipv4-spec : {M : Type 1} → statement M
 judge-ipv4-spec =

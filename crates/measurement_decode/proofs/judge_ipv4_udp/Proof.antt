@@ -1,12 +1,13 @@
 -- `measurement_decode::judge_ipv4_udp` meets its contract.
 use Prim.Native.Nat.{ℕ}
-use mathlib.Core.Path.{_≡_, refl, sym, ap, _∙_}
+use mathlib.Core.Path.{_≡_, sym, ap, _∙_}
+use mathlib.Core.List.{List}
 use native.Mathlib.Omega.{arith}
 use borrow.Author.Needs.{needs}
 use Rattle.error.specs.Outcome.{outcomeNumber}
 use Rattle.field.specs.Field.{field}
 use Rattle.measurement.specs.declared.IpVersion.the-variants.{V4}
-use Rattle.measurement_reading.proofs.Rows.{udp4-10, udp4-12, udp4-unsummed, udp4-right}
+use Rattle.measurement_reading.proofs.Rows.{LeftUdp, udp4-rows, udp4-row-10, udp4-past-10, udp4-row-12, udp4-unsummed, udp4-past-12}
 use Rattle.measurement_decode.proofs.judge_ipv4_udp.Statement.{statement}
 use Rattle.measurement_decode.proofs.judge_ipv4_udp.Tie as tie
 
@@ -16,7 +17,14 @@ length-wrong-requires c κs = search needs
 returns : tie.Need-returns
 returns c =
     let l = c .before in
-    λ src dst a. ap outcomeNumber (udp4-10 V4 src dst (l .before .before .args .udp .now) refl (sym (l .length-wrong .ensures) ∙ c .if1 .taken))
+    let u = l .before .before .args .udp .now in
+    λ src dst a. ap outcomeNumber (udp4-row-10 src dst u (udp4-rows src dst u) (sym (l .length-wrong .ensures) ∙ c .if1 .taken))
+
+left-12 : (c : tie.Else1) (src dst : List ℕ) → LeftUdp src dst (c .before .before .before .args .udp .now) V4 12
+left-12 c src dst =
+    let l = c .before in
+    let u = l .before .before .args .udp .now in
+    udp4-past-10 src dst u (udp4-rows src dst u) (sym (l .length-wrong .ensures) ∙ c .if1 .left)
 
 read-u16-requires : tie.Need-read-u16-requires
 read-u16-requires c κs = search needs
@@ -32,7 +40,7 @@ returns-2 c =
     let l = e1 .before in
     let u = l .before .before .args .udp .now in
     let z : field 2 6 u ≡ 0 = omega arith in
-    λ src dst a. c .judge-probe .ensures V4 src dst ∙ ap outcomeNumber (udp4-unsummed V4 src dst u refl (sym (l .length-wrong .ensures) ∙ e1 .if1 .left) z)
+    λ src dst a. c .judge-probe .ensures V4 src dst ∙ ap outcomeNumber (udp4-unsummed src dst u (left-12 e1 src dst) z)
 
 sum-wrong-requires : tie.Need-sum-wrong-requires
 sum-wrong-requires c κs = search needs
@@ -44,7 +52,7 @@ returns-3 c =
     let e1 = e2 .before .before in
     let l = e1 .before in
     let u = l .before .before .args .udp .now in
-    λ src dst a. ap outcomeNumber (udp4-12 V4 src dst u refl (sym (l .length-wrong .ensures) ∙ e1 .if1 .left) (λ z. e2 .if2 .left (omega arith))
+    λ src dst a. ap outcomeNumber (udp4-row-12 src dst u (left-12 e1 src dst) (λ z. e2 .if2 .left (omega arith))
     (sym (q .sum-wrong .ensures V4 src dst a) ∙ c .if3 .taken))
 
 judge-probe-requires-2 : tie.Need-judge-probe-requires-2
@@ -60,7 +68,7 @@ returns-4 c =
     let l = e1 .before in
     let u = l .before .before .args .udp .now in
     λ src dst a. c .judge-probe2 .ensures V4 src dst
-    ∙ ap outcomeNumber (udp4-right V4 src dst u refl (sym (l .length-wrong .ensures) ∙ e1 .if1 .left) (sym (q .sum-wrong .ensures V4 src dst a) ∙ e3 .if3 .left))
+    ∙ ap outcomeNumber (udp4-past-12 src dst u (left-12 e1 src dst) (sym (q .sum-wrong .ensures V4 src dst a) ∙ e3 .if3 .left))
 
 pub judge-ipv4-udp-spec : {M : Type 1} → statement M
 judge-ipv4-udp-spec =

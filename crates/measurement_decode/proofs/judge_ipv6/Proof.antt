@@ -8,13 +8,18 @@ use Rattle.error.specs.Outcome.{outcomeNumber}
 use Rattle.field.specs.Field.{bytesAt}
 use Rattle.measurement.specs.Flow.{addressLength}
 use Rattle.measurement.specs.declared.IpVersion.the-variants.{V6}
-use Rattle.measurement_reading.proofs.Rows.{row-8, row-6-ipv6, row-9-low, row-9-past, rest-ipv6}
+use Rattle.measurement_reading.proofs.Rows.{LeftIpv6, ipv6-rows, row-8, past-8, row-6-ipv6, past-6-ipv6, row-9-low, row-9-past, past-9, rest-ipv6}
 use Rattle.measurement_decode.proofs.Laws.{part-short, addresses}
 use Rattle.measurement_decode.proofs.judge_ipv6.Statement.{statement}
 use Rattle.measurement_decode.proofs.judge_ipv6.Tie as tie
 
 returns : tie.Need-returns
-returns c = ap outcomeNumber (row-8 (c .before .before .args .tpdu .now) (c .if1 .taken))
+returns c =
+    let p = c .before .before .args .tpdu .now in
+    ap outcomeNumber (row-8 p (ipv6-rows p) (c .if1 .taken))
+
+left-6 : (c : tie.Else1) → LeftIpv6 (c .before .before .args .tpdu .now) 6
+left-6 c = let p = c .before .before .args .tpdu .now in past-8 p (ipv6-rows p) (c .if1 .left)
 
 shared-slice-read-if2 : tie.Need-shared-slice-read-if2
 shared-slice-read-if2 c = search needs
@@ -22,7 +27,10 @@ shared-slice-read-if2 c = search needs
 returns-2 : tie.Need-returns-2
 returns-2 c =
     let e1 = c .before .before in
-    ap outcomeNumber (row-6-ipv6 (e1 .before .before .args .tpdu .now) (e1 .if1 .left) (c .if2 .taken))
+    ap outcomeNumber (row-6-ipv6 (e1 .before .before .args .tpdu .now) (left-6 e1) (c .if2 .taken))
+
+left-9 : (c : tie.Else2) → LeftIpv6 (c .before .before .before .before .args .tpdu .now) 9
+left-9 c = let e1 = c .before .before in past-6-ipv6 (e1 .before .before .args .tpdu .now) (left-6 e1) (c .if2 .left)
 
 read-u16-requires : tie.Need-read-u16-requires
 read-u16-requires c κs = search needs
@@ -36,7 +44,7 @@ returns-3 c =
     let e2 = w .before in
     let e1 = e2 .before .before in
     let p = e1 .before .before .args .tpdu .now in
-    ap outcomeNumber (row-9-low p (e1 .if1 .left) (e2 .if2 .left) (w .read-u16 .ensures) (c .if3 .taken))
+    ap outcomeNumber (row-9-low p (w .read-u16 .ensures) (left-9 e2) (c .if3 .taken))
 
 add-end : tie.Need-add-end
 add-end c = search needs
@@ -47,7 +55,7 @@ returns-4 c =
     let e2 = w .before in
     let e1 = e2 .before .before in
     let p = e1 .before .before .args .tpdu .now in
-    ap outcomeNumber (row-9-past p (e1 .if1 .left) (e2 .if2 .left) (w .read-u16 .ensures) (c .if4 .taken))
+    ap outcomeNumber (row-9-past p (w .read-u16 .ensures) (left-9 e2) (c .if4 .taken))
 
 sub-ipv6-address-sum : tie.Need-sub-ipv6-address-sum
 sub-ipv6-address-sum c = search needs
@@ -101,7 +109,7 @@ returns-5 c =
     let p = e1 .before .before .args .tpdu .now in
     c .judge-ipv6-udp .ensures (bytesAt 16 8 p) (bytesAt 16 24 p)
     (addresses V6 p 8 24 40 (x .ipv6-address-sum .result) (y .ipv6-address-sum2 .result) (omega arith) (omega arith) (x .ipv6-address-sum .ensures .0) (y .ipv6-address-sum2 .ensures .0))
-    ∙ ap outcomeNumber (rest-ipv6 p (e1 .if1 .left) (e2 .if2 .left) (w .read-u16 .ensures) (e3 .if3 .left) (e4 .if4 .left))
+    ∙ ap outcomeNumber (rest-ipv6 p (w .read-u16 .ensures) (past-9 p (w .read-u16 .ensures) (left-9 e2) (e3 .if3 .left) (e4 .if4 .left)))
 
 pub judge-ipv6-spec : {M : Type 1} → statement M
 judge-ipv6-spec =

@@ -1,12 +1,13 @@
 -- `measurement_decode::judge_ipv6_udp` meets its contract.
 use Prim.Native.Nat.{ℕ}
-use mathlib.Core.Path.{_≡_, refl, sym, ap, _∙_}
+use mathlib.Core.Path.{_≡_, sym, ap, _∙_}
+use mathlib.Core.List.{List}
 use native.Mathlib.Omega.{arith}
 use borrow.Author.Needs.{needs}
 use Rattle.error.specs.Outcome.{outcomeNumber}
 use Rattle.field.specs.Field.{field}
 use Rattle.measurement.specs.declared.IpVersion.the-variants.{V6}
-use Rattle.measurement_reading.proofs.Rows.{udp6-11, udp6-12, udp6-10, udp6-right}
+use Rattle.measurement_reading.proofs.Rows.{LeftUdp, udp6-rows, udp6-row-11, udp6-past-11, udp6-row-12, udp6-past-12, udp6-row-10, udp6-past-10}
 use Rattle.measurement_decode.proofs.judge_ipv6_udp.Statement.{statement}
 use Rattle.measurement_decode.proofs.judge_ipv6_udp.Tie as tie
 
@@ -17,17 +18,22 @@ returns : tie.Need-returns
 returns c =
     let u = c .before .before .before .args .udp .now in
     let z : field 2 6 u ≡ 0 = omega arith in
-    λ src dst a. ap outcomeNumber (udp6-11 V6 src dst u refl z)
+    λ src dst a. ap outcomeNumber (udp6-row-11 src dst u (udp6-rows src dst u) z)
 
 sum-wrong-requires : tie.Need-sum-wrong-requires
 sum-wrong-requires c κs = search needs
+
+left-12 : (c : tie.Else1) (src dst : List ℕ) → LeftUdp src dst (c .before .before .before .args .udp .now) V6 12
+left-12 c src dst =
+    let u = c .before .before .before .args .udp .now in
+    udp6-past-11 src dst u (udp6-rows src dst u) (λ z. c .if1 .left (omega arith))
 
 returns-2 : tie.Need-returns-2
 returns-2 c =
     let q = c .before in
     let e1 = q .before in
     let u = e1 .before .before .before .args .udp .now in
-    λ src dst a. ap outcomeNumber (udp6-12 V6 src dst u refl (λ z. e1 .if1 .left (omega arith)) (sym (q .sum-wrong .ensures V6 src dst a) ∙ c .if2 .taken))
+    λ src dst a. ap outcomeNumber (udp6-row-12 src dst u (left-12 e1 src dst) (sym (q .sum-wrong .ensures V6 src dst a) ∙ c .if2 .taken))
 
 length-wrong-requires : tie.Need-length-wrong-requires
 length-wrong-requires c κs = search needs
@@ -39,7 +45,7 @@ returns-3 c =
     let q = e2 .before in
     let e1 = q .before in
     let u = e1 .before .before .before .args .udp .now in
-    λ src dst a. ap outcomeNumber (udp6-10 V6 src dst u refl (λ z. e1 .if1 .left (omega arith)) (sym (q .sum-wrong .ensures V6 src dst a) ∙ e2 .if2 .left)
+    λ src dst a. ap outcomeNumber (udp6-row-10 src dst u (udp6-past-12 src dst u (left-12 e1 src dst) (sym (q .sum-wrong .ensures V6 src dst a) ∙ e2 .if2 .left))
     (sym (l .length-wrong .ensures) ∙ c .if3 .taken))
 
 judge-probe-requires : tie.Need-judge-probe-requires
@@ -56,7 +62,7 @@ returns-4 c =
     let e1 = q .before in
     let u = e1 .before .before .before .args .udp .now in
     λ src dst a. c .judge-probe .ensures V6 src dst
-    ∙ ap outcomeNumber (udp6-right V6 src dst u refl (λ z. e1 .if1 .left (omega arith)) (sym (q .sum-wrong .ensures V6 src dst a) ∙ e2 .if2 .left) (sym (l .length-wrong .ensures) ∙ e3 .if3 .left))
+    ∙ ap outcomeNumber (udp6-past-10 src dst u (udp6-past-12 src dst u (left-12 e1 src dst) (sym (q .sum-wrong .ensures V6 src dst a) ∙ e2 .if2 .left)) (sym (l .length-wrong .ensures) ∙ e3 .if3 .left))
 
 pub judge-ipv6-udp-spec : {M : Type 1} → statement M
 judge-ipv6-udp-spec =

@@ -15,9 +15,9 @@ use Rattle.observer.specs.Judge.{wellFormed}
 use Rattle.observer.specs.Answer.{observerOf}
 use Rattle.observer.specs.InTurn.{inTurn}
 use Rattle.observer.proofs.Arriving.{return-is}
-use Rattle.continuity.specs.Returns.{sequenceRead}
-use Rattle.continuity.specs.Answer.{sequenceNumbers}
-use Rattle.continuity.specs.declared.SequenceRead.{SequenceRead}
+use Rattle.return_calls.specs.Returns.{sequenceRead}
+use Rattle.return_calls.specs.Answer.{sequenceNumbers}
+use Rattle.return_calls.specs.declared.SequenceRead.{SequenceRead}
 use Rattle.received_tpdus.specs.Received.{tpdusOf, Received, receivedOf, recordReceived, returnsIn}
 use Rattle.received_tpdus.proofs.Received.{tpdu-next, tpdus-behind, stored, kept-refusal, of-sequence, still-well, joined, stored-behind, leftFrom, left-first, received-step, received-malformed, received-all}
 use Rattle.received_tpdus.proofs.record_received_tpdus.Statement.{statement}

@@ -1,4 +1,4 @@
--- `replay::replay` is safe and ends: each turn leaves fewer bytes. Assumes nothing.
+-- `replay::replay` is safe and ends: each turn leaves fewer bytes.
 use Prim.Native.Nat.{_≤_, _-_}
 use mathlib.Core.Path.{_≡_}
 use lib.ListN.{length}

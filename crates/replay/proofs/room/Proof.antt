@@ -1,4 +1,4 @@
--- `replay::room` has as many bytes as it says: by the law on a repeated element, since counting them out is too long. Assumes nothing.
+-- `replay::room` has as many bytes as it says: by the law on a repeated element, since counting them out is too long.
 use Prim.Native.Nat.{ℕ}
 use mathlib.Core.Path.{_≡_, sym}
 use lib.ListN.{length, replicate, length-replicate}

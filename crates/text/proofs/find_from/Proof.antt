@@ -1,4 +1,4 @@
--- `text::find_from` gives a place from `at` on, or the length.
+-- `text::find_from` gives a place from `at` on, within the list where `at` is.
 use Prim.Native.Nat.{_≤_, _-_}
 use mathlib.Core.Path.{_≡_}
 use lib.ListN.{length}
@@ -8,7 +8,7 @@ use Rattle.text.proofs.find_from.Tie as tie
 
 abbrev Inv-loop : tie.InvT-loop
 Inv-loop s at byte i₀ i =
-    (at ≤ i) × (i ≤ length s)
+    (at ≤ i) × (at ≤ length s → i ≤ length s)
 
 abbrev μ-loop : tie.MeasureT-loop
 μ-loop s at byte i₀ i =

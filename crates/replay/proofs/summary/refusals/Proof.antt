@@ -1,4 +1,4 @@
--- `replay::summary::refusals` is safe and ends. Assumes nothing.
+-- `replay::summary::refusals` is safe and ends.
 use Prim.Native.Nat.{_≤_, _-_}
 use borrow.Author.Needs.{needs}
 use Rattle.replay.proofs.summary.refusals.Statement.{statement}
