@@ -11,15 +11,6 @@ use verdict::Verdict;
 ghost use mathlib.Core.Path.{_≡_};
 ghost use Prim.Native.Nat.{_≤_};
 ghost use lib.ListN.{length};
-ghost use Rattle.rehearsal.specs.Status.{statusOf};
-
-const PASSED: u64 = 0;
-
-const FAILED: u64 = 1;
-
-const NOT_ACCEPTED: u64 = 2;
-
-const NO_RUN: u64 = 3;
 
 // A column of the run sheet.
 fn column() -> [u64; 2048]
@@ -75,21 +66,7 @@ fn print_run(
 fn print_no_run(number: u8) -> u64 {
     text::print_count(b"rehearse: the plan was refused by number ", number as u64);
     text::print(b" of the card\n");
-    NO_RUN
-}
-
-// The status of a verdict.
-fn status(verdict: Verdict) -> u64
-    ensures { λ r. ⌜ r ≡ statusOf verdict ⌝ }
-{
-    match verdict {
-        Verdict::Pass => PASSED,
-        Verdict::NothingReturned => FAILED,
-        Verdict::TooManyLost(_, _) => FAILED,
-        Verdict::TooManyInARow(_, _) => FAILED,
-        Verdict::OutageTooLong(_, _) => FAILED,
-        Verdict::ErrorIndicated(_) => FAILED,
-    }
+    exit_status::NO_RUN
 }
 
 // Rehearses a scenario, prints the run, and answers its status.
@@ -126,7 +103,7 @@ fn rehearse(s: &Scenario) -> u64 {
                 &marks,
                 text::part(&fates, 0, scenario::first(s, scenario::COUNT) as usize),
             );
-            status(verdict)
+            exit_status::of_verdict(verdict)
         }
     }
 }
@@ -145,7 +122,7 @@ fn rehearse_words(words: &[u8], separator: u8) -> u64 {
         return rehearse(&s);
     }
     scenario_lines::print_not_accepted(&s, judged, words);
-    NOT_ACCEPTED
+    exit_status::NOT_ACCEPTED
 }
 
 fn print_status(status: u64) {
@@ -166,7 +143,7 @@ fn rehearse_line(words: &[u8]) -> u64 {
 
 // Each line of a text: the greatest status.
 fn rehearse_lines(lines: &[u8]) -> u64 {
-    let mut worst = PASSED;
+    let mut worst = exit_status::PASSED;
     let mut at = 0;
     while at < lines.len() {
         let end = text::find_from(lines, at, b'\n');
@@ -187,7 +164,7 @@ fn print_not_accepted(why: &[u8]) -> u64 {
     text::print(b"rehearse: ");
     text::print(why);
     text::print(b" (see --help)\n");
-    NOT_ACCEPTED
+    exit_status::NOT_ACCEPTED
 }
 
 // The lines of standard input. One byte of the buffer stays free, else there may be more.

@@ -1,0 +1,2 @@
+-- The exit status of the command `rehearse`.
+pub mod Status

@@ -1,2 +1,0 @@
--- The rehearsal's status.
-pub mod Status
