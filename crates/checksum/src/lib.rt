@@ -94,8 +94,8 @@ fn sum_blocks(start: u16, bytes: &[u8]) -> u16
 }
 
 // The ones' complement sum of `start` and the words of `bytes`, which stand at an even offset of the whole message.
-// Sums in parts go through `start`. A slice is sliced again (`&bytes[..]`) where it is passed on: the compiler then keeps
-// it in registers instead of copying it in memory.
+// Sums in parts go through `start`. A slice is sliced again (`&bytes[..]`) where it is passed on: the compiler then
+// keeps it in registers instead of copying it in memory.
 pub fn sum(start: u64, bytes: &[u8]) -> u16
     ensures { λ r. ⌜ r ≡ foldOf (start + sumOf (now (bytes .entry))) ⌝ }
 {

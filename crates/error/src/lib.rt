@@ -1,6 +1,6 @@
-// The refusal codes: document 01's card of numbers (leaf 1). Where the Rust's error.rs has an enum with texts, each cause
-// here is its number, named in the Rust's words where it has any. specs/Number.antt says what each number means, and
-// `numbers` proves that the two lists agree. Numbers up to 50 are kept for this list.
+// The refusal codes: document 01's card of numbers (leaf 1). Where the Rust's error.rs has an enum with texts, each
+// cause here is its number, named in the Rust's words where it has any. specs/Number.antt says what each number means,
+// and `numbers` proves that the two lists agree. Numbers up to 50 are kept for this list.
 ghost use mathlib.Core.Path.{_≡_};
 ghost use Rattle.error.specs.Number.{numbersOf};
 

@@ -1,5 +1,5 @@
-// GTP-U (the Rust's gtpu.rs, without its codec): the message types, a parsed message, and the information elements of an
-// Error Indication, document 01's leaf 8. How a list of elements is judged is defined in specs/Element.antt.
+// GTP-U (the Rust's gtpu.rs, without its codec): the message types, a parsed message, and the information elements of
+// an Error Indication, document 01's leaf 8. How a list of elements is judged is defined in specs/Element.antt.
 ghost use mathlib.Core.Path.{_≡_};
 ghost use Prim.Native.Nat.{_<_, _≤_};
 ghost use lib.ListN.{length, getD};
@@ -147,7 +147,8 @@ fn walk_elements(
     left: &mut usize,
 ) -> u8
     requires { ⌜ 0 < length (now list) ⌝ }
-    ensures { λ r. ⌜ walkedMeans r (now (left .exit)) (now (list .entry)) ≡ elementsFrom «has_teid_data» «has_peer_address» (now (list .entry)) ⌝ }
+    ensures { λ r. ⌜ walkedMeans r (now (left .exit)) (now (list .entry))
+        ≡ elementsFrom «has_teid_data» «has_peer_address» (now (list .entry)) ⌝ }
     ensures { λ r. ⌜ Advanced r (now (left .exit)) «calls_left» (now (list .entry)) ⌝ }
 {
     if calls_left == 0 {

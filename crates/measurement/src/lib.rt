@@ -154,7 +154,9 @@ fn address_sum(version: IpVersion, bytes: [u8; 16]) -> u64
 // A number that, added to any sum, folds to the same as the words of a UDP checksum's pseudo-header: RFC 768; RFC 8200,
 // section 8.1.
 pub fn pseudo_header_words(version: IpVersion, src: [u8; 16], dst: [u8; 16], udp_length: u16) -> u64
-    ensures { λ r. ⌜ ((n : ℕ) → foldOf (n + r) ≡ foldOf (n + sumOf (pseudoHeader version (address version src) (address version dst) «udp_length»))) × (r < 2 ^ 36) ⌝ }
+    ensures { λ r. ⌜ ((n : ℕ) → foldOf (n + r)
+        ≡ foldOf (n + sumOf (pseudoHeader version (address version src) (address version dst) «udp_length»)))
+        × (r < 2 ^ 36) ⌝ }
 {
     17 + (udp_length as u64) + address_sum(version, src) + address_sum(version, dst)
 }

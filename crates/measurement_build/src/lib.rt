@@ -25,7 +25,9 @@ const UDP_SAME: u64 = 32 + 0x4f50 + 0x4344 + 0x5054 + 0x4b31;
 // as the words of the pseudo-header.
 fn write_ipv4_header(pseudo: u64, src: [u8; 16], dst: [u8; 16], out: &mut [u8])
     requires { ⌜ (20 ≤ length (now out)) × (pseudo < 2 ^ 36) ⌝ }
-    ensures { λ _. ⌜ now (out .exit) ≡ ipv4Header (65535 - foldOf (0x8514 + pseudo)) (bytesAt 4 0 src) (bytesAt 4 0 dst) ++ drop 20 (now (out .entry)) ⌝ }
+    ensures { λ _. ⌜ now (out .exit)
+        ≡ ipv4Header (65535 - foldOf (0x8514 + pseudo)) (bytesAt 4 0 src) (bytesAt 4 0 dst)
+        ++ drop 20 (now (out .entry)) ⌝ }
 {
     let checksum = 65535 - checksum::fold_u64(IPV4_MORE + pseudo);
     out[layout::IP_VERSION] = 0x45;
@@ -53,7 +55,9 @@ fn write_ipv4_header(pseudo: u64, src: [u8; 16], dst: [u8; 16], out: &mut [u8])
 // Copies `bytes` to the place `at` of `out`.
 fn put(out: &mut [u8], at: usize, bytes: &[u8])
     requires { ⌜ at + length (now bytes) ≤ length (now out) ⌝ }
-    ensures { λ _. ⌜ now (out .exit) ≡ take at (now (out .entry)) ++ (now (bytes .entry) ++ drop (at + length (now (bytes .entry))) (now (out .entry))) ⌝ }
+    ensures { λ _. ⌜ now (out .exit)
+        ≡ take at (now (out .entry))
+        ++ (now (bytes .entry) ++ drop (at + length (now (bytes .entry))) (now (out .entry))) ⌝ }
 {
     bytes::copy(bytes, &mut out[at..]);
 }
@@ -90,7 +94,9 @@ fn halves(x: u64) -> u64
 
 // A number that, added to any sum, folds to the same as the words of a UDP segment with a checksum field of 0.
 fn segment_words(src_port: u16, dst_port: u16, header: MeasurementHeader) -> u64
-    ensures { λ r. ⌜ ((n : ℕ) → foldOf (n + r) ≡ foldOf (n + sumOf (udpSegment 0 «src_port» «dst_port» (header .sequence) (header .«send_timestamp_ns»)))) × (r < 2 ^ 35) ⌝ }
+    ensures { λ r. ⌜ ((n : ℕ) → foldOf (n + r)
+        ≡ foldOf (n + sumOf (udpSegment 0 «src_port» «dst_port» (header .sequence) (header .«send_timestamp_ns»))))
+        × (r < 2 ^ 35) ⌝ }
 {
     UDP_SAME
         + (src_port as u64)
@@ -109,7 +115,9 @@ fn write_udp_segment(
     out: &mut [u8],
 )
     requires { ⌜ (32 ≤ length (now out)) × (pseudo < 2 ^ 36) ⌝ }
-    ensures { λ _. ⌜ now (out .exit) ≡ segmentOver pseudo «src_port» «dst_port» (header .sequence) (header .«send_timestamp_ns») ++ drop 32 (now (out .entry)) ⌝ }
+    ensures { λ _. ⌜ now (out .exit)
+        ≡ segmentOver pseudo «src_port» «dst_port» (header .sequence) (header .«send_timestamp_ns»)
+        ++ drop 32 (now (out .entry)) ⌝ }
 {
     let sum = checksum::fold_u64(pseudo + segment_words(src_port, dst_port, header));
     let checksum = nonzero_checksum(sum);
@@ -136,7 +144,8 @@ pub fn build_measurement_tpdu(
     send_timestamp_ns: u64,
     out: &mut [u8],
 ) -> Written
-    ensures { λ r. ⌜ wrote r (now (out .exit)) ≡ writing (buildOf flow sequence «send_timestamp_ns») (now (out .entry)) ⌝ }
+    ensures { λ r. ⌜ wrote r (now (out .exit))
+        ≡ writing (buildOf flow sequence «send_timestamp_ns») (now (out .entry)) ⌝ }
 {
     let version = flow.version;
     let src = flow.src;
@@ -184,7 +193,10 @@ pub fn build_ipv4_tpdu(
     send_timestamp_ns: u64,
     out: &mut [u8],
 ) -> Written
-    ensures { λ r. ⌜ wrote r (now (out .exit)) ≡ writing (buildOf (record { version = V4; src = src; dst = dst; «src_port» = «src_port»; «dst_port» = «dst_port» }) sequence «send_timestamp_ns») (now (out .entry)) ⌝ }
+    ensures { λ r. ⌜ wrote r (now (out .exit))
+        ≡ writing (buildOf
+        (record { version = V4; src = src; dst = dst; «src_port» = «src_port»; «dst_port» = «dst_port» })
+        sequence «send_timestamp_ns») (now (out .entry)) ⌝ }
 {
     if out.len() < measurement::IPV4_TPDU_BYTES {
         return Written::Refused(error::OUTPUT_TOO_SHORT);

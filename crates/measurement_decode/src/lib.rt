@@ -76,7 +76,8 @@ fn length_wrong(udp: &[u8]) -> bool
 // A number that, added to any sum, folds to the same as the words of an IPv4 address. Four bytes are added at once.
 fn ipv4_address_sum(address: &[u8]) -> u64
     requires { ⌜ 4 ≤ length (now address) ⌝ }
-    ensures { λ r. ⌜ ((n : ℕ) → foldOf (n + r) ≡ foldOf (n + sumOf (bytesAt 4 0 (now (address .entry))))) × (r < 2 ^ 34) ⌝ }
+    ensures { λ r. ⌜ ((n : ℕ) → foldOf (n + r) ≡ foldOf (n + sumOf (bytesAt 4 0 (now (address .entry)))))
+        × (r < 2 ^ 34) ⌝ }
 {
     field::double_word(address[0], address[1], address[2], address[3]) as u64
 }
@@ -84,7 +85,8 @@ fn ipv4_address_sum(address: &[u8]) -> u64
 // The same for an IPv6 address.
 fn ipv6_address_sum(address: &[u8]) -> u64
     requires { ⌜ 16 ≤ length (now address) ⌝ }
-    ensures { λ r. ⌜ ((n : ℕ) → foldOf (n + r) ≡ foldOf (n + sumOf (bytesAt 16 0 (now (address .entry))))) × (r < 2 ^ 34) ⌝ }
+    ensures { λ r. ⌜ ((n : ℕ) → foldOf (n + r) ≡ foldOf (n + sumOf (bytesAt 16 0 (now (address .entry)))))
+        × (r < 2 ^ 34) ⌝ }
 {
     (field::double_word(address[0], address[1], address[2], address[3]) as u64)
         + (field::double_word(address[4], address[5], address[6], address[7]) as u64)
@@ -96,7 +98,8 @@ fn ipv6_address_sum(address: &[u8]) -> u64
 // as the words of both addresses.
 fn sum_wrong(addresses: u64, udp: &[u8]) -> bool
     requires { ⌜ (addresses < 2 ^ 35) × (length (now udp) < 65536) ⌝ }
-    ensures { λ r. ⌜ ((v : IpVersion) (src dst : List ℕ) → Addresses v src dst addresses → r ≡ sumWrong v src dst (now (udp .entry))) ⌝ }
+    ensures { λ r. ⌜ ((v : IpVersion) (src dst : List ℕ) → Addresses v src dst addresses → r
+        ≡ sumWrong v src dst (now (udp .entry))) ⌝ }
 {
     let length = udp.len() as u64;
     checksum::sum(addresses + 17 + length, &udp[..]) != 65535
@@ -105,7 +108,8 @@ fn sum_wrong(addresses: u64, udp: &[u8]) -> bool
 // 13 and 14, for a part whose UDP length is right.
 fn judge_probe(udp: &[u8]) -> u8
     requires { ⌜ Part (now udp) × (lengthWrong (now udp) ≡ false) ⌝ }
-    ensures { λ r. ⌜ ((v : IpVersion) (src dst : List ℕ) → r ≡ outcomeNumber (readProbe v src dst (now (udp .entry)))) ⌝ }
+    ensures { λ r. ⌜ ((v : IpVersion) (src dst : List ℕ)
+        → r ≡ outcomeNumber (readProbe v src dst (now (udp .entry)))) ⌝ }
 {
     let end = read_u16(&udp[..], layout::UDP_LENGTH) as usize;
     let payload = &udp[layout::UDP_HEADER_BYTES..end];
@@ -121,7 +125,8 @@ fn judge_probe(udp: &[u8]) -> u8
 // The part of an IPv4 packet that starts after its header.
 fn judge_ipv4_udp(addresses: u64, udp: &[u8]) -> u8
     requires { ⌜ (addresses < 2 ^ 35) × Part (now udp) ⌝ }
-    ensures { λ r. ⌜ ((src dst : List ℕ) → Addresses V4 src dst addresses → r ≡ outcomeNumber (readUdp V4 src dst (now (udp .entry)))) ⌝ }
+    ensures { λ r. ⌜ ((src dst : List ℕ) → Addresses V4 src dst addresses → r
+        ≡ outcomeNumber (readUdp V4 src dst (now (udp .entry)))) ⌝ }
 {
     if length_wrong(&udp[..]) {
         return error::INVALID_UDP_LENGTH;
@@ -138,7 +143,8 @@ fn judge_ipv4_udp(addresses: u64, udp: &[u8]) -> u8
 // The part of an IPv6 packet that starts after its header.
 fn judge_ipv6_udp(addresses: u64, udp: &[u8]) -> u8
     requires { ⌜ (addresses < 2 ^ 35) × Part (now udp) ⌝ }
-    ensures { λ r. ⌜ ((src dst : List ℕ) → Addresses V6 src dst addresses → r ≡ outcomeNumber (readUdp V6 src dst (now (udp .entry)))) ⌝ }
+    ensures { λ r. ⌜ ((src dst : List ℕ) → Addresses V6 src dst addresses → r
+        ≡ outcomeNumber (readUdp V6 src dst (now (udp .entry)))) ⌝ }
 {
     if read_u16(&udp[..], layout::UDP_CHECKSUM) == 0 {
         return error::IPV6_UDP_CHECKSUM_IS_ZERO;

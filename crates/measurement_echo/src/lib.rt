@@ -15,7 +15,9 @@ ghost use Rattle.measurement_echo.specs.Block.{InBlock};
 // Copies a T-PDU out of the block that it was built in: where it does not fit, the output is untouched.
 fn copy_out(built: Written, block: &[u8], out: &mut [u8]) -> Written
     requires { ⌜ InBlock built (now block) ⌝ }
-    ensures { λ r. ⌜ ((flow : InnerIpFlow) (sequence time : ℕ) → wrote built (now (block .entry)) ≡ writing (buildOf flow sequence time) (replicate 72 0) → wrote r (now (out .exit)) ≡ writing (buildOf flow sequence time) (now (out .entry))) ⌝ }
+    ensures { λ r. ⌜ ((flow : InnerIpFlow) (sequence time : ℕ)
+        → wrote built (now (block .entry)) ≡ writing (buildOf flow sequence time) (replicate 72 0)
+        → wrote r (now (out .exit)) ≡ writing (buildOf flow sequence time) (now (out .entry))) ⌝ }
 {
     match built {
         Written::Refused(number) => Written::Refused(number),
@@ -36,7 +38,8 @@ fn write_from_block(
     send_timestamp_ns: u64,
     out: &mut [u8],
 ) -> Written
-    ensures { λ r. ⌜ wrote r (now (out .exit)) ≡ writing (buildOf flow sequence «send_timestamp_ns») (now (out .entry)) ⌝ }
+    ensures { λ r. ⌜ wrote r (now (out .exit))
+        ≡ writing (buildOf flow sequence «send_timestamp_ns») (now (out .entry)) ⌝ }
 {
     let mut block = [0; 72];
     let built = measurement_build::build_measurement_tpdu(
@@ -60,7 +63,10 @@ fn write_ipv4_from_block(
     send_timestamp_ns: u64,
     out: &mut [u8],
 ) -> Written
-    ensures { λ r. ⌜ wrote r (now (out .exit)) ≡ writing (buildOf (record { version = V4; src = src; dst = dst; «src_port» = «src_port»; «dst_port» = «dst_port» }) sequence «send_timestamp_ns») (now (out .entry)) ⌝ }
+    ensures { λ r. ⌜ wrote r (now (out .exit))
+        ≡ writing (buildOf
+        (record { version = V4; src = src; dst = dst; «src_port» = «src_port»; «dst_port» = «dst_port» })
+        sequence «send_timestamp_ns») (now (out .entry)) ⌝ }
 {
     let mut block = [0; 72];
     let built = measurement_build::build_ipv4_tpdu(

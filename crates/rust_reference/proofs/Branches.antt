@@ -1,5 +1,5 @@
 -- A branch of the Rust has an outcome if each of its ways has it.
-use mathlib.Core.Path.{_≡_, refl, ap}
+use mathlib.Core.Path.{_≡_, refl, sym, ap}
 use mathlib.Core.Bool.{Bool, true, false}
 use Prim.Native.Nat.{ℕ}
 use mathlib.Core.List.{List, _∷_}
@@ -40,13 +40,19 @@ compared-bytes tpdu b = b
 abbrev sunk : ReflectorPolicy → Bool
 sunk policy = elim policy [ Echo ↦ false | SinkAndCount ↦ true | Route ↦ false ]
 
+abbrev echoed : ReflectorPolicy → Bool
+echoed policy = elim policy [ Echo ↦ true | SinkAndCount ↦ false | Route ↦ false ]
+
 pub all-compared : WhatIsCompared
 all-compared = record {
   every-tpdu = λ tpdu b. b;
+  every-return = λ messageType payload b is. b;
+  every-echoed = λ message payload b is. (λ echoes. b, λ routes. absurd (true-not-false (ap echoed routes)));
+  every-routed = λ message payload l is. (λ echoes. absurd (true-not-false (sym (ap echoed echoes))), λ routes. l);
   every-other-return = λ messageType payload other is. absurd (other is);
   every-other-message = λ policy message payload other is. absurd (other is);
   every-sunk-message = λ message payload is. (λ echoes. absurd (true-not-false (ap sunk echoes)), λ routes. absurd (true-not-false (ap sunk routes)));
-  every-refusal = λ n m e. e;
+  every-refusal = λ n. refl;
 }
 
 -- what holds of a value, if there is one

@@ -38,7 +38,7 @@ use Rattle.reflector_answer.specs.Handle.{placed}
 use Rattle.gtpu.specs.declared.GtpuMessage.{GtpuMessage}
 use Rattle.reflector_answer.specs.declared.MultiSessionReflectorConfig.{MultiSessionReflectorConfig}
 use Rattle.reflector_answer.specs.declared.ReflectorPolicy.{ReflectorPolicy}
-use Rattle.reflector_answer.specs.declared.ReflectorPolicy.the-variants.{SinkAndCount}
+use Rattle.reflector_answer.specs.declared.ReflectorPolicy.the-variants.{Echo, SinkAndCount, Route}
 use Rattle.reflector_sessions.specs.Register.{registerSession}
 use Rattle.reflector_sessions.specs.Remove.{removeSession}
 use Rattle.reflector_sessions.specs.declared.ReflectorSession.{ReflectorSession}
@@ -71,15 +71,20 @@ NoneAdded o = (n : ℕ) → Added n → o ≡ refused n → ⊥
 
 -- ---- what is compared
 
--- Every T-PDU; every message that carries none, whatever its payload; and no two of our numbers are compared as one.
+-- Every T-PDU, alone, in a message that returns and in one that is echoed; every payload of at most 65,535 bytes in a
+-- message that is routed; every other message, whatever its payload; and each of our numbers as itself.
 pub record WhatIsCompared : Type 0 where
   pub every-tpdu : (tpdu : List ℕ) → Bytes tpdu → Compared tpdu
+  pub every-return : (messageType : ℕ) (payload : List ℕ) → Bytes payload → ComparedReturn messageType payload
+  pub every-echoed : (message : GtpuMessage) (payload : List ℕ) → Bytes payload → ComparedMessage Echo message payload
+  pub every-routed : (message : GtpuMessage) (payload : List ℕ) → length payload ≤ 65535
+      → ComparedMessage Route message payload
   pub every-other-return : (messageType : ℕ) (payload : List ℕ) → (messageType ≡ gtpuMsgGpdu → ⊥)
       → ComparedReturn messageType payload
   pub every-other-message : (policy : ReflectorPolicy) (message : GtpuMessage) (payload : List ℕ)
       → (message .«message_type» ≡ gtpuMsgGpdu → ⊥) → ComparedMessage policy message payload
   pub every-sunk-message : (message : GtpuMessage) (payload : List ℕ) → ComparedMessage SinkAndCount message payload
-  pub every-refusal : (n m : ℕ) → asTheRustTells n ≡ asTheRustTells m → n ≡ m
+  pub every-refusal : (n : ℕ) → asTheRustTells n ≡ n
 
 -- ---- evidence.rs
 

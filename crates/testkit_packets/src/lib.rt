@@ -107,8 +107,12 @@ pub extern "C" fn testkit_build(
     send_timestamp_ns: u64,
     out: &mut [u8],
 ) -> TestkitWritten
-    ensures answer { λ r. ⌜ r ≡ writtenNumbers (writing (buildOf (flowOf version (now (src .entry)) (now (dst .entry)) «src_port» «dst_port») sequence «send_timestamp_ns») (now (out .entry)) .outcome) ⌝ }
-    ensures buffer { λ _. ⌜ now (out .exit) ≡ writing (buildOf (flowOf version (now (src .entry)) (now (dst .entry)) «src_port» «dst_port») sequence «send_timestamp_ns») (now (out .entry)) .buffer ⌝ }
+    ensures answer { λ r. ⌜ r ≡ writtenNumbers (writing (buildOf
+        (flowOf version (now (src .entry)) (now (dst .entry)) «src_port» «dst_port»)
+        sequence «send_timestamp_ns») (now (out .entry)) .outcome) ⌝ }
+    ensures buffer { λ _. ⌜ now (out .exit)
+        ≡ writing (buildOf (flowOf version (now (src .entry)) (now (dst .entry)) «src_port» «dst_port»)
+        sequence «send_timestamp_ns») (now (out .entry)) .buffer ⌝ }
 {
     let flow = InnerIpFlow {
         version: measurement::version_of(version),
@@ -162,7 +166,8 @@ pub extern "C" fn testkit_generate(
     out: &mut [u8],
 ) -> TestkitWritten
     ensures { λ r. ⌜ GeneratedStep r (now («next_sequence» .exit)) (now (out .exit))
-        (generateOf (flowOf version (now (src .entry)) (now (dst .entry)) «src_port» «dst_port») plan (now («next_sequence» .entry)) (now (out .entry))) ⌝ }
+        (generateOf (flowOf version (now (src .entry)) (now (dst .entry)) «src_port» «dst_port») plan
+        (now («next_sequence» .entry)) (now (out .entry))) ⌝ }
 {
     let flow = InnerIpFlow {
         version: measurement::version_of(version),

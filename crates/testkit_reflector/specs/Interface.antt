@@ -130,9 +130,12 @@ sendNumber send.ErrorIndication = 4
 -- A refusal's number, or 0; what is to be done, 0 refused, 1 nothing to send, 2 a message; why nothing is sent, or 0;
 -- why a message is, or 0; and the bytes in the output.
 abbrev pub actionNumbers : ReflectorAction → ActionNumbers
-actionNumbers (action.Refused number) = record { number = number; action = 0; «noop_reason» = 0; «send_reason» = 0; bytes = 0 }
-actionNumbers (action.Noop reason) = record { number = 0; action = 1; «noop_reason» = noopNumber reason; «send_reason» = 0; bytes = 0 }
-actionNumbers (action.Send reason bytes) = record { number = 0; action = 2; «noop_reason» = 0; «send_reason» = sendNumber reason; bytes = bytes }
+actionNumbers (action.Refused number) =
+    record { number = number; action = 0; «noop_reason» = 0; «send_reason» = 0; bytes = 0 }
+actionNumbers (action.Noop reason) =
+    record { number = 0; action = 1; «noop_reason» = noopNumber reason; «send_reason» = 0; bytes = 0 }
+actionNumbers (action.Send reason bytes) =
+    record { number = 0; action = 2; «noop_reason» = 0; «send_reason» = sendNumber reason; bytes = bytes }
 
 abbrev pub sequenceNumbers : SequenceNumber → SequenceNumbers
 sequenceNumbers Absent = record { present = 0; value = 0 }
