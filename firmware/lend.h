@@ -1,4 +1,4 @@
-/* Buffers to lend to the calls, so placed that a call which leaves one is stopped. */
+/* Buffers to lend to the calls, placed so that a call is stopped when it goes outside one. */
 #ifndef LEND_H
 #define LEND_H
 

@@ -221,19 +221,23 @@ uint8_t probe_judge(struct testkit_continuity_report report, struct testkit_budg
         printf("  verdict: pass\n");
         break;
     case TESTKIT_VERDICT_NOTHING_RETURNED:
-        printf("  verdict: nothing returned\n");
+        printf("  verdict: fail, nothing returned\n");
         break;
     case TESTKIT_VERDICT_TOO_MANY_LOST:
-        printf("  verdict: %" PRIu64 " lost, and %" PRIu64 " allowed\n", verdict.measured, verdict.allowed);
+        printf("  verdict: fail, %" PRIu64 " lost, at most %" PRIu64 " allowed\n", verdict.measured, verdict.allowed);
         break;
     case TESTKIT_VERDICT_TOO_MANY_IN_A_ROW:
-        printf("  verdict: %" PRIu64 " lost in a row, and %" PRIu64 " allowed\n", verdict.measured, verdict.allowed);
+        printf(
+            "  verdict: fail, %" PRIu64 " lost in a row, at most %" PRIu64 " allowed\n", verdict.measured,
+            verdict.allowed);
         break;
     case TESTKIT_VERDICT_OUTAGE_TOO_LONG:
-        printf("  verdict: an outage of %" PRIu64 " ns, and %" PRIu64 " allowed\n", verdict.measured, verdict.allowed);
+        printf(
+            "  verdict: fail, an outage of %" PRIu64 " ns, at most %" PRIu64 " allowed\n", verdict.measured,
+            verdict.allowed);
         break;
     case TESTKIT_VERDICT_ERROR_INDICATED:
-        printf("  verdict: %" PRIu64 " Error Indications\n", verdict.measured);
+        printf("  verdict: fail, Error Indications: %" PRIu64 "\n", verdict.measured);
         break;
     default:
         expect("a verdict's reason", verdict.reason, TESTKIT_VERDICT_NO_REPORT);

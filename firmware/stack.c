@@ -468,7 +468,7 @@ static void set_sheet(size_t used, size_t step)
         latencies[k] = UINT64_MAX;
         marks[k] = step != 0 && k % step == 0;
     }
-    counts = (struct testkit_counts){used, 0, 0, 0};
+    counts = (struct testkit_counts){.used = used};
 }
 
 /* Plans that fit, that fit in part, and that are refused for their own sake. */
@@ -522,7 +522,12 @@ static void measure_sheet(size_t used, size_t step)
         message_type = (uint8_t)type;
         measure(call_message);
     }
-    counts = (struct testkit_counts){used, UINT64_MAX, UINT64_MAX, UINT64_MAX};
+    counts = (struct testkit_counts){
+        .duplicate_packets = UINT64_MAX,
+        .out_of_order_packets = UINT64_MAX,
+        .gtpu_error_indications = UINT64_MAX,
+        .used = used,
+    };
     measure_report();
     for (sequence = 2; sequence <= 4; sequence += 2) {
         in_length = testkit_build(4, src, dst, 1, 2, sequence, 4, in, sizeof in).bytes;
@@ -573,7 +578,7 @@ int main(void)
     measure_reflector_ends();
     for (size_t k = 0; k < CALLS; k++) {
         const char *before = "; answers ";
-        printf("%-36s %5zu bytes of stack, %5zu said", rows[k].name, rows[k].used, rows[k].said);
+        printf("%-36s %5zu bytes of stack, %5zu in the header", rows[k].name, rows[k].used, rows[k].said);
         for (unsigned number = 0; number < 256; number++) {
             if (rows[k].met[number]) {
                 printf("%s%u", before, number);

@@ -108,7 +108,7 @@
  * three parts alike. From one version to the next, MAJOR rises where a program may have to be changed; otherwise MINOR,
  * where something was added (a call, a number, a field) and a program need only be compiled again; otherwise PATCH.
  */
-#define TESTKIT_VERSION_MAJOR 1
+#define TESTKIT_VERSION_MAJOR 2
 #define TESTKIT_VERSION_MINOR 0
 #define TESTKIT_VERSION_PATCH 0
 #define TESTKIT_VERSION (TESTKIT_VERSION_MAJOR * 65536 + TESTKIT_VERSION_MINOR * 256 + TESTKIT_VERSION_PATCH)
@@ -387,10 +387,10 @@ uint8_t testkit_validate_elements(const uint8_t *payload, size_t payload_length)
 
 /* Beside the columns of a run sheet. Fresh: all 0. A counter that has reached UINT64_MAX stays there. */
 struct testkit_counts {
-    size_t used;                   /* rows in use, from the front */
     uint64_t duplicate_packets;    /* returns after the first of a sequence */
     uint64_t out_of_order_packets; /* first returns below a sequence that had returned */
     uint64_t gtpu_error_indications;
+    size_t used;                   /* rows in use, from the front */
 };
 
 /*
@@ -409,16 +409,16 @@ struct testkit_sheet {
 
 /* 0 or a refusal's number, and the counts for the next call. */
 struct testkit_recorded {
-    uint8_t number;
     struct testkit_counts counts;
+    uint8_t number;
 };
 
 /* As testkit_recorded, and how many returns the list had. Where `number` is not 0 the whole list is refused and
  * `returns` is 0. */
 struct testkit_returns_recorded {
+    struct testkit_counts counts;
     uint8_t number;
     size_t returns;
-    struct testkit_counts counts;
 };
 
 /* What a message was. */
@@ -432,10 +432,10 @@ enum testkit_outcome {
 
 /* As testkit_recorded, and what the message was. */
 struct testkit_datagram_recorded {
+    struct testkit_counts counts;
     uint8_t number;
     uint8_t outcome;      /* enum testkit_outcome */
     uint8_t message_type; /* of an ignored message its type, else 0 */
-    struct testkit_counts counts;
 };
 
 /* What a run may lose, at most. */

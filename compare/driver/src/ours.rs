@@ -25,7 +25,8 @@ unsafe extern "C" {
     fn testkit_echo(tpdu: *const u8, length: usize, out: *mut u8, out_length: usize) -> Written;
 }
 
-/// C's `TestkitWritten`: 0 and how many bytes were written, or the number of a refusal and 0.
+/// C's `struct testkit_written`: 0 and how many bytes were written, or the number of a refusal
+/// and 0.
 #[repr(C)]
 #[derive(Debug, Clone, Copy, PartialEq, Eq)]
 pub struct Written {
@@ -33,7 +34,7 @@ pub struct Written {
     pub bytes: usize,
 }
 
-/// C's `TestkitTpdu`: 0 and the values, or the number of a refusal and zeros.
+/// C's `struct testkit_tpdu`: 0 and the values, or the number of a refusal and zeros.
 #[repr(C)]
 pub struct TestkitTpdu {
     number: u8,

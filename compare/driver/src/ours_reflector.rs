@@ -32,8 +32,8 @@ unsafe extern "C" {
     ) -> Handled;
 }
 
-/// C's `LentSocketAddr`: version 4 is IPv4 and any other IPv6; of an IPv4 address the first 4
-/// bytes count.
+/// C's `struct testkit_socket_addr`: version 4 is IPv4 and any other IPv6; of an IPv4 address the
+/// first 4 bytes count.
 #[repr(C)]
 #[derive(Debug, Clone, Copy, Default, PartialEq, Eq)]
 pub struct Address {
@@ -42,7 +42,7 @@ pub struct Address {
     pub port: u16,
 }
 
-/// C's `ReflectorSession`.
+/// C's `struct testkit_reflector_session`.
 #[repr(C)]
 #[derive(Debug, Clone, Copy, Default, PartialEq, Eq)]
 pub struct Session {
@@ -85,7 +85,7 @@ impl Session {
     }
 }
 
-/// C's `TestkitRegistered`.
+/// C's `struct testkit_registered`.
 #[repr(C)]
 #[derive(Debug, Clone, Copy, Default, PartialEq, Eq)]
 pub struct Registered {
@@ -94,7 +94,7 @@ pub struct Registered {
     pub used: usize,
 }
 
-/// C's `TestkitRemoved`.
+/// C's `struct testkit_removed`.
 #[repr(C)]
 #[derive(Debug, Clone, Copy, Default, PartialEq, Eq)]
 pub struct Removed {
@@ -104,7 +104,7 @@ pub struct Removed {
     pub session: Session,
 }
 
-/// C's `TestkitReflectorConfig`: policy 0 echoes, 1 sinks and counts, any other routes.
+/// C's `struct testkit_reflector_config`: policy 0 echoes, 1 sinks and counts, any other routes.
 #[repr(C)]
 #[derive(Debug, Clone, Copy, Default, PartialEq, Eq)]
 pub struct Config {
@@ -115,7 +115,7 @@ pub struct Config {
     pub target_teid: u32,
 }
 
-/// C's `TestkitReflectorState`.
+/// C's `struct testkit_reflector_state`.
 #[repr(C)]
 #[derive(Debug, Clone, Copy, Default, PartialEq, Eq)]
 pub struct State {
@@ -128,7 +128,8 @@ pub struct State {
     pub next_error_sequence: u16,
 }
 
-/// C's `TestkitGtpuMessage`: a message without its payload, as it came or as it is to be sent.
+/// C's `struct testkit_gtpu_message`: a message without its payload, as it came or as it is to be
+/// sent.
 #[repr(C)]
 #[derive(Debug, Clone, Copy, Default, PartialEq, Eq)]
 pub struct Message {
@@ -138,7 +139,7 @@ pub struct Message {
     pub sequence: u16,
 }
 
-/// C's `TestkitHandled`.
+/// C's `struct testkit_handled`.
 #[repr(C)]
 #[derive(Debug, Clone, Copy, Default, PartialEq, Eq)]
 pub struct Handled {

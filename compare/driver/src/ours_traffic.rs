@@ -117,7 +117,7 @@ pub struct Engine {
     pub next_sequence: u64,
 }
 
-/// C's `TrafficPlan`.
+/// C's `struct testkit_plan`.
 #[repr(C)]
 #[derive(Debug, Clone, Copy)]
 struct Plan {
@@ -126,41 +126,41 @@ struct Plan {
     first_send_timestamp_ns: u64,
 }
 
-/// C's `ObserverCounts`: what stands beside the columns of a run sheet.
+/// C's `struct testkit_counts`: what stands beside the columns of a run sheet.
 #[repr(C)]
 #[derive(Debug, Clone, Copy, Default, PartialEq, Eq)]
 pub struct Counts {
-    pub used: usize,
     pub duplicate_packets: u64,
     pub out_of_order_packets: u64,
     pub gtpu_error_indications: u64,
+    pub used: usize,
 }
 
 /// 0 or the number of a refusal, and the counts afterwards, on refusals too.
 #[repr(C)]
 struct TestkitRecorded {
-    number: u8,
     counts: Counts,
+    number: u8,
 }
 
 /// How many returns a list had, and the number of a refusal of the whole list.
 #[repr(C)]
 struct TestkitReturnsRecorded {
+    counts: Counts,
     number: u8,
     returns: usize,
-    counts: Counts,
 }
 
 /// As `TestkitRecorded`, with what the datagram was.
 #[repr(C)]
 struct TestkitDatagramRecorded {
+    counts: Counts,
     number: u8,
     outcome: u8,
     message_type: u8,
-    counts: Counts,
 }
 
-/// C's `PacketContinuityBudget`.
+/// C's `struct testkit_budget`.
 #[repr(C)]
 #[derive(Debug, Clone, Copy, Default, PartialEq, Eq)]
 pub struct Budget {
@@ -179,7 +179,7 @@ impl From<PacketContinuityBudget> for Budget {
     }
 }
 
-/// C's `TestkitVerdict`: 0 or the reason, the report's number and the budget's.
+/// C's `struct testkit_verdict`: 0 or the reason, the report's number and the budget's.
 #[repr(C)]
 #[derive(Debug, Clone, Copy, Default, PartialEq, Eq)]
 pub struct Verdict {
@@ -188,7 +188,8 @@ pub struct Verdict {
     pub allowed: u64,
 }
 
-/// C's `TestkitContinuityReport`: 0 and the report, or the number of a refusal and nothing but zeros.
+/// C's `struct testkit_continuity_report`: 0 and the report, or the number of a refusal and nothing
+/// but zeros.
 #[repr(C)]
 #[derive(Debug, Clone, Copy, Default, PartialEq, Eq)]
 pub struct Report {
@@ -304,6 +305,22 @@ impl Report {
 }
 
 impl RunSheet {
+    /// How many columns a sheet has.
+    pub const COLUMNS: usize = 4;
+
+    /// A fresh sheet with columns of these lengths, whose cells hold these numbers, column by column.
+    pub fn fresh(lengths: [usize; Self::COLUMNS], mut cell: impl FnMut() -> u64) -> Self {
+        let mut column = |length| (0..length).map(|_| cell()).collect::<Vec<_>>();
+        let [sequences, send_timestamps, latencies, marks] = lengths;
+        Self {
+            sequences: column(sequences),
+            send_timestamps: column(send_timestamps),
+            latencies: column(latencies),
+            marks: column(marks).into_iter().map(|cell| cell as u8).collect(),
+            counts: Counts::default(),
+        }
+    }
+
     pub fn record_sent(&mut self, sequence: u64, send_timestamp_ns: u64) -> Noted {
         // SAFETY: each column is lent with its length for as long as the call runs, and to it
         // alone.

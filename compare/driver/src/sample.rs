@@ -261,17 +261,10 @@ fn draw_elements(random: &mut Random) -> Option<Drawn> {
 }
 
 /// A sheet that holds these contents in columns of `ROWS` cells, and how much of each is lent.
-fn any_sheet(random: &mut Random, contents: &Sheet) -> (RunSheet, [u8; 4]) {
-    let mut column = || -> Vec<u64> { (0..ROWS).map(|_| random.number()).collect() };
-    let dirty = RunSheet {
-        sequences: column(),
-        send_timestamps: column(),
-        latencies: column(),
-        marks: column().into_iter().map(|cell| cell as u8).collect(),
-        counts: Counts::default(),
-    };
+fn any_sheet(random: &mut Random, contents: &Sheet) -> (RunSheet, [u8; RunSheet::COLUMNS]) {
+    let dirty = RunSheet::fresh([ROWS; RunSheet::COLUMNS], || random.number());
     let used = contents.rows.len();
-    let lent = [0; 4].map(|_| (used + random.below(ROWS - used + 1)) as u8);
+    let lent = [0; RunSheet::COLUMNS].map(|_| (used + random.below(ROWS - used + 1)) as u8);
     (holding(&dirty, contents), lent)
 }
 

@@ -14,19 +14,11 @@ pub const MOST_ROWS: usize = 2_048;
 
 /// A fresh sheet of this capacity. Its columns hold anything, and most are longer than need be.
 pub fn fresh(random: &mut Random, capacity: usize) -> RunSheet {
-    let mut lengths = [0; 4].map(|_| capacity + random.length(8));
+    let mut lengths = [0; RunSheet::COLUMNS].map(|_| capacity + random.length(8));
     if capacity < MOST_ROWS {
-        lengths[random.below(4)] = capacity;
+        lengths[random.below(RunSheet::COLUMNS)] = capacity;
     }
-    let [sequences, send_timestamps, latencies, marks] = lengths;
-    let mut column = |length| (0..length).map(|_| random.number()).collect::<Vec<_>>();
-    RunSheet {
-        sequences: column(sequences),
-        send_timestamps: column(send_timestamps),
-        latencies: column(latencies),
-        marks: column(marks).into_iter().map(|cell| cell as u8).collect(),
-        counts: Counts::default(),
-    }
+    RunSheet::fresh(lengths, || random.number())
 }
 
 /// The capacity of a sheet: its shortest column, at most 2,048.

@@ -11,6 +11,7 @@ use std::time::Instant;
 use driver::ours::{self, Values};
 use driver::random::Random;
 use driver::rust_side::measurement::build;
+use driver::speed_traffic::ROUNDS as FEWER_ROUNDS;
 use driver::wild::any_probe_of;
 use opc_dataplane_testkit::measurement::{
     build_measurement_tpdu, decode_measurement_tpdu, echo_tpdu, DecodedTpdu,
@@ -60,8 +61,9 @@ fn main() {
         println!("| {name} | {ours:.1} | {rust:.1} | {:.2} |", ours / rust);
     }
     println!();
-    println!("Medians of {ROUNDS} rounds of {INPUTS} calls. Our output is not cleared first; the");
-    println!("Rust allocates its own.");
+    println!("Medians: of {ROUNDS} rounds of {INPUTS} calls for build, decode and echo, of");
+    println!("{FEWER_ROUNDS} rounds for the rest. Our output is not cleared first; the Rust");
+    println!("allocates its own.");
 }
 
 fn input(random: &mut Random, version: u8) -> Input {

@@ -20,7 +20,7 @@ use crate::ours::Values;
 use crate::ours_traffic::{validate_elements, Counts, Engine, RunSheet};
 use crate::sheets::MOST_ROWS;
 
-const ROUNDS: usize = 201;
+pub const ROUNDS: usize = 201;
 
 /// How often a call is made in a round that is too short to be timed alone.
 const REPEATS: usize = 4_096;
@@ -186,13 +186,7 @@ fn packets(count: usize) -> Vec<GeneratedPacket> {
 }
 
 fn sheet(rows: usize) -> RunSheet {
-    RunSheet {
-        sequences: vec![0; rows],
-        send_timestamps: vec![0; rows],
-        latencies: vec![0; rows],
-        marks: vec![0; rows],
-        counts: Counts::default(),
-    }
+    RunSheet::fresh([rows; RunSheet::COLUMNS], || 0)
 }
 
 /// The medians of both, in nanoseconds.

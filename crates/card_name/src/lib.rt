@@ -1,4 +1,5 @@
-// The names of the card's numbers (docs/CARD.md), printed. `.ci/card` holds them to the list of the crate `error`.
+// The names of the card's numbers (docs/CARD.md), printed. `.ci/card` checks them against the list of the crate
+// `error`.
 
 // The names, in the order of the numbers, from 0; a space ends each.
 const NAMES: [u8; 886] =

@@ -43,8 +43,7 @@ pub record Clipped : Type 0 where
       → Turned (front ++ sent) (front ++ arrived)
   pub ahead : (back sent arrived : List ℕ) → Bytes back → Turned sent arrived → Turned (sent ++ back) (arrived ++ back)
 
--- Every bit that is turned lies in one span, from whatever bit on, of at most 16 bits, which is not 16 equal bits all
--- turned.
+-- All turned bits lie in one span of at most 16 bits. It may start at any bit, and is not 16 equal bits all turned.
 pub record SpanTurned (sent arrived : List ℕ) : Type 0 where
   pub from : ℕ
   pub width : ℕ
@@ -55,7 +54,7 @@ pub record SpanTurned (sent arrived : List ℕ) : Type 0 where
 
 -- What counts as damage, and what does not.
 pub record DamageIs : Type 0 where
-  -- for every list of bytes: what is turned in such a span, and nothing else
+  -- for every list of bytes: damage is what such a span allows, and nothing else
   pub every-span : (sent arrived : List ℕ) → SpanTurned sent arrived → Turned sent arrived
   pub only-spans : (sent arrived : List ℕ) → Turned sent arrived → SpanTurned sent arrived
   -- so: no bit turned

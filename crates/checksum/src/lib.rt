@@ -123,7 +123,7 @@ pub fn verify(bytes: &[u8]) -> bool
 
 // What is proved of the definitions (specs/Claims.antt), on the contracts of functions that do nothing.
 
-// Adding first and folding carries afterwards is RFC 1071's ones' complement sum; and its worked example.
+// Adding first and folding carries afterwards is RFC 1071's ones' complement sum; and two worked examples.
 pub fn sum_is_that_of_rfc_1071()
     ensures { λ _. ⌜ FoldedSum × Examples ⌝ }
 {}

@@ -1,5 +1,4 @@
-// A count that saturates, as by the Rust's `saturating_add(1)`: those of the run sheet (leaf 6) and of the reflector
-// (leaf 9).
+// Counts that saturate, as with the Rust's `saturating_add(1)`: the run sheet's (leaf 6) and the reflector's (leaf 9).
 ghost use mathlib.Core.Path.{_≡_};
 ghost use Rattle.counter.specs.Counter.{oneMore};
 

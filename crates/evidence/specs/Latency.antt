@@ -10,7 +10,7 @@ abbrev pub latencyMeans : Latency → Option LatencySummary
 latencyMeans Absent = none
 latencyMeans (Summary s) = some s
 
--- The case that means it.
+-- The case of the enum for a summary, or for none.
 abbrev pub latencyFor : Option LatencySummary → Latency
 latencyFor none = Absent
 latencyFor (some s) = Summary s

@@ -1,4 +1,4 @@
--- Fields of a packet: numbers in bytes. Document 01: "Integers in packets are big-endian."
+-- Fields of a packet: values in bytes. Document 01: "Integers in packets are big-endian."
 use Prim.Native.Nat.{ℕ, zero, suc, _+_, _*_, _/_, _%_, _^_, _<_}
 use mathlib.Core.List.{List, [], _∷_}
 use mathlib.Core.Bool.{Bool, true, false, _&&_}
@@ -17,12 +17,12 @@ sameBytes [] (y ∷ ys) = false
 sameBytes (x ∷ xs) [] = false
 sameBytes (x ∷ xs) (y ∷ ys) = eqb x y && sameBytes xs ys
 
--- A number in a field of `width` bytes, the most significant first.
+-- A value as a field of `width` bytes, the most significant first.
 abbrev pub bigEndian : ℕ → ℕ → List ℕ
 bigEndian zero x = []
 bigEndian (suc width) x = x / 256 ^ width % 256 ∷ bigEndian width x
 
--- The number that bytes hold, the most significant first.
+-- The value of bytes, the most significant first.
 abbrev pub valueOf : List ℕ → ℕ
 valueOf [] = 0
 valueOf (b ∷ l) = b * 256 ^ length l + valueOf l
@@ -33,6 +33,6 @@ abbrev pub bytesAt : ℕ → ℕ → List ℕ → List ℕ
 bytesAt zero at l = []
 bytesAt (suc width) at l = getD l at 0 ∷ bytesAt width (suc at) l
 
--- The number in the field of `width` bytes at a place.
+-- The value of the field of `width` bytes at a place.
 abbrev pub field : ℕ → ℕ → List ℕ → ℕ
 field width at l = valueOf (bytesAt width at l)

@@ -1,5 +1,5 @@
-// The two bytes of a 16-bit big-endian field, and the number in four. The wider fields are defined and proved in specs/
-// and proofs/, over the width.
+// The bytes and the value of a 16-bit big-endian field, and the value of a 32-bit one. Wider fields are defined and
+// proved in specs/ and proofs/, over any width.
 ghost use mathlib.Core.Path.{_≡_};
 ghost use Prim.Native.Nat.{_+_, _*_, _/_, _%_, _^_, _<_};
 
@@ -31,7 +31,7 @@ pub fn low(x: u16) -> u8
     (x % 256) as u8
 }
 
-// The number of four bytes, the highest first.
+// The value of four bytes, the highest first.
 pub fn double_word(a: u8, b: u8, c: u8, d: u8) -> u32
     ensures { λ r. ⌜ r ≡ a * 16777216 + b * 65536 + c * 256 + d ⌝ }
 {

@@ -11,21 +11,21 @@ use Rattle.gtpu.specs.declared.ElementsChecked.the-variants as checked
 use Rattle.gtpu.specs.declared.JudgedElement.{JudgedElement}
 use Rattle.gtpu.specs.declared.JudgedElement.the-variants as judged
 
--- of a whole payload
+-- What the answer about a whole payload means.
 abbrev pub means : ElementsChecked → Outcome (Unit {0})
 means checked.Accepted = gives tt
 means (checked.Refused number) = refused number
 
--- of one element: its size
+-- What the answer about one element means: its size, or a refusal.
 abbrev pub judgedMeans : JudgedElement → Outcome ℕ
 judgedMeans (judged.Refused number) = refused number
 judgedMeans (judged.Size size) = gives size
 
--- of a list, by a number: 0, or a refusal's
+-- What a number says about a list: 0 accepts it, every other number refuses it.
 abbrev pub numbered : ℕ → Outcome (Unit {0})
 numbered number = elim (eqb number 0) [ true ↦ gives tt | false ↦ refused number ]
 
--- That a walk is to go on is a number too: 128, and 1 more where a TEID Data I was seen, and 2 more where a GTP-U Peer
+-- A walk that is to go on answers with a number too: 128, plus 1 if a TEID Data I was seen, plus 2 if a GTP-U Peer
 -- Address was.
 abbrev pub goOn : Bool → Bool → ℕ
 goOn hasTeidData hasPeerAddress =
@@ -37,7 +37,7 @@ teidDataSeen number = eqb (number % 2) 1
 abbrev pub peerAddressSeen : ℕ → Bool
 peerAddressSeen number = eqb (number / 2 % 2) 1
 
--- of a walk over a list: where it is to go on, what is left of the list decides
+-- What the answer of a walk over a list means: if the walk is to go on, the rest of the list decides.
 unfoldable pub walkedMeans : ℕ → ℕ → List ℕ → Outcome (Unit {0})
 walkedMeans number left list =
     elim (ltb number 128) [
@@ -45,6 +45,6 @@ walkedMeans number left list =
       | false ↦ elementsFrom (teidDataSeen number) (peerAddressSeen number) (drop (length list - left) list)
     ]
 
--- A walk that is to go on has something left, has made every call that it might, and each took at least one byte.
+-- A walk that is to go on has bytes left and has made all its calls, each of which took at least one byte.
 abbrev pub Advanced : ℕ → ℕ → ℕ → List ℕ → Type 0
 Advanced number left calls list = 128 ≤ number → (0 < left) × (left + calls ≤ length list)

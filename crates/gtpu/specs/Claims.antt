@@ -21,7 +21,7 @@ SameRule = (hasTeidData hasPeerAddress : Bool) (ieType : ℕ) (l : List ℕ) →
     (elementsFrom (hasTeidData || isTeidDataI ieType) (hasPeerAddress || isPeerAddress ieType)
     (drop (elementSize list) list))
 
--- "At the end: 28, then 29.": the same.
+-- "At the end: 28, then 29.": also without the number that bounds the recursion.
 unfoldable pub EndRule : Type 0
 EndRule = (hasTeidData hasPeerAddress : Bool)
     → elementsFrom hasTeidData hasPeerAddress [] ≡ endOf hasTeidData hasPeerAddress

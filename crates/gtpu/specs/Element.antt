@@ -9,7 +9,7 @@ use Rattle.error.specs.Number.{missingTeidDataI, missingPeerAddress}
 use Rattle.error.specs.Outcome.{Outcome, gives, Cause, _⇒_, firstCause}
 use Rattle.field.specs.Field.{field}
 
--- Of the element at the front of a list: its type, one byte.
+-- The type of the element at the front of a list: one byte.
 abbrev pub elementType : List ℕ → ℕ
 elementType list = getD list 0 0
 
@@ -33,7 +33,7 @@ elementSize list = elim (isTeidDataI (elementType list)) [ true ↦ 1 + 4 | fals
 abbrev pub unsupportedType : ℕ → Bool
 unsupportedType ieType = ltb ieType 128 && not (isTeidDataI ieType)
 
--- "133 must have length 4 or 16": it has another.
+-- "133 must have length 4 or 16": whether this is a 133 with another length.
 abbrev pub otherLength : ℕ → ℕ → Bool
 otherLength ieType octets = isPeerAddress ieType && not (eqb octets 4 || eqb octets 16)
 
@@ -76,7 +76,7 @@ walk (suc bound) hasTeidData hasPeerAddress (ieType ∷ l) =
     (walk bound (hasTeidData || isTeidDataI ieType) (hasPeerAddress || isPeerAddress ieType)
     (drop (elementSize list) list))
 
--- A list, where these elements have been seen before it.
+-- A list of elements, by which of the two required ones were seen before it.
 unfoldable pub elementsFrom : Bool → Bool → List ℕ → Outcome (Unit {0})
 elementsFrom hasTeidData hasPeerAddress list = walk (length list) hasTeidData hasPeerAddress list
 

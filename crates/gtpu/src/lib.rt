@@ -116,7 +116,7 @@ fn judge_element(list: &[u8]) -> JudgedElement
     }
 }
 
-// The end of the list, 0 or a refusal's number: no TEID Data I, then no GTP-U Peer Address.
+// Judges the end of a list: refused if no TEID Data I was seen, then if no GTP-U Peer Address was; else 0.
 fn judge_end(has_teid_data: bool, has_peer_address: bool) -> u8
     ensures { λ r. ⌜ (numbered r ≡ endOf «has_teid_data» «has_peer_address») × (r < 128) ⌝ }
 {
@@ -129,7 +129,7 @@ fn judge_end(has_teid_data: bool, has_peer_address: bool) -> u8
     0
 }
 
-// That a walk is to go on, and which of the two required elements it has seen.
+// The answer of a walk that is to go on: GO_ON, plus which of the two required elements it has seen.
 fn go_on(has_teid_data: bool, has_peer_address: bool) -> u8
     ensures { λ r. ⌜ r ≡ goOn «has_teid_data» «has_peer_address» ⌝ }
 {

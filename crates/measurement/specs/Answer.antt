@@ -14,7 +14,7 @@ use Rattle.measurement.specs.declared.IpVersion.the-variants.{V4}
 use Rattle.measurement.specs.declared.Written.{Written}
 use Rattle.measurement.specs.declared.Written.the-variants as written
 
--- The values beside a refusal: all zeros. "A refusal returns its number and nothing else."
+-- The values beside a refusal: version 4 and zeros. "A refusal returns its number and nothing else."
 abbrev pub noTpdu : DecodedTpdu
 noTpdu = record {
   flow = record { version = V4; src = replicate 16 0; dst = replicate 16 0; «src_port» = 0; «dst_port» = 0 };
@@ -41,8 +41,8 @@ pub record Writing : Type 0 where
   pub outcome : Outcome ℕ
   pub buffer : List ℕ
 
--- Bytes at the front of a buffer. "On success, output bytes past the answer keep their contents"; 15 where the buffer
--- is too short, which then keeps all its contents.
+-- Writes bytes at the front of a buffer. "On success, output bytes past the answer keep their contents". A buffer that
+-- is too short gives 15 and keeps all its contents.
 unfoldable pub writing : List ℕ → List ℕ → Writing
 writing bytes buffer =
     elim (ltb (length buffer) (length bytes)) [

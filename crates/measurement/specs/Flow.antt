@@ -10,8 +10,8 @@ use Rattle.measurement.specs.declared.InnerIpFlow.{InnerIpFlow}
 use Rattle.measurement.specs.declared.IpVersion.{IpVersion}
 use Rattle.measurement.specs.declared.IpVersion.the-variants.{V4, V6}
 
--- A version as a number: 4 stands for IPv4, and every other number for IPv6. The card has no number for a third
--- version.
+-- The version that a number stands for: 4 for IPv4, every other number for IPv6. The card has no number for a flow or
+-- an address of a third version (2 is for a T-PDU).
 unfoldable pub versionNumbered : ℕ → IpVersion
 versionNumbered n = elim (eqb n 4) [ true ↦ V4 | false ↦ V6 ]
 

@@ -5,7 +5,7 @@ use Rattle.field.specs.Field.{bigEndian}
 use Rattle.measurement.specs.declared.IpVersion.{IpVersion}
 use Rattle.measurement.specs.declared.IpVersion.the-variants.{V4, V6}
 
--- The protocol number of UDP (RFC 768, "Protocol Application").
+-- The protocol number of UDP (RFC 768, "Protocol Number").
 abbrev pub udpProtocol : ℕ
 udpProtocol = 17
 

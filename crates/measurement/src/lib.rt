@@ -22,7 +22,8 @@ pub enum IpVersion {
     V6,
 }
 
-// The version that a number stands for: 4 is IPv4, every other number IPv6. The card has no number for a third.
+// The version that a number stands for: 4 is IPv4, every other number IPv6. The card has no number for a flow or an
+// address of a third version (2 is for a T-PDU).
 pub fn version_of(number: u8) -> IpVersion
     ensures { λ r. ⌜ r ≡ versionNumbered number ⌝ }
 {
@@ -123,7 +124,7 @@ pub enum Decoding {
     Refused(u8),
 }
 
-// The reader's answer. The flow has arrays, so it stands beside the enum, and is all zeros beside a refusal.
+// The reader's answer. The flow has arrays, so it stands beside the enum; beside a refusal it is version 4 and zeros.
 pub struct DecodeResult {
     pub decoding: Decoding,
     pub tpdu: DecodedTpdu,

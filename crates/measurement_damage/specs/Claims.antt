@@ -31,12 +31,12 @@ abbrev pub ReadsBack : Type 0
 ReadsBack = (flow : InnerIpFlow) (sequence time : ℕ) → InRange flow sequence time → (behind : List ℕ)
     → readOf (buildOf flow sequence time ++ behind) ≡ gives (tpduBuilt flow sequence time)
 
--- Its echo is the build of the reversed flow,
+-- The echo of a built packet is the build of the reversed flow.
 abbrev pub EchoIsReversed : Type 0
 EchoIsReversed = (flow : InnerIpFlow) (sequence time : ℕ) → InRange flow sequence time → (behind : List ℕ)
     → echoOf (buildOf flow sequence time ++ behind) ≡ gives (buildOf (reversedOf flow) sequence time)
 
--- and the echo of its echo is the first packet.
+-- The echo of a built packet's echo is that packet again.
 abbrev pub EchoOfEcho : Type 0
 EchoOfEcho = (flow : InnerIpFlow) (sequence time : ℕ) → InRange flow sequence time
     → (echo : List ℕ) → echoOf (buildOf flow sequence time) ≡ gives echo
@@ -59,13 +59,13 @@ abbrev pub RefusesOr : {A : Type 0} → Outcome A → Outcome A → Type 0
 RefusesOr (refused n) expected = Unit {0}
 RefusesOr (gives x) expected = gives x ≡ expected
 
--- Demand 3, first sentence, on one leg, whatever one span of bits turned.
+-- Demand 3, first sentence, for one leg on which one span of bits may turn.
 pub record DamageOfOneLeg (began : DecodedTpdu) (sent arrived : List ℕ) : Type 0 where
   -- "reading refuses or gives the flow, sequence and time that the leg began with"
   pub reading : RefusesOr (readOf arrived) (gives began)
   -- "echoing refuses or gives the echo of the undamaged T-PDU, byte for byte"
   pub echoing : RefusesOr (echoOf arrived) (echoOf sent)
-  -- which is the build of the reversed flow, with that sequence and time
+  -- the echo of the undamaged T-PDU is the build of the reversed flow, with that sequence and time
   pub undamaged-echo : echoOf sent ≡ gives (buildOf (reversedOf (began .flow))
       (began .measurement .sequence) (began .measurement .«send_timestamp_ns»))
 
@@ -77,8 +77,8 @@ DamageFound = (began : DecodedTpdu) (sent arrived : List ℕ) → Sent began sen
 abbrev pub SentIsRead : Type 0
 SentIsRead = (began : DecodedTpdu) (sent : List ℕ) → Sent began sent → readOf sent ≡ gives began
 
--- A T-PDU on its way, echoed n times: each leg, from building or echoing to the next echoing or to the arrival, is
--- damaged, and no echo is refused.
+-- A T-PDU on its way, echoed n times. On each leg, from building or echoing to the next echoing or to the arrival, one
+-- span of bits may turn; no echo is refused.
 pub data Travelled : List ℕ → ℕ → List ℕ → Type 0 where
   arrives : {sent arrived : List ℕ} → Turned sent arrived → Travelled sent 0 arrived
   echoes : {sent at-echo echo arrived : List ℕ} {n : ℕ} → Turned sent at-echo → echoOf at-echo ≡ gives echo
@@ -94,8 +94,8 @@ abbrev pub reversals : ℕ → DecodedTpdu → DecodedTpdu
 reversals zero began = began
 reversals (suc n) began = reversals n (reversedTpdu began)
 
--- The legs chained: what arrives is the undamaged T-PDU, echoed as often, with one span turned; and its last leg began
--- with the first one's flow, reversed as often, and with its sequence and time.
+-- The legs chained: what arrives is the undamaged T-PDU, echoed as often, with at most one span turned; and its last
+-- leg began with the first one's flow, reversed as often, and with its sequence and time.
 pub record Arrival (began : DecodedTpdu) (sent arrived : List ℕ) (n : ℕ) : Type 0 where
   pub whole : List ℕ
   pub echoed : echoesOf n sent ≡ gives whole

@@ -8,7 +8,7 @@ pub fn built_packet_reads_back()
     ensures { λ _. ⌜ ReadsBack ⌝ }
 {}
 
-// Its echo is the build of the reversed flow, and the echo of its echo is the first packet.
+// The echo of a built packet is the build of the reversed flow, and the echo of that echo is the packet itself.
 pub fn echo_is_reversed()
     ensures { λ _. ⌜ EchoIsReversed × EchoOfEcho ⌝ }
 {}
@@ -18,8 +18,8 @@ pub fn damage_is_found()
     ensures { λ _. ⌜ DamageFound × SentIsRead ⌝ }
 {}
 
-// Over any number of echoes, each leg damaged: what arrives is the undamaged T-PDU, echoed as often, with one span
-// turned.
+// Over any number of echoes, with one span that may turn on each leg: what arrives is the undamaged T-PDU, echoed as
+// often, with at most one span turned.
 pub fn legs_are_chained()
     ensures { λ _. ⌜ LegsChained ⌝ }
 {}

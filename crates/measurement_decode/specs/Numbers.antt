@@ -8,7 +8,7 @@ use Rattle.measurement.specs.declared.Decoding.the-variants as decoding
 use Rattle.measurement.specs.declared.IpVersion.the-variants.{V4}
 use Rattle.measurement_decode.specs.declared.TpduNumbers.{TpduNumbers}
 
--- 0 and the values, or the refusal's number, and zeros beside version 4.
+-- 0 and the values; or the refusal's number, with zeros beside version 4.
 unfoldable pub tpduNumbers : Outcome DecodedTpdu → TpduNumbers
 tpduNumbers (refused n) = record {
   sequence = 0;
@@ -27,7 +27,7 @@ tpduNumbers (gives t) = record {
   «dst_port» = t .flow .«dst_port»;
 }
 
--- "Left as it was: all": an address that was read, or what was lent where reading refuses.
+-- The address that was read; where reading refuses, what was lent: "Left as it was: all".
 unfoldable pub sourceLeft : Outcome DecodedTpdu → List ℕ → List ℕ
 sourceLeft (refused n) lent = lent
 sourceLeft (gives t) lent = t .flow .src

@@ -21,7 +21,7 @@ pub record Addresses (v : IpVersion) (src dst : List ℕ) (sum : ℕ) : Type 0 w
   pub destination : length dst ≡ addressLength v
   pub folds : (n : ℕ) → foldOf (n + sum) ≡ foldOf (n + (sumOf src + sumOf dst))
 
--- A part that nothing refuses: it has a whole probe.
+-- A part whose UDP length is right and whose payload has a whole probe.
 pub record HasProbe (udp : List ℕ) : Type 0 where
   pub right : lengthWrong udp ≡ false
   pub long : 24 ≤ length (payload udp)

@@ -37,7 +37,7 @@ pub struct TpduNumbers {
     pub dst_port: u16,
 }
 
-// The number in the 2 bytes from `at` on.
+// The value of the 2 bytes from `at` on.
 fn read_u16(bytes: &[u8], at: usize) -> u16
     requires { ⌜ (at < 256) × (at + 2 ≤ length (now bytes)) ⌝ }
     ensures { λ r. ⌜ r ≡ field 2 at (now (bytes .entry)) ⌝ }
@@ -45,7 +45,7 @@ fn read_u16(bytes: &[u8], at: usize) -> u16
     field::word(bytes[at], bytes[at + 1])
 }
 
-// The number in the 8 bytes from `at` on, as two halves: the compiler turns these into one load.
+// The value of the 8 bytes from `at` on, as two halves: the compiler turns these into one load.
 fn read_u64(bytes: &[u8], at: usize) -> u64
     requires { ⌜ (at < 256) × (at + 8 ≤ length (now bytes)) ⌝ }
     ensures { λ r. ⌜ r ≡ field 8 at (now (bytes .entry)) ⌝ }
@@ -94,8 +94,8 @@ fn ipv6_address_sum(address: &[u8]) -> u64
         + (field::double_word(address[12], address[13], address[14], address[15]) as u64)
 }
 
-// Whether the sum over the pseudo-header and the part is wrong. `addresses` folds to the same
-// as the words of both addresses.
+// Whether the sum over the pseudo-header and the part is wrong. `addresses` folds to the same as the words of both
+// addresses.
 fn sum_wrong(addresses: u64, udp: &[u8]) -> bool
     requires { ⌜ (addresses < 2 ^ 35) × (length (now udp) < 65536) ⌝ }
     ensures { λ r. ⌜ ((v : IpVersion) (src dst : List ℕ) → Addresses v src dst addresses → r

@@ -51,9 +51,9 @@ fn write_from_block(
     copy_out(built, &block, out)
 }
 
-// The same for IPv4, from parts: of each array only the four bytes of the address are read, as they were stored. A flow
-// would be copied by wider loads, which wait for those stores. With the length known, the compiler keeps the block in
-// registers.
+// `write_from_block` for IPv4, from parts. Only the four bytes of the address are read from each array, in the width in
+// which they were stored; a flow would be copied by wider loads, which wait for those stores. With the length known,
+// the compiler keeps the block in registers.
 fn write_ipv4_from_block(
     src: [u8; 16],
     dst: [u8; 16],

@@ -1,4 +1,4 @@
--- The code's values in these terms: what the lent columns and the counts make, and what each case of an answer means.
+-- What the code's values mean: the observer that lent columns and counts form, and each case of an answer.
 use Prim.Native.Nat.{ℕ}
 use mathlib.Core.Path.{_≡_}
 use Rattle.error.specs.Number.{malformedObserver, observerFull, sequenceWasNotSent, timestampReversed}

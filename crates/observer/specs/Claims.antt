@@ -65,7 +65,7 @@ pub record NewSequence (o : Observer) (q t : ℕ) : Type 0 where
 abbrev pub FullOnlyWhenFull : Type 0
 FullOnlyWhenFull = (o : Observer) (q t : ℕ) → wellFormed o ≡ true → wasSent q (rows o) ≡ false → NewSequence o q t
 
--- "The right one has 2,048 rows, and says full at row 2,049, no sooner": with columns of 2,048 entries or more.
+-- With columns of 2,048 entries or more, a sheet has 2,048 rows, and says full at row 2,049, no sooner.
 pub record Holds2048 (o : Observer) (q t : ℕ) : Type 0 where
   pub up-to-2048 : o .counts .used < 2048 → recordSent o q t .outcome ≡ gives tt
   pub not-2049 : o .counts .used ≡ 2048 → recordSent o q t .outcome ≡ refused observerFull

@@ -38,8 +38,8 @@ step o (gives next) = record { outcome = gives tt; observer = next }
 abbrev pub refusing : Observer → ℕ → Step
 refusing o n = step o (judged o (refused n))
 
--- A call whose input is read first, which changes nothing. "A return is judged 21, 1 to 14, 23, 24": 21 comes before a
--- refusal of the reader, and the rest is the call's.
+-- A call that first reads its input; reading changes nothing. "A return is judged 21, 1 to 14, 23, 24": 21 comes before
+-- the reader's refusal, and the call judges the rest.
 abbrev pub afterReading : {A : Type 0} → Observer → Outcome A → (A → Step) → Step
 afterReading o (refused n) call = refusing o n
 afterReading o (gives x) call = call x

@@ -1,4 +1,4 @@
--- The observer: document 01's run sheet. What it is, what makes it malformed, and what each call makes of it.
+-- The observer: document 01's run sheet. What it is, what makes it malformed, and how each call changes it.
 pub mod Counts
 pub mod Observer
 pub mod Judge

@@ -24,7 +24,8 @@ highestMarked [] = 0
 highestMarked (r ∷ rs) =
     elim (eqb (r .mark) 1) [ true ↦ max (r .sequence) (highestMarked rs) | false ↦ highestMarked rs ]
 
--- Some row of a higher sequence is marked: the same on every list of rows (specs/Claims.antt).
+-- Some row of a higher sequence is marked. On every list of rows this is "below the highest marked sequence"
+-- (specs/Claims.antt).
 abbrev pub markedAbove : ℕ → List Row → Bool
 markedAbove q [] = false
 markedAbove q (r ∷ rs) = (eqb (r .mark) 1 && ltb q (r .sequence)) || markedAbove q rs

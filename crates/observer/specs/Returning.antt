@@ -1,5 +1,5 @@
--- Returns and error indications: document 01, leaf 6. A return is that of a sequence here: a T-PDU is read, and the
--- elements of a message are walked, first, and what is refused there is not recorded (`afterReading`).
+-- Returns and error indications: document 01, leaf 6. Here a return is a sequence and a time. The calls first read the
+-- T-PDU, or walk the elements of the message, and record nothing if that refuses (`afterReading`).
 use Prim.Native.Nat.{ℕ, _-_}
 use mathlib.Core.List.{List, [], _∷_}
 use mathlib.Core.Bool.{true, false, not}

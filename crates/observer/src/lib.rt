@@ -1,75 +1,62 @@
 // The observer: document 01's run sheet (leaf 6; `ContinuityObserver` of the Rust's traffic.rs). The Rust's maps are
-// columns here, lent by the caller and sorted by sequence; the used count and the counters go in by value and come
-// back beside the answer. Each call judges the columns first (21); what it then does to a row is the crate `rows`.
-// What a call makes of an observer is defined in specs/, and its contract is that one equation (`records`): answer,
-// counts and every column at exit, on refusals too. The crates above have the calls for returns and for whole plans.
+// columns here, lent by the caller and sorted by sequence; the used count and the counters go in by value and come back
+// beside the answer. Each call judges the columns first (21); the crate `rows` then changes the row. specs/ defines
+// what a call answers and leaves, and its contract is that one equation (`records`): answer, counts and every column at
+// exit, on refusals too. The crates above have the calls for returns and for whole plans.
 ghost use mathlib.Core.Path.{_≡_};
 ghost use Rattle.error.specs.Outcome.{outcomeNumber};
 ghost use Rattle.rows.specs.Columns.{sheet};
 ghost use Rattle.observer.specs.Counts.{oneDuplicate, oneOutOfOrder, oneErrorIndication, withUsed};
 ghost use Rattle.observer.specs.Judge.{wellFormed};
 ghost use Rattle.observer.specs.Sending.{recordSent};
-ghost use Rattle.observer.specs.Claims.{PutBack, FreshIsWell, CallsKeepWell, SearchFinds, FullOnlyWhenFull, FullAtRow2049, SentAgain, BelowHighestMarked};
-ghost use Rattle.observer.specs.Answer.{recordingMeans, acceptance, refusal, afterEntry, afterArrival, lent, records};
+ghost use Rattle.observer.specs.Claims.{PutBack, FreshIsWell, CallsKeepWell, SearchFinds, FullOnlyWhenFull};
+ghost use Rattle.observer.specs.Claims.{FullAtRow2049, SentAgain, BelowHighestMarked};
+ghost use Rattle.observer.specs.Answer.{recordingMeans, acceptance, refusal, afterEntry, afterArrival, lent};
+ghost use Rattle.observer.specs.Answer.{records};
 use rows::Arrival;
 use rows::Entry;
 
-// What stands beside the columns. Fresh: all 0.
+// What stands beside the columns. Fresh: all 0. The used count is last, and the counts are first in each answer: copies
+// then go along the pairs of numbers that were stored, and no load waits for two stores.
 #[repr(C)]
 pub struct ObserverCounts {
-    // Rows in use, from the front.
-    pub used: usize,
     // Returns of a sequence that had returned before.
     pub duplicate_packets: u64,
     // First returns of a sequence below one that had returned before.
     pub out_of_order_packets: u64,
     // Error Indications on the return path.
     pub gtpu_error_indications: u64,
+    // Rows in use, from the front.
+    pub used: usize,
 }
 
 impl ObserverCounts {
-    fn with_used(self, used: usize) -> Self
+    fn with_used(mut self, used: usize) -> Self
         ensures { λ r. ⌜ r ≡ withUsed used self ⌝ }
     {
-        Self {
-            used: used,
-            duplicate_packets: self.duplicate_packets,
-            out_of_order_packets: self.out_of_order_packets,
-            gtpu_error_indications: self.gtpu_error_indications,
-        }
+        self.used = used;
+        self
     }
 
-    fn one_duplicate(self) -> Self
+    fn one_duplicate(mut self) -> Self
         ensures { λ r. ⌜ r ≡ oneDuplicate self ⌝ }
     {
-        Self {
-            used: self.used,
-            duplicate_packets: counter::one_more(self.duplicate_packets),
-            out_of_order_packets: self.out_of_order_packets,
-            gtpu_error_indications: self.gtpu_error_indications,
-        }
+        self.duplicate_packets = counter::one_more(self.duplicate_packets);
+        self
     }
 
-    fn one_out_of_order(self) -> Self
+    fn one_out_of_order(mut self) -> Self
         ensures { λ r. ⌜ r ≡ oneOutOfOrder self ⌝ }
     {
-        Self {
-            used: self.used,
-            duplicate_packets: self.duplicate_packets,
-            out_of_order_packets: counter::one_more(self.out_of_order_packets),
-            gtpu_error_indications: self.gtpu_error_indications,
-        }
+        self.out_of_order_packets = counter::one_more(self.out_of_order_packets);
+        self
     }
 
-    fn one_error_indication(self) -> Self
+    fn one_error_indication(mut self) -> Self
         ensures { λ r. ⌜ r ≡ oneErrorIndication self ⌝ }
     {
-        Self {
-            used: self.used,
-            duplicate_packets: self.duplicate_packets,
-            out_of_order_packets: self.out_of_order_packets,
-            gtpu_error_indications: counter::one_more(self.gtpu_error_indications),
-        }
+        self.gtpu_error_indications = counter::one_more(self.gtpu_error_indications);
+        self
     }
 
     // The answer of a call that was taken, with these counts.
@@ -77,8 +64,8 @@ impl ObserverCounts {
         ensures { λ r. ⌜ r ≡ acceptance self ⌝ }
     {
         Recorded {
-            answer: Recording::Accepted,
             counts: self,
+            answer: Recording::Accepted,
         }
     }
 
@@ -87,8 +74,8 @@ impl ObserverCounts {
         ensures { λ r. ⌜ r ≡ refusal number self ⌝ }
     {
         Recorded {
-            answer: Recording::Refused(number),
             counts: self,
+            answer: Recording::Refused(number),
         }
     }
 
@@ -133,8 +120,8 @@ pub enum Recording {
 
 // What a call answers, and the counts as it leaves them.
 pub struct Recorded {
-    pub answer: Recording,
     pub counts: ObserverCounts,
+    pub answer: Recording,
 }
 
 // The number of an answer: 0, or the refusal's.
@@ -204,7 +191,8 @@ pub fn calls_keep_well_formed()
     ensures { λ _. ⌜ PutBack × FreshIsWell × CallsKeepWell ⌝ }
 {}
 
-// Carries that 22 is said at row 2,049 and no sooner, and never of a sequence that is on the sheet.
+// Carries that 22 is said exactly when no row is free (with columns of 2,048 entries or more, at row 2,049), and never
+// of a sequence that is on the sheet.
 pub fn full_at_row_2049()
     ensures { λ _. ⌜ FullOnlyWhenFull × FullAtRow2049 × SentAgain ⌝ }
 {}

@@ -89,8 +89,9 @@ abbrev pub planOf : ℕ → ℕ → ℕ → TrafficPlan
 planOf count rate first =
     record { «packet_count» = count; «target_rate_pps» = rate; «first_send_timestamp_ns» = first }
 
--- A plan of no packets is accepted whatever the next sequence is; one of 2,048 at the highest rate from the start; and
--- one that ends just below the tops.
+-- Accepted: a plan of no packets, whatever the next sequence is; 2,048 packets at the highest rate, from sequence 0 and
+-- time 0; and a plan that ends one below the top sequence and at the top time. Refused at packet 1: by 19 where both
+-- would pass their tops, by 20 where only the time would.
 pub record Examples : Type 0 where
   pub empty : (next first : ℕ) → judgePlan (planOf 0 1 first) next ≡ record { outcome = gives []; next = next }
   pub longest : let plan : TrafficPlan = planOf 2048 1000000000 0 in judgePlan plan 0 ≡ accepted plan 0

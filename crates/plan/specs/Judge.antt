@@ -8,7 +8,7 @@ use Rattle.plan.specs.Plan.{top, interval, intervalMeans, timeAt, Judged
 use Rattle.plan.specs.declared.JudgedPlan.{JudgedPlan}
 use Rattle.plan.specs.declared.TrafficPlan.{TrafficPlan}
 
--- What is answered of a judgement: of an accepted plan its interval.
+-- What the code answers to a judgement: for an accepted plan, its interval.
 abbrev pub intervalJudged : TrafficPlan → Outcome (List MeasurementHeader) → Outcome ℕ
 intervalJudged plan (refused n) = refused n
 intervalJudged plan (gives packets) = gives (interval (plan .«target_rate_pps»))

@@ -114,8 +114,8 @@ pub fn accepted_exactly_if_acceptable()
     ensures { λ _. ⌜ AcceptedIfAcceptable × AcceptableIfAccepted × PacketsOrdered ⌝ }
 {}
 
-// Carries that the rate decides before the count, and the count before the packets; that of these the lowest that fails
-// decides, by its sequence before its time; and that no other number refuses a plan.
+// Carries that the rate decides before the count, and the count before the packets; that the lowest packet that fails
+// decides, its sequence before its time; and that only 16 to 20 refuse a plan.
 pub fn lowest_failing_packet_decides()
     ensures { λ _. ⌜ RateThenCount × SequenceDecides × TimeDecides × PlanNumbers ⌝ }
 {}

@@ -10,7 +10,7 @@ pub const LOST: u8 = 3;
 
 pub const ERROR_INDICATION: u8 = 4;
 
-// A return was refused: this and the card's number.
+// A return was refused: this plus the card's number.
 const REFUSED: u8 = 64;
 
 // The fate of a probe whose return was refused by a number.
@@ -32,7 +32,7 @@ fn note_fate(fates: &mut [u8], row: usize, fate: u8) {
     }
 }
 
-// One more refusal by a number; by none, 0, nothing.
+// Counts one more refusal by this number. 0 is no refusal, and is not counted.
 fn count_refusal(refusals: &mut [u64], number: usize) {
     if 0 < number && number < refusals.len() {
         refusals[number] = std::num::wrapping_add_u64(refusals[number], 1);

@@ -1,6 +1,6 @@
-// A list of T-PDUs that came back, taken in one call: 21 is judged, and then each is read and recorded. The Rust has
-// no such call: after 21 it is the single calls in turn (specs/Received.antt). Each number that decides about a return
-// is the reader's; no caller can pass one in.
+// A list of T-PDUs that came back, taken in one call: 21 is judged, and then each is read and recorded. The Rust has no
+// such call: after 21 it is the single calls in turn (specs/Received.antt). The call reads each T-PDU itself: no caller
+// can pass in a number or a sequence in the reader's place.
 use observer::ObserverCounts;
 ghost use mathlib.Core.Path.{_≡_};
 ghost use Prim.Native.Nat.{_+_, _≤_, min};
@@ -15,11 +15,11 @@ pub enum ReturnsRecording {
 
 // What a list of returns answers, and the counts as it leaves them.
 pub struct ReturnsRecorded {
-    pub answer: ReturnsRecording,
     pub counts: ObserverCounts,
+    pub answer: ReturnsRecording,
 }
 
-// Where a T-PDU of this length ends that starts at `at`: not past the end of the bytes.
+// Where a T-PDU of this length that starts at `at` ends: not past the end of the bytes.
 fn tpdu_end(at: usize, length: usize, bytes: usize) -> usize
     requires { ⌜ at ≤ bytes ⌝ }
     ensures { λ r. ⌜ r ≡ min (at + length) bytes ⌝ }
@@ -52,8 +52,8 @@ pub fn record_received_tpdus(
 {
     if !observer::well_formed(sequences, send_timestamps, latencies, marks, counts) {
         return ReturnsRecorded {
-            answer: ReturnsRecording::Refused(error::MALFORMED_OBSERVER),
             counts: counts,
+            answer: ReturnsRecording::Refused(error::MALFORMED_OBSERVER),
         };
     }
     let room = columns::least(returned.len(), numbers.len());
@@ -86,7 +86,7 @@ pub fn record_received_tpdus(
         }
     }
     ReturnsRecorded {
-        answer: ReturnsRecording::Accepted(returns),
         counts: latest,
+        answer: ReturnsRecording::Accepted(returns),
     }
 }

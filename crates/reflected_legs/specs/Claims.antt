@@ -53,7 +53,8 @@ OnwardUnder Echo payload onward = echoOf payload ≡ gives onward
 OnwardUnder SinkAndCount payload onward = ⊥
 OnwardUnder Route payload onward = onward ≡ payload
 
--- Of a known session it does go on; and whatever the message and the reflector, nothing else does.
+-- For a known session what `OnwardUnder` says does go on; and whatever the message and the reflector, nothing else
+-- does.
 pub record SentByPolicy : Type 0 where
   pub known : (r : Reflector) (session : ReflectorSession) → Known r session
       → (payload onward : List ℕ) → OnwardUnder (r .config .policy) payload onward

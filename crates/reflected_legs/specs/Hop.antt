@@ -40,8 +40,8 @@ handled r payload = handledOf (answerTo r payload)
 abbrev pub outputAfter : Reflector → List ℕ → List ℕ
 outputAfter r payload = placed (answerTo r payload .outcome) (r .output)
 
--- The payload of the G-PDU that the caller then sends, as the answer tells it: of a routed one the payload that was
--- lent ("Route hands on the payload uncopied"), of a reflected one as many bytes at the front of the output as the
+-- The payload of the G-PDU that the caller then sends, as the answer tells it: for a routed one the payload that was
+-- lent ("Route hands on the payload uncopied"), for a reflected one as many bytes at the front of the output as the
 -- answer says. Otherwise no G-PDU goes out.
 abbrev pub gpduSent : ReflectorAction → List ℕ → List ℕ → Option (List ℕ)
 gpduSent (Refused number) lent output = none

@@ -2,7 +2,7 @@
 // `handle_datagram` names.
 ghost use Rattle.reflected_legs.specs.Claims.{RoutesIncluded};
 
-// A route is no end of a leg, and an echo is one: ways through reflectors are those of demand 3.
+// A route does not end a leg, and an echo does: ways through reflectors are those of demand 3.
 pub fn routes_keep_the_leg()
     ensures { λ _. ⌜ RoutesIncluded ⌝ }
 {}

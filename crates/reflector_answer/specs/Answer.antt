@@ -43,7 +43,7 @@ pub data Payload : Type 0 where
   written : List ℕ → Payload
   handedOn : Payload
 
--- Its bytes, where this payload was received.
+-- The bytes of an answer's payload, given the payload that was received.
 abbrev pub payloadBytes : List ℕ → Payload → List ℕ
 payloadBytes received (written bytes) = bytes
 payloadBytes received handedOn = received
@@ -113,7 +113,7 @@ gpduKnown config state session payload =
 abbrev pub errorIndicationTo : ℕ → SocketAddr → List ℕ
 errorIndicationTo teid source = errorIndication (bigEndian 4 teid) (address (source .version) (source .address))
 
--- The same from all 16 bytes of an address, of which the length says how many count.
+-- `errorIndicationTo` with all 16 bytes of the address; `counted` says how many of them count.
 abbrev pub errorIndicationBlock : ℕ → ℕ → List ℕ → List ℕ
 errorIndicationBlock teid counted bytes = 16 ∷ (bigEndian 4 teid ++ (133 ∷ 0 ∷ counted ∷ bytesAt 16 0 bytes))
 

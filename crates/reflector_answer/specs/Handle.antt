@@ -1,5 +1,5 @@
 -- What a call that handles a message hands back: the code's answer, the state and the output. "A refusal returns its
--- number and nothing else", so what stands beside it is all zeros, and so it is where nothing is sent.
+-- number and nothing else": the message beside it is version 4, zeros and no sequence, as where nothing is sent.
 use Prim.Native.Nat.{ℕ, _≤_}
 use mathlib.Core.Path.{_≡_}
 use mathlib.Core.List.{List, [], _∷_, _++_}
@@ -97,11 +97,11 @@ placed (gives (noop reason)) buffer = buffer
 placed (gives (send message)) buffer = elim (message .payload)
     [ written bytes ↦ bytes ++ drop (length bytes) buffer | handedOn ↦ buffer ]
 
--- A call's answer and the output as it leaves it are those of an answer on this output.
+-- What a call hands back, and the output as it leaves it, are those of the answer `a` on the output `before`.
 abbrev pub Answers : Handled → List ℕ → Answer → List ℕ → Type 0
 Answers r after a before = (r ≡ handledOf a) × (after ≡ placed (a .outcome) before)
 
--- What a call promises of them: the answer's case means the outcome, and nothing is left open beside it.
+-- What a call promises: the case of its answer means the outcome, and everything beside it is fixed as well.
 abbrev pub HandledAs : Handled → List ℕ → Answer → List ℕ → Type 0
 HandledAs r after a before = (actionMeans (r .action) (r .message) after ≡ a .outcome) × Answers r after a before
 

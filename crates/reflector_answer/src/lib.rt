@@ -1,8 +1,7 @@
 // What the reflector answers (leaf 9; `handle_datagram` of the Rust's reflector.rs after its decode): its types, and
 // the answer to a message whose TEID means a given session or none. Everything here is by value or on lent bytes; the
-// session table is in the crate reflector_sessions. What an answer is, is defined in specs/Answer.antt, and each
-// contract is that definition: the answer, the counts, the error sequence and every byte of the output, on refusals
-// too.
+// session table is in the crate reflector_sessions. specs/Answer.antt defines the answers, and each contract is that
+// definition: the answer, the counts, the error sequence and every byte of the output, on refusals too.
 use gtpu::GtpuMessage;
 use gtpu::SequenceNumber;
 use measurement::IpVersion;
@@ -97,7 +96,7 @@ pub enum ReflectorAction {
     Send(ReflectorSendReason, usize),
 }
 
-// The message to send: where to, and its header's values. All zeros where nothing is sent.
+// The message to send: where to, and its header's values. Where nothing is sent: version 4, zeros and no sequence.
 pub struct OutboundMessage {
     pub destination: SocketAddr,
     pub teid: u32,
@@ -216,8 +215,8 @@ fn address_length(version: IpVersion) -> u8
     }
 }
 
-// The payload of an Error Indication, with all 16 bytes of the address: TEID Data I, and the GTP-U Peer Address, 4 or
-// 16 bytes long.
+// The payload of an Error Indication with all 16 bytes of the address: TEID Data I, and the GTP-U Peer Address, of
+// which `length` bytes, 4 or 16, count.
 fn error_indication(teid: u32, length: u8, address: [u8; 16]) -> [u8; 24]
     ensures { λ r. ⌜ r ≡ errorIndicationBlock teid length address ⌝ }
 {
@@ -310,7 +309,7 @@ fn forward(
     }
 }
 
-// A G-PDU of a known session, by policy. The received count has risen whatever comes of it.
+// A G-PDU of a known session, by policy. The received count rises in every case.
 fn answer_known(
     config: MultiSessionReflectorConfig,
     state: ReflectorState,
@@ -393,7 +392,7 @@ fn answer_echo_request(
     }
 }
 
-// A message of another type than 255 and 1.
+// A message of a type other than 255 and 1.
 fn answer_other(state: ReflectorState, message_type: u8) -> Handled
     ensures { λ r. ⌜ r ≡ handledOf (otherMessage state «message_type») ⌝ }
 {

@@ -1,6 +1,6 @@
-// The reflector's calls for C on a table by value: a call is lent its six rows, and they come back with the answer. The
-// prover cannot follow a function that lends rows without a proof by hand. These three have one, for callers that hold
-// a table by value, such as the replay.
+// The reflector's calls for C on a table of six rows that the caller holds by value. Registering and removal hand the
+// rows back with the answer. The prover does not by itself follow a function that lends rows: these three are proved by
+// hand, so that callers such as the replay need no such proof.
 use reflector_sessions::LentSocketAddr;
 use reflector_sessions::ReflectorSession;
 use testkit_reflector::TestkitGtpuMessage;

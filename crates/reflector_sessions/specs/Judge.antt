@@ -11,7 +11,7 @@ use Rattle.reflector_sessions.specs.declared.JudgedTable.{JudgedTable}
 use Rattle.reflector_sessions.specs.declared.JudgedTable.the-variants as judged
 use Rattle.reflector_sessions.specs.declared.ReflectorSession.{ReflectorSession}
 
--- Of a table, by how many rows it has, how many are used, and its maximum.
+-- The causes of a table, by how many rows it has, how many are used, and its maximum.
 unfoldable pub tableCauses : ℕ → ℕ → ℕ → List Cause
 tableCauses length used maximum =
     -- "maximum 0 or above 4,096"
@@ -28,6 +28,6 @@ abbrev pub judgedMeans : JudgedTable → Outcome ℕ
 judgedMeans (judged.Used used) = gives used
 judgedMeans (judged.Refused number) = refused number
 
--- What a search of rows found: its place is one of theirs, or there is none.
+-- What a search of the used rows found: the session if its place is among them, else none.
 unfoldable pub sessionFound : ℕ → FoundSession → Option ReflectorSession
 sessionFound used found = elim (ltb (found .place) used) [ true ↦ some (found .session) | false ↦ none ]

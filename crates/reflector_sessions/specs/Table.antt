@@ -28,12 +28,12 @@ abbrev pub find : ℕ → List ReflectorSession → Option ReflectorSession
 find teid [] = none
 find teid (session ∷ rows) = elim (eqb (session .«local_teid») teid) [ true ↦ some session | false ↦ find teid rows ]
 
--- and its place: how many rows stand before it. Past the rows where there is none.
+-- The place of a TEID's first row: how many rows stand before it. If there is none, the number of rows.
 abbrev pub placeOf : ℕ → List ReflectorSession → ℕ
 placeOf teid [] = 0
 placeOf teid (session ∷ rows) = elim (eqb (session .«local_teid») teid) [ true ↦ 0 | false ↦ suc (placeOf teid rows) ]
 
--- Both, as the code has them: beside no row stands `missing`.
+-- Place and row as the code has them; where no row is found, `missing` stands for it.
 unfoldable pub foundIn : List ReflectorSession → ℕ → ReflectorSession → FoundSession
 foundIn rows teid missing = record { place = placeOf teid rows; session = getD rows (placeOf teid rows) missing }
 
@@ -44,7 +44,7 @@ searchedCount length used maximum = elim (tableOutcome length used maximum) [ re
 abbrev pub searchedRows : List ReflectorSession → ℕ → ℕ → List ReflectorSession
 searchedRows sessions used maximum = take (searchedCount (length sessions) used maximum) sessions
 
--- A row written, where it is to be.
+-- The rows with one row written, if it is to be written.
 abbrev pub putIf : Bool → ℕ → ReflectorSession → List ReflectorSession → List ReflectorSession
 putIf true place session rows = set rows place session
 putIf false place session rows = rows

@@ -24,7 +24,8 @@ pub struct SocketAddr {
     pub port: u16,
 }
 
-// The same in lent memory, where any byte may stand: the version is a number, 4 for IPv4 and every other for IPv6.
+// A `SocketAddr` in lent memory, where any byte may stand: the version is a number, 4 for IPv4 and every other for
+// IPv6.
 #[repr(C)]
 pub struct LentSocketAddr {
     pub version: u8,
@@ -32,7 +33,7 @@ pub struct LentSocketAddr {
     pub port: u16,
 }
 
-// A session: G-PDUs for the local TEID are echoed to the peer's TEID and address.
+// A session: under the policy `Echo`, G-PDUs for the local TEID are echoed to the peer's TEID and address.
 #[repr(C)]
 pub struct ReflectorSession {
     pub local_teid: u32,
@@ -119,7 +120,7 @@ fn first_row(
     }
 }
 
-// Writes the row past the used ones, where their count is to grow.
+// Writes the session to the row past the used ones, if the used count is to grow.
 fn append(
     sessions: &mut [ReflectorSession],
     used: usize,
@@ -134,7 +135,7 @@ fn append(
     }
 }
 
-// Moves the last used row into the hole, where the used count is to fall.
+// Moves the last used row into the hole, if the used count is to fall.
 fn swap_remove(sessions: &mut [ReflectorSession], used: usize, used_next: usize, hole: usize)
     requires { ⌜ («used_next» < used → (hole < length (now sessions)) × («used_next» < length (now sessions))) ⌝ }
     ensures { λ _. ⌜ now (sessions .exit)
@@ -164,7 +165,7 @@ fn no_session() -> ReflectorSession
 // The most sessions that a reflector may be set up for: the Rust's `MAX_REFLECTOR_SESSIONS`.
 pub const MAXIMUM_SESSIONS: usize = 4096;
 
-// 30, then 31, of a table of this length.
+// Judges 30, then 31, for a table of this length.
 pub fn judge_table(length: usize, used: usize, max_sessions: usize) -> JudgedTable
     ensures { λ r. ⌜ judgedMeans r ≡ tableOutcome length used «max_sessions» ⌝ }
 {
@@ -250,7 +251,7 @@ fn same_session(a: ReflectorSession, b: ReflectorSession) -> bool
     same_address(address.value(), other.value())
 }
 
-// 32: a session that is registered has TEIDs and a port.
+// 32: whether a TEID or the port is 0.
 fn invalid_session(session: ReflectorSession) -> bool
     ensures { λ r. ⌜ r ≡ invalidSession session ⌝ }
 {
@@ -288,7 +289,7 @@ fn judge_session(
     Registration::Added
 }
 
-// What registering answers, where a search found this.
+// What registering answers, given what the search found.
 fn answer_registration(
     length: usize,
     used: usize,
@@ -324,7 +325,7 @@ fn answer_registration(
     }
 }
 
-// What removal answers, where a search found this.
+// What removal answers, given what the search found.
 fn answer_removal(
     length: usize,
     used: usize,
@@ -409,7 +410,7 @@ pub fn registered_until_removed()
     ensures { λ _. ⌜ AddedIsFound × UnchangedIsFound × RemovedIsNotFound ⌝ }
 {}
 
-// Carries that no call gives two rows of the table one TEID.
+// Carries that a call leaves no two used rows with the same TEID, if there were none before.
 pub fn teids_stay_unique()
     ensures { λ _. ⌜ StaysUnique ⌝ }
 {}

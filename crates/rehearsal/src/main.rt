@@ -141,7 +141,7 @@ fn rehearse_line(words: &[u8]) -> u64 {
     status
 }
 
-// Each line of a text: the greatest status.
+// Rehearses each line of a text, and answers the greatest status.
 fn rehearse_lines(lines: &[u8]) -> u64 {
     let mut worst = exit_status::PASSED;
     let mut at = 0;
@@ -159,7 +159,7 @@ fn rehearse_lines(lines: &[u8]) -> u64 {
     worst
 }
 
-// What is not accepted before a word of it is read.
+// Says why input is not accepted before any word of it is read.
 fn print_not_accepted(why: &[u8]) -> u64 {
     text::print(b"rehearse: ");
     text::print(why);
@@ -167,7 +167,7 @@ fn print_not_accepted(why: &[u8]) -> u64 {
     exit_status::NOT_ACCEPTED
 }
 
-// The lines of standard input. One byte of the buffer stays free, else there may be more.
+// Rehearses the lines of standard input. A full buffer is not accepted, since there may be more input.
 fn rehearse_input() -> u64 {
     let mut text = io::large_buffer();
     let n = io::read_full(0, &mut text);
@@ -180,7 +180,7 @@ fn rehearse_input() -> u64 {
     rehearse_lines(&text[..n])
 }
 
-// The words of the command line; `-` alone stands for standard input.
+// Rehearses the words of the command line; `-` alone stands for standard input.
 fn rehearse_arguments(text: &[u8], n: usize) -> u64 {
     if n == 0 {
         return rehearse_default();

@@ -9,8 +9,7 @@ fn set(text: &mut [u8], at: usize, byte: u8) {
     }
 }
 
-// Puts one word at a place of the text, and answers where the next one goes: not before the limit, where there is no
-// room.
+// Puts one word at a place of the text, and answers where the next one goes: LIMIT or more if there is no room.
 fn put(number: usize, text: &mut [u8], at: usize) -> usize {
     if text.len() <= at || LIMIT <= at {
         return LIMIT;
@@ -24,7 +23,7 @@ fn put(number: usize, text: &mut [u8], at: usize) -> usize {
     std::num::wrapping_add_usize(end, 1)
 }
 
-// All words: how many bytes, or no fewer than the limit, where they do not fit.
+// Puts all words, and answers how many bytes they take: LIMIT or more if they do not fit.
 pub fn put_all(text: &mut [u8]) -> usize {
     let count = os::arg_count();
     let mut at = 0;

@@ -20,7 +20,7 @@ fn print_plan(s: &Scenario) {
     text::print(b", ");
     print_counted(scenario::first(s, scenario::COUNT), b" probe");
     text::print_count(b", ", scenario::first(s, scenario::RATE));
-    text::print(b" each second\n");
+    text::print(b" per second\n");
 }
 
 fn microseconds(s: &Scenario, word: usize) -> u64 {
@@ -66,8 +66,8 @@ fn print_reflector(state: ReflectorState) {
     text::print(b"\n");
 }
 
-// Whether a number of the card is an Error Indication's that broke the rules: it is not counted, and the verdict does
-// not know of it.
+// Whether a number of the card refuses the elements of an Error Indication. Such an indication is not counted, and the
+// verdict does not know of it.
 fn is_outside_verdict(number: u8) -> bool {
     25 <= number && number <= 29
 }

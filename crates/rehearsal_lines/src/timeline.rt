@@ -39,5 +39,5 @@ pub fn print_rows(fates: &[u8]) {
         row += 1;
     }
     text::print(b"\n           . returned  + duplicate  ~ out of order  ! refused\n");
-    text::print(b"           _ lost  E error indication; a mark for each probe\n");
+    text::print(b"           _ lost  E error indication  (one mark per probe)\n");
 }

@@ -1,5 +1,5 @@
 // When each probe comes back, as the scenario says: no clock and no chance in it. A probe that is not lost comes back
-// once, or twice where it is doubled.
+// once, or twice if it is duplicated.
 use scenario::Scenario;
 
 // How long it takes there and back: up to the end of the loss the old path, then the new one.
@@ -29,8 +29,8 @@ pub fn send_time(send_timestamps: &[u64], probe: u64) -> u64 {
     }
 }
 
-// When the path lets a probe go: those that it holds when the last of them is sent, that one first, and the others 1 ns
-// apart.
+// When the path lets a probe go. It holds those of the window `reorder` until the last of them is sent; that one goes
+// first, and the others after it in reverse order, 1 ns apart.
 fn release_time(s: &Scenario, send_timestamps: &[u64], probe: u64) -> u64 {
     if !scenario::does(s, scenario::REORDER, probe) {
         return send_time(send_timestamps, probe);
@@ -49,8 +49,8 @@ fn return_time(s: &Scenario, send_timestamps: &[u64], probe: u64) -> u64 {
     std::num::wrapping_add_u64(release_time(s, send_timestamps, probe), ns)
 }
 
-// Whether the return with this number comes back: the first of a probe of the plan unless it is lost, the second where
-// it is doubled as well.
+// Whether the return with this number comes back. A probe of the plan that is not lost has a first return, and a second
+// one if it is duplicated.
 fn comes_back(s: &Scenario, number: u64) -> bool {
     let probe = probe_of(number);
     if scenario::first(s, scenario::COUNT) < probe {

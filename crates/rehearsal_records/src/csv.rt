@@ -1,4 +1,4 @@
-// The run sheet in comma-separated values: a head line, and a line for each row.
+// The run sheet in comma-separated values: a header line, and a line for each row.
 use crate::column;
 use crate::fate;
 

@@ -27,7 +27,7 @@ pub fn fresh() -> ReflectorState {
     }
 }
 
-// 192.0.2.N or 2001:db8::N, the addresses kept for documents (RFC 5737, RFC 3849).
+// 192.0.2.N or 2001:db8::N, addresses reserved for documentation (RFC 5737, RFC 3849).
 fn address(ip: u8, last: u8) -> [u8; 16] {
     let mut address = [0; 16];
     if ip == 4 {
@@ -88,7 +88,7 @@ fn config(ip: u8) -> MultiSessionReflectorConfig {
     }
 }
 
-// The reflector on a packet, which comes under the session's TEID or under one that no session has.
+// Hands a packet to the reflector, under the session's TEID or under one that no session has.
 pub fn reflect(
     ip: u8,
     known: bool,

@@ -1,6 +1,6 @@
 // A rehearsal of a cutover in memory: a plan's probes go through the reflector and back over a path that does what the
-// scenario says, and what came back is recorded in the order of arrival. Thin: packets, echoes, the run sheet and the
-// report are the proved calls'; what is proved here is that it is safe and ends.
+// scenario says, and what came back is recorded in the order of arrival. Packets, echoes, the run sheet and the report
+// come from the proved calls; this crate itself is proved only to be safe and to end.
 use evidence::PacketContinuityBudget;
 use measurement::Written;
 use observer::ObserverCounts;
@@ -23,7 +23,7 @@ fn room() -> [u8; 147456]
     [0; 147456]
 }
 
-// The keys of the returns of the largest plan, and one more: the order of the keys ends before it.
+// Room for the keys of the largest plan's returns and for one more, so that `put_in_order` puts all of them.
 fn keys() -> [u64; 4097]
     ensures { λ r. ⌜ 4097 ≡ length r ⌝ }
 {
@@ -32,10 +32,10 @@ fn keys() -> [u64; 4097]
 
 fn fresh() -> ObserverCounts {
     ObserverCounts {
-        used: 0,
         duplicate_packets: 0,
         out_of_order_packets: 0,
         gtpu_error_indications: 0,
+        used: 0,
     }
 }
 

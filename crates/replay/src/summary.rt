@@ -1,5 +1,5 @@
 // What is counted while the records are replayed: a row of cells for each kind of record, and one for all. Its cells:
-// how many records, how many agree, and for each number how many records are due it.
+// how many records, how many agree, and for each number how many records have it.
 ghost use mathlib.Core.Path.{_≡_};
 ghost use lib.ListN.{length};
 
@@ -60,7 +60,7 @@ pub fn note(counts: &mut [u64], kind: u8, number: u8, agrees: bool) {
     note_in_row(counts, ALL, number, agrees);
 }
 
-// How many numbers of a row were due, 0 apart.
+// How many different refusal numbers the records of a row have.
 fn refusals(counts: &[u64], row: u8) -> u64 {
     let mut seen = 0;
     let mut number = 1;
@@ -77,6 +77,5 @@ pub fn print_row(counts: &[u64], row: u8, name: &[u8]) {
     text::print(name);
     text::print_count(b": ", cell(counts, place(row, RECORDS)));
     text::print_count(b" records, ", cell(counts, place(row, AGREED)));
-    text::print_count(b" agree, ", refusals(counts, row));
-    text::print(b" refusal numbers");
+    text::print_count(b" agree, refusal numbers: ", refusals(counts, row));
 }

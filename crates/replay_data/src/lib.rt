@@ -49,6 +49,12 @@ pub fn number(s: &[u8], at: usize) -> u64 {
     double_word(s, at) * 4294967296 + double_word(s, after(at, 4))
 }
 
+// Whether a call refused by the number of a record, or by none where that is 0. Each number is compared as itself, as
+// `asTheRustTells` of rust_reference says: a change that is stated there is made here too.
+pub fn same_number(ours: u8, rust: u8) -> bool {
+    ours == rust
+}
+
 // Whether the data begins with these numbers, 8 bytes each.
 pub fn same_numbers(numbers: &[u64], due: &[u8]) -> bool {
     let mut at = 0;
@@ -122,7 +128,7 @@ pub fn dirty() -> [u8; 4096]
     [0xa5; 4096]
 }
 
-// Whether a call left an output so: the bytes that it was lent are those of the data.
+// Whether a call left the output as the data has it, in every byte that it was lent.
 pub fn same_output(out: &[u8; 4096], due: &[u8]) -> bool {
     check::same(first(out, due.len()), due)
 }

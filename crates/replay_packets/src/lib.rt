@@ -1,5 +1,5 @@
 // The calls on packets, each on a record of the data: whether it answers what the Rust answered, and leaves every byte
-// of the output so.
+// of the output as the record has it.
 use plan::TrafficPlan;
 use testkit_packets::TestkitTpdu;
 use testkit_packets::TestkitWritten;
@@ -12,7 +12,7 @@ pub fn checksum(number: u8, s: &[u8]) -> bool {
 
 // Whether a call answers this number, and that it wrote this many bytes.
 fn same_written(written: TestkitWritten, number: u8, bytes: u16) -> bool {
-    written.number == number && written.bytes == bytes as usize
+    replay_data::same_number(written.number, number) && written.bytes == bytes as usize
 }
 
 fn build_into(s: &[u8], room: usize, out: &mut [u8]) -> TestkitWritten {
@@ -41,7 +41,7 @@ pub fn build(number: u8, s: &[u8]) -> bool {
 }
 
 fn same_tpdu(read: TestkitTpdu, number: u8, s: &[u8]) -> bool {
-    read.number == number
+    replay_data::same_number(read.number, number)
         && read.version == replay_data::byte(s, 0)
         && read.src_port == replay_data::word(s, 33)
         && read.dst_port == replay_data::word(s, 35)
@@ -120,5 +120,5 @@ pub fn generate(number: u8, s: &[u8]) -> bool {
 
 // The elements of an Error Indication.
 pub fn elements(number: u8, s: &[u8]) -> bool {
-    testkit_packets::testkit_validate_elements(s) == number
+    replay_data::same_number(testkit_packets::testkit_validate_elements(s), number)
 }

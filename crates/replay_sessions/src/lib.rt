@@ -41,7 +41,8 @@ fn max_sessions(s: &[u8]) -> usize {
     replay_data::word(s, 1) as usize
 }
 
-// The address that the data begins with, and so below.
+// The address that the data begins with. `session`, `rows`, `state` and `message` also read from the front of their
+// data.
 fn socket(s: &[u8]) -> LentSocketAddr {
     let address = replay_data::address(s, 1);
     LentSocketAddr {
@@ -70,7 +71,7 @@ fn rows(s: &[u8]) -> [ReflectorSession; 6] {
     [first, second, third, fourth, fifth, sixth]
 }
 
-// Whether the data begins with this session, and so below.
+// Whether the data begins with this session. The other comparisons with `due` also begin at its front.
 fn same_session(session: ReflectorSession, due: &[u8]) -> bool {
     let peer_addr = session.peer_addr;
     let address = peer_addr.address;
@@ -107,7 +108,7 @@ pub fn register_session(number: u8, s: &[u8]) -> bool {
     let registered = after.registered;
     let left = after.rows;
     let due = replay_data::rest(s, REGISTERED);
-    registered.number == number
+    replay_data::same_number(registered.number, number)
         && replay_data::same_flag(registered.added, due, 0)
         && registered.used == replay_data::byte(due, 1) as usize
         && same_rows(left, replay_data::rest(due, 2))
@@ -129,7 +130,7 @@ pub fn remove_session(number: u8, s: &[u8]) -> bool {
     let session = removed.session;
     let left = after.rows;
     let due = replay_data::rest(s, REMOVED);
-    removed.number == number
+    replay_data::same_number(removed.number, number)
         && replay_data::same_flag(removed.removed, due, 0)
         && removed.used == replay_data::byte(due, 1) as usize
         && same_session(session, replay_data::rest(due, 2))
@@ -225,7 +226,7 @@ fn same_action(handled: TestkitHandled, due: &[u8]) -> bool {
 
 fn same_handled(handled: TestkitHandled, number: u8, s: &[u8]) -> bool {
     let state = handled.state;
-    handled.number == number
+    replay_data::same_number(handled.number, number)
         && same_action(handled, replay_data::rest(s, HANDLED))
         && same_state(state, replay_data::rest(s, STATE_AFTER))
 }

@@ -56,7 +56,7 @@ fn lends_what_is_there(s: &[u8]) -> bool {
         && replay_data::byte(s, 3) <= 6
 }
 
-// How many are lent of a column's cells.
+// How many of a column's cells are lent.
 fn lent(s: &[u8], column: usize, cells: usize) -> usize
     ensures { λ r. ⌜ r ≤ cells ⌝ }
 {
@@ -92,10 +92,10 @@ fn mark_column(s: &[u8]) -> [u8; 6]
 
 fn counts(s: &[u8]) -> ObserverCounts {
     ObserverCounts {
-        used: replay_data::byte(s, 0) as usize,
         duplicate_packets: replay_data::number(s, 1),
         out_of_order_packets: replay_data::number(s, 9),
         gtpu_error_indications: replay_data::number(s, 17),
+        used: replay_data::byte(s, 0) as usize,
     }
 }
 
@@ -127,12 +127,13 @@ fn same_counts(counts: ObserverCounts, due: &[u8]) -> bool {
 // Whether a call that may change the sheet answered what the data says.
 fn same_recorded(r: TestkitRecorded, number: u8, s: &[u8]) -> bool {
     let counts = r.counts;
-    r.number == number && same_counts(counts, replay_data::rest(s, COUNTS_AFTER))
+    replay_data::same_number(r.number, number)
+        && same_counts(counts, replay_data::rest(s, COUNTS_AFTER))
 }
 
 fn same_message(r: TestkitDatagramRecorded, number: u8, s: &[u8]) -> bool {
     let counts = r.counts;
-    r.number == number
+    replay_data::same_number(r.number, number)
         && r.outcome == replay_data::byte(s, OUTCOME)
         && r.message_type == replay_data::byte(s, MESSAGE_TYPE)
         && same_counts(counts, replay_data::rest(s, COUNTS_AFTER))
@@ -179,7 +180,7 @@ fn same_question(r: TestkitContinuityReport, question: &[u8]) -> bool {
 // After the columns: the window's start and end and the budget (40 bytes), and the report (91).
 fn same_report(r: TestkitContinuityReport, number: u8, s: &[u8]) -> bool {
     let due = replay_data::rest(s, REPORT_AFTER);
-    r.number == number
+    replay_data::same_number(r.number, number)
         && same_question(r, replay_data::rest(s, QUESTION))
         && same_figures(r, due)
         && same_flags(r, replay_data::rest(due, 88))
@@ -279,7 +280,7 @@ fn report_agrees(
     same_report(r, number, s)
 }
 
-// Whether the call of this kind answers what the data says, on what is lent of the columns.
+// Whether the call of this kind answers what the data says, on the part of the columns that is lent.
 fn answer_agrees(
     kind: u8,
     number: u8,
@@ -301,7 +302,7 @@ fn answer_agrees(
     }
 }
 
-// The same, on the columns: what the record says is lent of each.
+// `answer_agrees`, with as much of each column as the record says is lent.
 fn lent_agrees(
     kind: u8,
     number: u8,
@@ -326,7 +327,8 @@ fn lent_agrees(
     )
 }
 
-// Whether the call of this kind agrees with its record, and leaves every cell so: a report lends nothing to be changed.
+// Whether the call of this kind agrees with its record, and leaves every cell as the record has it. A report changes no
+// cell.
 pub fn agrees(kind: u8, number: u8, s: &[u8]) -> bool {
     let mut sequences = column(replay_data::rest(s, SEQUENCES));
     let mut send_timestamps = column(replay_data::rest(s, SEND_TIMESTAMPS));

@@ -26,11 +26,11 @@ abbrev pub leastFrom : ℕ → ℕ → List ℕ → ℕ
 leastFrom n low [] = low
 leastFrom n low (x ∷ xs) = leastFrom (suc n) (leastSoFar n low x) xs
 
--- the number of two words. (Shut, so that `omega` takes it for an unknown where its parts do not matter.)
+-- the value of two words. (Kept folded, so that `omega` takes it as an unknown where its parts do not matter.)
 unfoldable pub wordsOf : ℕ → ℕ → ℕ
 wordsOf upper lower = upper * 18446744073709551616 + lower
 
--- no more than n words of 64 bits can add up to
+-- the sum is at most what n words of 64 bits can add up to
 unfoldable pub Within : ℕ → ℕ → Type 0
 Within n sum = sum ≤ n * 18446744073709551615
 
@@ -47,11 +47,11 @@ abbrev pub summaryOf : ℕ → ℕ → ℕ → ℕ → Option LatencySummary
 summaryOf n low high sum =
     elim (eqb n 0) [ true ↦ none | false ↦ some (record { «min_ns» = low; «max_ns» = high; «avg_ns» = sum / n }) ]
 
--- how long a run of n rows lasts that began at `since`; no run, no time
+-- how long a run of n rows that began at `since` lasts; 0 if there is no run
 abbrev pub gapOf : ℕ → ℕ → ℕ → ℕ
 gapOf n since until = elim (eqb n 0) [ true ↦ 0 | false ↦ until - since ]
 
--- when a run began that has one row more
+-- the start of a run of n rows that began at `since`, after one more row sent at `sent`
 abbrev pub sinceOf : ℕ → ℕ → ℕ → ℕ
 sinceOf n since sent = elim (eqb n 0) [ true ↦ sent | false ↦ since ]
 
@@ -60,7 +60,7 @@ abbrev pub longestIn : ℕ → List ℕ → ℕ
 longestIn n [] = n
 longestIn n (m ∷ ms) = elim (eqb m 1) [ true ↦ max n (longestIn 0 ms) | false ↦ longestIn (suc n) ms ]
 
--- the longest by duration, where they began at `since`
+-- the longest run by duration, where n unmarked rows that began at `since` stand just in front
 abbrev pub outageIn : ℕ → ℕ → ℕ → List ℕ → List ℕ → ℕ
 outageIn end n since [] ms = gapOf n since end
 outageIn end n since (t ∷ ts) [] = gapOf n since end

@@ -10,7 +10,8 @@ ghost use Rattle.observer.specs.Answer.{lent};
 ghost use Rattle.report.specs.Report.{withinBudget, reporting};
 ghost use Rattle.report.specs.Answer.{reportedMeans};
 ghost use Rattle.report.specs.Claims.{LatencyOfTheRows};
-ghost use Rattle.report.specs.Loops.{markedOf, leastSoFar, wordsOf, Within, Gathers, summaryOf, gapOf, sinceOf, longestIn, outageIn};
+ghost use Rattle.report.specs.Loops.{markedOf, leastSoFar, wordsOf, Within, Gathers, summaryOf, gapOf, sinceOf};
+ghost use Rattle.report.specs.Loops.{longestIn, outageIn};
 use evidence::Latency;
 use evidence::LatencySummary;
 use evidence::PacketContinuityBudget;
@@ -54,7 +55,7 @@ fn least_so_far(count: u64, low: u64, x: u64) -> u64
     if x < low { x } else { low }
 }
 
-// One latency more.
+// Adds one latency to what was gathered.
 fn with_latency(g: Gathered, x: u64) -> Gathered
     requires { ⌜ (g .count < 2048) × (g .upper < 2048) ⌝ }
     ensures { λ r. ⌜ (r .count ≡ g .count + 1) × (r .low ≡ leastSoFar (g .count) (g .low) x)
@@ -106,7 +107,7 @@ fn gather(latencies: &[u64], marks: &[u8], used: usize) -> Gathered
     g
 }
 
-// A number of two words divided by n, rounded down: the digits are of 32 bits.
+// A value of two words divided by n, rounded down: long division with digits of 32 bits.
 fn mean(upper: u64, lower: u64, n: u64) -> u64
     requires { ⌜ (upper < n) × (n ≤ 2048) ⌝ }
     ensures { λ r. ⌜ r ≡ wordsOf upper lower / n ⌝ }
@@ -131,7 +132,7 @@ fn summary(g: Gathered) -> Latency
     })
 }
 
-// How long a run of n rows lasts that began at `since`.
+// How long a run of n rows that began at `since` lasts; 0 if there is no run.
 fn gap(n: u64, since: u64, until: u64) -> u64
     ensures { λ r. ⌜ r ≡ gapOf n since until ⌝ }
 {
@@ -141,7 +142,7 @@ fn gap(n: u64, since: u64, until: u64) -> u64
     if since < until { until - since } else { 0 }
 }
 
-// When a run of n rows began that has one more.
+// The start of a run of n rows that began at `since`, after one more row sent at `sent`.
 fn began(n: u64, since: u64, sent: u64) -> u64
     ensures { λ r. ⌜ r ≡ sinceOf n since sent ⌝ }
 {

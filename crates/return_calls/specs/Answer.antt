@@ -1,4 +1,4 @@
--- The code's answers in these terms: what each case means.
+-- What each case of the code's answers means.
 use Prim.Native.Nat.{ℕ}
 use mathlib.Core.Path.{_≡_}
 use Rattle.error.specs.Outcome.{Outcome, refused, gives}

@@ -10,7 +10,8 @@ use Rattle.observer.specs.Judge.{judged, Step, afterReading}
 use Rattle.observer.specs.Returning.{recordReturn, recordErrorIndication}
 use Rattle.return_calls.specs.Kinds.{messageKind}
 use Rattle.return_calls.specs.declared.GtpuReturnDatagramOutcome.{GtpuReturnDatagramOutcome}
-use Rattle.return_calls.specs.declared.GtpuReturnDatagramOutcome.the-variants.{MeasurementTpdu, ErrorIndication, EchoResponse, Ignored}
+use Rattle.return_calls.specs.declared.GtpuReturnDatagramOutcome.the-variants.{MeasurementTpdu, ErrorIndication}
+use Rattle.return_calls.specs.declared.GtpuReturnDatagramOutcome.the-variants.{EchoResponse, Ignored}
 
 -- What a T-PDU is to the observer: a sequence, or the reader's refusal. Its flow and send time are not used.
 unfoldable pub sequenceRead : List ℕ → Outcome ℕ

@@ -1,7 +1,6 @@
 // The observer's two return calls (leaf 6; the Rust's traffic.rs): a T-PDU that came back, and a parsed GTP-U message.
-// What each makes of an observer is defined in specs/Returns.antt, and its contract is that one equation: answer,
-// counts and every column at exit, on refusals too. What came back is read first, by value; then `record_returned`
-// judges 21 and records it.
+// specs/Returns.antt defines what each answers and leaves, and its contract is that one equation: answer, counts and
+// every column at exit, on refusals too. What came back is read first; then `record_returned` judges 21 and records it.
 use gtpu::ElementsChecked;
 use gtpu::GtpuMessage;
 use observer::ObserverCounts;
@@ -14,7 +13,8 @@ ghost use Rattle.observer.specs.Answer.{recordingMeans, records};
 ghost use Rattle.return_calls.specs.Kinds.{messageKind};
 ghost use Rattle.return_calls.specs.Returns.{sequenceRead, recordReceivedTpdu, recordReturnMessage};
 ghost use Rattle.return_calls.specs.Answer.{messageMeans, sequenceNumbers, recordsMessage};
-ghost use Rattle.return_calls.specs.Reading.{tpduReturned, elementsReturned, messageReturned, recordReturned, kindIf};
+ghost use Rattle.return_calls.specs.Reading.{tpduReturned, elementsReturned, messageReturned, recordReturned};
+ghost use Rattle.return_calls.specs.Reading.{kindIf};
 ghost use Rattle.return_calls.specs.Claims.{KindIsOfType};
 
 // What a returned message was.
@@ -33,8 +33,8 @@ pub enum ReturnRecording {
 
 // What a call answers to a message, and the counts as it leaves them.
 pub struct MessageRecorded {
-    pub answer: ReturnRecording,
     pub counts: ObserverCounts,
+    pub answer: ReturnRecording,
 }
 
 // What a T-PDU reads as: its sequence beside 0, or 0 beside the number of the reader's refusal.
@@ -135,8 +135,8 @@ fn record_returned(
 {
     if !observer::well_formed(sequences, send_timestamps, latencies, marks, counts) {
         return Recorded {
-            answer: Recording::Refused(error::MALFORMED_OBSERVER),
             counts: counts,
+            answer: Recording::Refused(error::MALFORMED_OBSERVER),
         };
     }
     match returned {
@@ -151,12 +151,12 @@ fn record_returned(
         )),
         Returned::ErrorIndication => counts.error_indicated(),
         Returned::Noticed => Recorded {
-            answer: Recording::Accepted,
             counts: counts,
+            answer: Recording::Accepted,
         },
         Returned::Refused(number) => Recorded {
-            answer: Recording::Refused(number),
             counts: counts,
+            answer: Recording::Refused(number),
         },
     }
 }
@@ -197,18 +197,18 @@ fn message_answer(message_type: u8, recorded: Recorded) -> MessageRecorded
     let counts = recorded.counts;
     match answer {
         Recording::Refused(number) => MessageRecorded {
-            answer: ReturnRecording::Refused(number),
             counts: counts,
+            answer: ReturnRecording::Refused(number),
         },
         Recording::Accepted => MessageRecorded {
-            answer: message_kind(message_type),
             counts: counts,
+            answer: message_kind(message_type),
         },
     }
 }
 
-// Records a parsed GTP-U message that came back. Its TEID and sequence are not used. Refuses by 21; 255 then as
-// `record_received_tpdu` does, 26 as the walk over its elements does, and unknown types by 37.
+// Records a parsed GTP-U message that came back. Its TEID and sequence are not used. Refuses by 21; then type 255 as
+// `record_received_tpdu` does, 26 as the walk over its elements does, and any other type but 2, 31 and 254 by 37.
 pub fn record_return_gtpu_datagram(
     sequences: &[u64],
     send_timestamps: &[u64],

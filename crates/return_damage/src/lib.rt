@@ -77,7 +77,7 @@ fn damage_headers(s: &Scenario, probe: u64, tpdu: &mut [u8; 72]) {
     }
 }
 
-// Damage to the measurement: a byte of its time; the words of its magic, or those of its sequence, exchanged.
+// Damage to the probe: a byte of its send time changed; words of its tag, or of its sequence, exchanged.
 fn damage_measurement(s: &Scenario, probe: u64, tpdu: &mut [u8; 72]) {
     let ip = scenario::first(s, scenario::IP);
     let time_end = probe_field(ip, layout::PROBE_SEND_TIME + 7);

@@ -1,5 +1,5 @@
--- The columns of a run sheet, and how many rows they hold. A call is lent them one by one; all below speaks of one
--- record.
+-- The columns of a run sheet, and how many rows they hold. A call is lent them one by one; the definitions below take
+-- them as one record.
 use Prim.Native.Nat.{ℕ, _≤_, min}
 use mathlib.Core.Path.{_≡_}
 use mathlib.Core.List.{List, [], _∷_}
@@ -41,7 +41,7 @@ pub record Left (Answer : Type 0) : Type 0 where
 abbrev pub Column : Type 0
 Column = Both (RefT (List ℕ)) (RefT (List ℕ))
 
--- All of them, likewise.
+-- All four columns, when the call begins and when it returns.
 abbrev pub Sheet : Type 0
 Sheet = Both Columns Columns
 

@@ -62,11 +62,11 @@ abbrev pub vecs : List GeneratedPacket → List ℕ
 vecs [] = []
 vecs (p ∷ packets) = p .tpdu ++ vecs packets
 
--- Their sequences and times.
+-- The sequences and times of the Rust's packets.
 abbrev pub headersOf : List GeneratedPacket → List MeasurementHeader
 headersOf packets = map (λ p. record { sequence = p .sequence; «send_timestamp_ns» = p .«send_timestamp_ns» }) packets
 
--- The same for these packets, with the next sequence of the Rust's engine, after an error too.
+-- `inBuffer` for the Rust's packets, with the next sequence of its engine, also after an error.
 abbrev pub packetsInBuffer : Result (List GeneratedPacket) → ℕ → List ℕ → Generating
 packetsInBuffer (Ok packets) next buffer = record {
   outcome = gives (length (vecs packets));

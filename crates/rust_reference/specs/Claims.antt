@@ -7,7 +7,8 @@ use mathlib.Core.List.{List, [], _∷_, flatten, map}
 use mathlib.Core.Logic.{_⊎_}
 use mathlib.Core.Bool.{Bool, true}
 use lib.ListN.{length}
-use Rattle.error.specs.Number.{outputTooShort, tooManyPackets, malformedObserver, observerFull, invalidReflectorCapacity, malformedReflectorTable}
+use Rattle.error.specs.Number.{outputTooShort, tooManyPackets, malformedObserver, observerFull}
+use Rattle.error.specs.Number.{invalidReflectorCapacity, malformedReflectorTable}
 use Rattle.error.specs.Outcome.{Outcome, refused, gives}
 use Rattle.gtpu.specs.Element.{elementsOf}
 use Rattle.gtpu.specs.Message.{gtpuMsgGpdu}
@@ -46,12 +47,16 @@ use Rattle.reflector_sessions.specs.declared.SocketAddr.{SocketAddr}
 use Rattle.rust_reference.specs.Error.{DataplaneTestkitError, Result, Ok, Err, InvalidReflectorCapacity}
 use Rattle.rust_reference.specs.Values.{«u64_max»}
 use Rattle.rust_reference.specs.Sheet.{receivedOf, ValuesFit, Same, rustObserver}
-use Rattle.rust_reference.specs.Runs.{Call, Typed, answerTo, afterCall, answersTo, after, rustAnswersTo, rustAfter}
+use Rattle.rust_reference.specs.Runs.{Call, Typed, answerTo, afterCall, answersTo, after, rustAnswersTo}
+use Rattle.rust_reference.specs.Runs.{rustAfter}
 use Rattle.rust_reference.specs.Map.{Option}
 use Rattle.rust_reference.specs.Number.{outcomeBy, outcomeOf}
 use Rattle.rust_reference.specs.Compared.{Compared, ComparedReturn, ComparedMessage, asTheRustTells, told}
-use Rattle.rust_reference.specs.Answers.{rustFlow, tpduOf, inBuffer, headersOf, packetsInBuffer, toldGenerating, reportOf}
-use Rattle.rust_reference.specs.Sessions.{Reflector, tableIn, withTable, withState, freshReflector, handling, rustAddress, rustSession, rustConfig, rustReflector, rustMessage, rustRemoved, rustAction, outcomeTo, inOutput, IsMade, SequenceFits}
+use Rattle.rust_reference.specs.Answers.{rustFlow, tpduOf, inBuffer, headersOf, packetsInBuffer, toldGenerating}
+use Rattle.rust_reference.specs.Answers.{reportOf}
+use Rattle.rust_reference.specs.Sessions.{Reflector, tableIn, withTable, withState, freshReflector, handling}
+use Rattle.rust_reference.specs.Sessions.{rustAddress, rustSession, rustConfig, rustReflector, rustMessage}
+use Rattle.rust_reference.specs.Sessions.{rustRemoved, rustAction, outcomeTo, inOutput, IsMade, SequenceFits}
 use Rattle.rust_reference.specs.Evidence as evidence
 use Rattle.rust_reference.specs.Gtpu as gtpu
 use Rattle.rust_reference.specs.Measurement as measurement
@@ -216,8 +221,8 @@ SameRun o calls =
 abbrev pub Runs : Type 0
 Runs = (o : Observer) → o .counts ≡ fresh → (calls : List Call) → AllTyped calls → NoneAddedIn o calls → SameRun o calls
 
--- "runs up to 2,048 sequences": with columns of 2,048 entries, all that is asked is that the Rust's map of what was
--- sent ends with no more than these.
+-- "runs up to 2,048 sequences": with columns of 2,048 entries or more it is enough that the Rust's map of what was sent
+-- ends with at most 2,048 entries.
 abbrev pub RunsUpTo2048 : Type 0
 RunsUpTo2048 = (o : Observer) → o .counts ≡ fresh → EachHas 2048 (columnLengths (o .columns)) → (calls : List Call)
     → AllTyped calls → length (rustAfter traffic.new calls .sent) ≤ 2048 → SameRun o calls
@@ -303,8 +308,8 @@ abbrev pub AllOutputsFit : List reflecting.Call → Type 0
 AllOutputsFit [] = Unit {0}
 AllOutputsFit (call ∷ calls) = reflecting.OutputFits call × AllOutputsFit calls
 
--- The same where the slice has as many rows as the maximum and each output has 72 bytes: then neither 31 nor 15 is ever
--- due.
+-- `ReflectorRuns` where the slice has at least as many rows as the maximum and each output at least 72 bytes: then
+-- neither 31 nor 15 is ever due.
 abbrev pub ReflectorRunsWithRoom : Type 0
 ReflectorRunsWithRoom = (sessions : List ReflectorSession) (config : MultiSessionReflectorConfig)
     → (made : reflector.GtpuReflector) → reflector.«new_multi» (rustConfig config) ≡ Ok made

@@ -1,5 +1,5 @@
--- Which T-PDUs are compared with the Rust, and as which number each of ours is compared. A change that makes the
--- readers differ is stated here and nowhere else.
+-- Which T-PDUs are compared with the Rust, and as which number each of our numbers is compared. A change that makes the
+-- two readers differ must be stated here, and only here.
 use Prim.Native.Nat.{ℕ, _≤_}
 use mathlib.Core.Path.{_≡_}
 use mathlib.Core.List.{List}
@@ -15,7 +15,7 @@ use Rattle.reflector_answer.specs.declared.ReflectorPolicy.the-variants.{Echo, 
 abbrev pub Compared : List ℕ → Type 0
 Compared tpdu = Bytes tpdu
 
--- Of the messages that come back only a G-PDU carries a T-PDU; every other message is compared.
+-- A message that comes back: a G-PDU is compared if its T-PDU is, every other message always.
 abbrev pub ComparedReturn : ℕ → List ℕ → Type 0
 ComparedReturn messageType payload = messageType ≡ gtpuMsgGpdu → Compared payload
 
@@ -24,7 +24,7 @@ ComparedReturn messageType payload = messageType ≡ gtpuMsgGpdu → Compared pa
 abbrev pub ComparedGpdu : ReflectorPolicy → List ℕ → Type 0
 ComparedGpdu policy tpdu = (policy ≡ Echo → Compared tpdu) × (policy ≡ Route → length tpdu ≤ 65535)
 
--- A message at the reflector: every one but a G-PDU is compared.
+-- A message at the reflector: a G-PDU is compared as `ComparedGpdu` says, every other message always.
 abbrev pub ComparedMessage : ReflectorPolicy → GtpuMessage → List ℕ → Type 0
 ComparedMessage policy message payload = message .«message_type» ≡ gtpuMsgGpdu → ComparedGpdu policy payload
 

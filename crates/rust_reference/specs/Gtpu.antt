@@ -8,7 +8,11 @@ use lib.Dec.{eqb, ltb, leb}
 use lib.ListN.{length}
 use Rattle.rust_reference.specs.Map.{Option, None, Some}
 use Rattle.rust_reference.specs.Values.{index, «u16_at»}
-use Rattle.rust_reference.specs.Error.{Result, Ok, Truncated, InvalidPacket, GtpuEncode, Err, returnIf, _>>_, TEID-Data-I-IE, GTP-U-Peer-Address-IE, GTP-U-TLV-IE, GTP-U-Peer-Address-IE-length-must-be-IPv4-or-IPv6, unsupported-fixed-length-GTP-U-IE, Error-Indication-missing-TEID-Data-I-IE, Error-Indication-missing-GTP-U-Peer-Address-IE}
+use Rattle.rust_reference.specs.Error.{Result, Ok, Truncated, InvalidPacket, GtpuEncode, Err, returnIf, _>>_}
+use Rattle.rust_reference.specs.Error.{TEID-Data-I-IE, GTP-U-Peer-Address-IE, GTP-U-TLV-IE}
+use Rattle.rust_reference.specs.Error.{GTP-U-Peer-Address-IE-length-must-be-IPv4-or-IPv6}
+use Rattle.rust_reference.specs.Error.{unsupported-fixed-length-GTP-U-IE, Error-Indication-missing-TEID-Data-I-IE}
+use Rattle.rust_reference.specs.Error.{Error-Indication-missing-GTP-U-Peer-Address-IE}
 
 abbrev pub «GTPU_MSG_ECHO_REQUEST» : ℕ
 «GTPU_MSG_ECHO_REQUEST» = 1

@@ -8,7 +8,8 @@ use lib.ListN.{length, drop, set, replicate}
 use Rattle.field.specs.Field.{bigEndian, valueOf}
 use Rattle.measurement.specs.declared.MeasurementHeader.{MeasurementHeader}
 use Rattle.rust_reference.specs.Error as error
-use Rattle.rust_reference.specs.Error.{Result, Ok, Err, Truncated, UnsupportedIpVersion, InvalidPacket, Overflow, returnIf, _>>=_, _>>_}
+use Rattle.rust_reference.specs.Error.{Result, Ok, Err, Truncated, UnsupportedIpVersion, InvalidPacket, Overflow}
+use Rattle.rust_reference.specs.Error.{returnIf, _>>=_, _>>_}
 use Rattle.rust_reference.specs.Values.{index, range, «copy_from_slice», same, «u16_at», «wrapping_add»}
 
 -- lines 9 to 17. b"OPCDPTK1"

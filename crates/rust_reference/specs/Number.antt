@@ -1,12 +1,24 @@
 -- Each of the Rust's error values as document 01's number ("Text reasons become numbers").
 use Prim.Native.Nat.{ℕ}
-use Rattle.error.specs.Number.{truncatedIpHeader, unsupportedIpVersion, truncatedIpv4Header, invalidIpv4Ihl, invalidIpv4TotalLength, payloadIsNotUdp, invalidIpv4HeaderChecksum, truncatedIpv6UdpPacket, invalidIpv6PayloadLength, invalidUdpLength, ipv6UdpChecksumIsZero, invalidUdpChecksum, truncatedMeasurementHeader, measurementMagicMismatch, targetRateIsZero, targetRateExceedsResolution, sequenceOverflow, sendTimestampOverflow, sequenceWasNotSent, timestampReversed, truncatedElement, invalidPeerAddressLength, unsupportedFixedLengthElement, missingTeidDataI, missingPeerAddress, invalidReflectorCapacity, invalidReflectorSession, reflectorSessionConflict, reflectorSessionCapacityExceeded, echoRequestTeidNotZero, echoRequestMissingSequence, unsupportedMessageType}
+use Rattle.error.specs.Number.{truncatedIpHeader, unsupportedIpVersion, truncatedIpv4Header, invalidIpv4Ihl}
+use Rattle.error.specs.Number.{invalidIpv4TotalLength, payloadIsNotUdp, invalidIpv4HeaderChecksum}
+use Rattle.error.specs.Number.{truncatedIpv6UdpPacket, invalidIpv6PayloadLength, invalidUdpLength}
+use Rattle.error.specs.Number.{ipv6UdpChecksumIsZero, invalidUdpChecksum, truncatedMeasurementHeader}
+use Rattle.error.specs.Number.{measurementMagicMismatch, targetRateIsZero, targetRateExceedsResolution}
+use Rattle.error.specs.Number.{sequenceOverflow, sendTimestampOverflow, sequenceWasNotSent, timestampReversed}
+use Rattle.error.specs.Number.{truncatedElement, invalidPeerAddressLength, unsupportedFixedLengthElement}
+use Rattle.error.specs.Number.{missingTeidDataI, missingPeerAddress, invalidReflectorCapacity, invalidReflectorSession}
+use Rattle.error.specs.Number.{reflectorSessionConflict, reflectorSessionCapacityExceeded, echoRequestTeidNotZero}
+use Rattle.error.specs.Number.{echoRequestMissingSequence, unsupportedMessageType}
 use Rattle.error.specs.Outcome.{Outcome, refused, gives}
 use Rattle.rust_reference.specs.Error as rust
-use Rattle.rust_reference.specs.Error.{Context, Reason, Field, DataplaneTestkitError, Result, Truncated, UnsupportedIpVersion, InvalidPacket, Overflow, TimestampReversed, GtpuEncode, InvalidReflectorCapacity, InvalidReflectorSession, ReflectorSessionConflict, ReflectorSessionCapacityExceeded, Ok, Err}
+use Rattle.rust_reference.specs.Error.{Context, Reason, Field, DataplaneTestkitError, Result, Truncated}
+use Rattle.rust_reference.specs.Error.{UnsupportedIpVersion, InvalidPacket, Overflow, TimestampReversed}
+use Rattle.rust_reference.specs.Error.{GtpuEncode, InvalidReflectorCapacity, InvalidReflectorSession}
+use Rattle.rust_reference.specs.Error.{ReflectorSessionConflict, ReflectorSessionCapacityExceeded, Ok, Err}
 
--- An error that the Rust's code can make and never answers. The card has no such number, so each claim also says that
--- it does not occur.
+-- An error that the Rust has and does not return for input that is compared. The card has no number 0, so each claim
+-- also says that it does not occur.
 abbrev pub notOnTheCard : ℕ
 notOnTheCard = 0
 
@@ -67,6 +79,6 @@ abbrev pub outcomeBy : {A B : Type 0} → (A → B) → Result A → Outcome B
 outcomeBy value (Ok x) = gives (value x)
 outcomeBy value (Err error) = refused (errorNumber error)
 
--- the same where the value needs no change
+-- `outcomeBy` where the value needs no change
 abbrev pub outcomeOf : {A : Type 0} → Result A → Outcome A
 outcomeOf result = outcomeBy (λ x. x) result

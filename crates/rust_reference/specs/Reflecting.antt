@@ -15,7 +15,8 @@ use Rattle.rust_reference.specs.Map.{Option}
 use Rattle.rust_reference.specs.Number.{outcomeOf}
 use Rattle.rust_reference.specs.Compared.{ComparedMessage, told}
 use Rattle.rust_reference.specs.Reflector as rust
-use Rattle.rust_reference.specs.Sessions.{Reflector, tableIn, withTable, withState, handling, rustAddress, rustSession, rustMessage, rustRemoved, rustAction, outcomeTo, inOutput}
+use Rattle.rust_reference.specs.Sessions.{Reflector, tableIn, withTable, withState, handling, rustAddress}
+use Rattle.rust_reference.specs.Sessions.{rustSession, rustMessage, rustRemoved, rustAction, outcomeTo, inOutput}
 
 -- A call, with what it is handed: a session; a TEID; a sender, a message, its payload and an output.
 pub data Call : Type 0 where
@@ -46,7 +47,7 @@ pub record Answer : Type 0 where
   pub outcome : Outcome Given
   pub output : List ℕ
 
--- By document 01's definitions.
+-- The answer to a call, by document 01's definitions.
 abbrev pub answerTo : Reflector → Call → Answer
 answerTo r (register session) = record {
   outcome = outcomeTo registered (registerSession (tableIn r) session .outcome);
@@ -78,7 +79,7 @@ abbrev pub after : Reflector → List Call → Reflector
 after r [] = r
 after r (call ∷ calls) = after (afterCall r call) calls
 
--- By the Rust's.
+-- The answer to a call, by the Rust's definitions.
 abbrev pub rustAnswerTo : rust.GtpuReflector → Call → Answer
 rustAnswerTo r (register session) = record {
   outcome = outcomeTo registered (outcomeOf (rust.«register_session» r (rustSession session) .result));

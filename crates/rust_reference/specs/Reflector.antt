@@ -8,13 +8,22 @@ use lib.Dec.{eqb, leb, ltb}
 use lib.ListN.{length, take, set, getD}
 use Rattle.field.specs.Field.{bigEndian}
 use Rattle.reflector_answer.specs.declared.ReflectorCounter.{ReflectorCounter}
-use Rattle.reflector_answer.specs.declared.ReflectorCounter.the-variants.{GpduReceived, GpduForwarded, GpduSunk, EchoRequestsAnswered, ErrorIndicationsSent, MalformedRejected}
+use Rattle.reflector_answer.specs.declared.ReflectorCounter.the-variants.{GpduReceived, GpduForwarded, GpduSunk}
+use Rattle.reflector_answer.specs.declared.ReflectorCounter.the-variants.{EchoRequestsAnswered, ErrorIndicationsSent}
+use Rattle.reflector_answer.specs.declared.ReflectorCounter.the-variants.{MalformedRejected}
 use Rattle.reflector_answer.specs.declared.ReflectorSendReason.{ReflectorSendReason}
-use Rattle.reflector_answer.specs.declared.ReflectorSendReason.the-variants.{ReflectedGpdu, RoutedGpdu, EchoResponse, ErrorIndication}
+use Rattle.reflector_answer.specs.declared.ReflectorSendReason.the-variants.{ReflectedGpdu, RoutedGpdu, EchoResponse}
+use Rattle.reflector_answer.specs.declared.ReflectorSendReason.the-variants.{ErrorIndication}
 use Rattle.reflector_answer.specs.declared.ReflectorStats.{ReflectorStats}
 use Rattle.rust_reference.specs.Error as error
-use Rattle.rust_reference.specs.Error.{Result, Ok, Err, InvalidPacket, InvalidReflectorCapacity, InvalidReflectorSession, ReflectorSessionConflict, ReflectorSessionCapacityExceeded, returnIf, _>>_}
-use Rattle.rust_reference.specs.Gtpu.{GtpuMessage, «GTPU_MSG_ECHO_REQUEST», «GTPU_MSG_ECHO_RESPONSE», «GTPU_MSG_ERROR_INDICATION», «GTPU_MSG_SUPPORTED_EXTENSION_HEADERS_NOTIFICATION», «GTPU_MSG_END_MARKER», «GTPU_MSG_GPDU», «encode_gpdu», «encode_echo_response», «encode_error_indication»}
+use Rattle.rust_reference.specs.Error.{Result, Ok, Err, InvalidPacket, InvalidReflectorCapacity}
+use Rattle.rust_reference.specs.Error.{InvalidReflectorSession, ReflectorSessionConflict}
+use Rattle.rust_reference.specs.Error.{ReflectorSessionCapacityExceeded, returnIf, _>>_}
+use Rattle.rust_reference.specs.Gtpu.{GtpuMessage, «GTPU_MSG_ECHO_REQUEST», «GTPU_MSG_ECHO_RESPONSE»}
+use Rattle.rust_reference.specs.Gtpu.{«GTPU_MSG_ERROR_INDICATION»}
+use Rattle.rust_reference.specs.Gtpu.{«GTPU_MSG_SUPPORTED_EXTENSION_HEADERS_NOTIFICATION», «GTPU_MSG_END_MARKER»}
+use Rattle.rust_reference.specs.Gtpu.{«GTPU_MSG_GPDU», «encode_gpdu», «encode_echo_response»}
+use Rattle.rust_reference.specs.Gtpu.{«encode_error_indication»}
 use Rattle.rust_reference.specs.Map.{Option, None, Some}
 use Rattle.rust_reference.specs.Measurement.{«echo_tpdu»}
 use Rattle.rust_reference.specs.Values.{same, «saturating_add»}

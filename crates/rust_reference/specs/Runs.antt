@@ -31,7 +31,7 @@ Typed (receiving time tpdu) = (time ≤ «u64_max») × Compared tpdu
 Typed (returning time messageType payload) = (time ≤ «u64_max») × ComparedReturn messageType payload
 Typed (reporting-on windowStart windowEnd budget) = Unit {0}
 
--- What a call gives, where it gives something.
+-- What an accepted call gives: nothing more (`done`), what the message was, or a report.
 pub data Answer : Type 0 where
   done : Answer
   message : GtpuReturnDatagramOutcome → Answer
@@ -41,7 +41,7 @@ abbrev pub answering : {A : Type 0} → (A → Answer) → Outcome A → Outcome
 answering answer (refused n) = refused n
 answering answer (gives x) = gives (answer x)
 
--- By document 01's definitions.
+-- The answer to a call, by document 01's definitions.
 abbrev pub answerTo : Observer → Call → Outcome Answer
 answerTo o (sending sequence time) = answering (λ u. done) (recordSent o sequence time .outcome)
 answerTo o (receiving time tpdu) = answering (λ u. done) (recordReceivedTpdu o time tpdu .outcome)
@@ -63,7 +63,7 @@ abbrev pub after : Observer → List Call → Observer
 after o [] = o
 after o (call ∷ calls) = after (afterCall o call) calls
 
--- By the Rust's.
+-- The answer to a call, by the Rust's definitions.
 abbrev pub rustAnswerTo : traffic.ContinuityObserver → Call → Outcome Answer
 rustAnswerTo o (sending sequence time) = gives done
 rustAnswerTo o (receiving time tpdu) =

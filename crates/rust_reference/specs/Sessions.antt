@@ -18,10 +18,13 @@ use Rattle.reflector_answer.specs.State.{fresh}
 use Rattle.gtpu.specs.declared.GtpuMessage.{GtpuMessage}
 use Rattle.reflector_answer.specs.declared.MultiSessionReflectorConfig.{MultiSessionReflectorConfig}
 use Rattle.reflector_answer.specs.declared.ReflectorNoopReason.{ReflectorNoopReason}
-use Rattle.reflector_answer.specs.declared.ReflectorNoopReason.the-variants.{GpduSunk, EchoResponseObserved, ErrorIndicationObserved, EndMarkerIgnored, SupportedExtensionHeadersNotificationIgnored}
+use Rattle.reflector_answer.specs.declared.ReflectorNoopReason.the-variants.{GpduSunk, EchoResponseObserved}
+use Rattle.reflector_answer.specs.declared.ReflectorNoopReason.the-variants.{ErrorIndicationObserved, EndMarkerIgnored}
+use Rattle.reflector_answer.specs.declared.ReflectorNoopReason.the-variants.{SupportedExtensionHeadersNotificationIgnored}
 use Rattle.reflector_answer.specs.declared.ReflectorPolicy.{ReflectorPolicy}
 use Rattle.reflector_answer.specs.declared.ReflectorPolicy.the-variants.{Echo, SinkAndCount, Route}
-use Rattle.reflector_answer.specs.declared.ReflectorSendReason.the-variants.{ReflectedGpdu, RoutedGpdu, EchoResponse, ErrorIndication}
+use Rattle.reflector_answer.specs.declared.ReflectorSendReason.the-variants.{ReflectedGpdu, RoutedGpdu, EchoResponse}
+use Rattle.reflector_answer.specs.declared.ReflectorSendReason.the-variants.{ErrorIndication}
 use Rattle.reflector_answer.specs.declared.ReflectorState.{ReflectorState}
 use Rattle.reflector_answer.specs.declared.RouteTarget.{RouteTarget}
 use Rattle.gtpu.specs.declared.SequenceNumber.{SequenceNumber}

@@ -1,4 +1,4 @@
--- The Rust's traffic.rs: plans and the generator, lines 18 to 115; the observer, lines 141 to 232; its report, lines
+-- The Rust's traffic.rs: plans and the generator, lines 18 to 115; the observer, lines 140 to 232; its report, lines
 -- 235 to 332.
 use Prim.Native.Nat.{ℕ, zero, suc, _+_, _-_, _*_, _/_, _%_, min, max}
 use mathlib.Core.List.{List, [], _∷_, _++_}
@@ -8,15 +8,20 @@ use lib.ListN.{length}
 use Rattle.evidence.specs.declared.LatencySummary.{LatencySummary}
 use Rattle.evidence.specs.declared.PacketContinuityBudget.{PacketContinuityBudget}
 use Rattle.return_calls.specs.declared.GtpuReturnDatagramOutcome.{GtpuReturnDatagramOutcome}
-use Rattle.return_calls.specs.declared.GtpuReturnDatagramOutcome.the-variants.{MeasurementTpdu, ErrorIndication, EchoResponse, Ignored}
+use Rattle.return_calls.specs.declared.GtpuReturnDatagramOutcome.the-variants.{MeasurementTpdu, ErrorIndication}
+use Rattle.return_calls.specs.declared.GtpuReturnDatagramOutcome.the-variants.{EchoResponse, Ignored}
 use Rattle.plan.specs.declared.TrafficPlan.{TrafficPlan}
 use Rattle.rust_reference.specs.Error as error
-use Rattle.rust_reference.specs.Error.{DataplaneTestkitError, Result, Ok, Err, InvalidPacket, Overflow, TimestampReversed, returnIf, _>>_}
+use Rattle.rust_reference.specs.Error.{DataplaneTestkitError, Result, Ok, Err, InvalidPacket, Overflow}
+use Rattle.rust_reference.specs.Error.{TimestampReversed, returnIf, _>>_}
 use Rattle.rust_reference.specs.Values.{«u64_max», «saturating_add», «saturating_add_u128»}
 use Rattle.rust_reference.specs.Evidence.{PacketContinuityReport}
-use Rattle.rust_reference.specs.Map.{Option, None, Some, «is_some_and», «map_or», Entry, get, «contains_key», insert, keys, values, contains}
+use Rattle.rust_reference.specs.Map.{Option, None, Some, «is_some_and», «map_or», Entry, get, «contains_key»}
+use Rattle.rust_reference.specs.Map.{insert, keys, values, contains}
 use Rattle.rust_reference.specs.Measurement.{InnerIpFlow, «build_measurement_tpdu», «decode_measurement_tpdu»}
-use Rattle.rust_reference.specs.Gtpu.{«GTPU_MSG_ECHO_RESPONSE», «GTPU_MSG_ERROR_INDICATION», «GTPU_MSG_SUPPORTED_EXTENSION_HEADERS_NOTIFICATION», «GTPU_MSG_END_MARKER», «GTPU_MSG_GPDU», «validate_error_indication_ies»}
+use Rattle.rust_reference.specs.Gtpu.{«GTPU_MSG_ECHO_RESPONSE», «GTPU_MSG_ERROR_INDICATION»}
+use Rattle.rust_reference.specs.Gtpu.{«GTPU_MSG_SUPPORTED_EXTENSION_HEADERS_NOTIFICATION», «GTPU_MSG_END_MARKER»}
+use Rattle.rust_reference.specs.Gtpu.{«GTPU_MSG_GPDU», «validate_error_indication_ies»}
 
 -- ---- the generator
 

@@ -17,7 +17,7 @@ fn print_limits(word: usize) {
 // A value that is not what its word takes.
 fn print_bad_number(word: usize, value: &[u8]) {
     word_names::print_name(word);
-    text::print(b" is ");
+    text::print(b" takes ");
     print_limits(word);
     text::print(b", not \"");
     text::print_word(value, 10);
@@ -26,7 +26,7 @@ fn print_bad_number(word: usize, value: &[u8]) {
 
 fn print_bad_window(word: usize, value: &[u8]) {
     word_names::print_name(word);
-    text::print(b" is A or A..B, not \"");
+    text::print(b" takes A or A..B, not \"");
     text::print_word(value, 10);
     text::print(b"\"");
 }
@@ -48,7 +48,7 @@ fn print_misplaced(word: &[u8], why: &[u8]) {
     text::print(why);
 }
 
-// A window, of which only the end where the whole would be too long for its line.
+// A window, or only its end if the whole would be too long for the line.
 fn print_window(first: u64, last: u64) {
     if first < last && 9_999_999 < last {
         return text::print_count(b"..", last);
@@ -60,7 +60,7 @@ fn print_past_count(s: &Scenario, word: usize) {
     word_names::print_name(word);
     text::print(b"=");
     print_window(scenario::first(s, word), scenario::last(s, word));
-    text::print_count(b" is past the count, ", scenario::first(s, scenario::COUNT));
+    text::print_count(b" goes past count=", scenario::first(s, scenario::COUNT));
 }
 
 // Why words are not accepted.

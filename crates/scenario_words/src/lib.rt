@@ -127,7 +127,7 @@ fn take_word(s: &mut Scenario, word: &[u8]) -> Judged {
     take_window(s, row, text::after(word, b'='))
 }
 
-// The same with the place of the word.
+// A judgement, with the place of its word.
 fn placed(j: Judged, at: usize, length: usize) -> Judged {
     Judged {
         reason: j.reason,
@@ -171,8 +171,8 @@ fn misses_loss(s: &Scenario) -> bool {
     scenario::last(s, scenario::LATENCY_AFTER_US) > 0 && scenario::last(s, scenario::LOSE) == 0
 }
 
-// Takes every word into a scenario, one at least: no bytes are an empty word. What two words say together is judged
-// last, since either may be given first.
+// Takes every word into a scenario. There is at least one: no bytes at all count as an empty word. What two words say
+// together is judged last, since either may be given first.
 pub fn take_words(s: &mut Scenario, words: &[u8], separator: u8) -> Judged {
     let taken = take_each(s, words, separator);
     if taken.reason != ACCEPTED {

@@ -24,8 +24,8 @@ abbrev pub EnteredWhole : Type 0
 EnteredWhole = (o : Observer) (plan : TrafficPlan) (next : ℕ)
     → recordSentPlan o plan next .outcome ≡ gives tt → Entered o plan next
 
--- 22 is due only where the single calls in turn refuse some packet by 22, also where sequences of the plan are on the
--- sheet, which need no row.
+-- 22 is due only if the single calls in turn would refuse some packet by 22. Sequences of the plan that are on the
+-- sheet need no new row.
 abbrev pub FullOnlyIfFull : Type 0
 FullOnlyIfFull = (o : Observer) (plan : TrafficPlan) (next : ℕ)
     → recordSentPlan o plan next .outcome ≡ refused observerFull

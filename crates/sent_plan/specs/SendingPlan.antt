@@ -29,11 +29,11 @@ rowsNeeded rs [] = 0
 rowsNeeded rs (p ∷ packets) =
     elim (wasSent (p .sequence) rs) [ true ↦ rowsNeeded rs packets | false ↦ suc (rowsNeeded rs packets) ]
 
--- The rows that are not in use. (Of a sheet that was judged, so that no more are in use than there are.)
+-- The rows that are not in use. (The sheet was judged, so no more rows are in use than it has.)
 abbrev pub freeRows : Observer → ℕ
 freeRows o = capacity o - o .counts .used
 
--- "new sequence, used count equals capacity": one of the packets would find it so.
+-- "new sequence, used count equals capacity": one of the packets would meet this cause.
 unfoldable pub enteringCauses : Observer → List MeasurementHeader → List Cause
 enteringCauses o packets = (ltb (freeRows o) (rowsNeeded (rows o) packets) ⇒ observerFull) ∷ []
 

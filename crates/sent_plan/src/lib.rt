@@ -47,16 +47,16 @@ pub fn record_sent_plan(
 {
     if !observer::well_formed(sequences, send_timestamps, latencies, marks, counts) {
         return Recorded {
-            answer: Recording::Refused(error::MALFORMED_OBSERVER),
             counts: counts,
+            answer: Recording::Refused(error::MALFORMED_OBSERVER),
         };
     }
     let judged = plan::judge_plan(plan, next_sequence);
     let answer = judged.interval;
     match answer {
         Interval::Refused(number) => Recorded {
-            answer: Recording::Refused(number),
             counts: counts,
+            answer: Recording::Refused(number),
         },
         Interval::Nanoseconds(interval) => {
             let used = counts.used;
@@ -68,8 +68,8 @@ pub fn record_sent_plan(
             );
             if room - used < rows_needed(sequences, used, next_sequence, plan.packet_count) {
                 return Recorded {
-                    answer: Recording::Refused(error::OBSERVER_FULL),
                     counts: counts,
+                    answer: Recording::Refused(error::OBSERVER_FULL),
                 };
             }
             let mut so_far = counts;
@@ -88,8 +88,8 @@ pub fn record_sent_plan(
                 k += 1;
             }
             Recorded {
-                answer: Recording::Accepted,
                 counts: so_far,
+                answer: Recording::Accepted,
             }
         }
     }

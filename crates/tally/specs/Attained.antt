@@ -20,7 +20,8 @@ use Rattle.tally.specs.Tally.{eachColumn}
 use Rattle.observer.specs.Answer.{observerOf}
 use Rattle.tally.specs.Tally.{rowFor}
 use Rattle.tally.specs.Cases.{ipv4Flow, ipv6Flow}
-use Rattle.tally.specs.Demand.{Accepted, packet, sendAll, Takes, Call, tpduCall, messageCall, Return, handed, receive, damagedOnALeg, damagedAtTheEnd}
+use Rattle.tally.specs.Demand.{Accepted, packet, sendAll, Takes, Call, tpduCall, messageCall, Return, handed}
+use Rattle.tally.specs.Demand.{receive, damagedOnALeg, damagedAtTheEnd}
 
 -- A plan that breaks no rule of leaf 5 is accepted, for every flow.
 abbrev pub PlansAccepted : Type 0

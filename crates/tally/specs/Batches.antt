@@ -1,5 +1,5 @@
--- Demand 3 speaks of single calls. The batch calls leave the observers that these leave, so it holds of runs that are
--- made with them. proofs/Batches.antt proves it.
+-- Demand 3 speaks of single calls. A batch call leaves the observer that its single calls leave, so demand 3 also holds
+-- for runs made with batch calls. proofs/Batches.antt proves it.
 use Prim.Native.Nat.{ℕ}
 use mathlib.Core.Path.{_≡_}
 use mathlib.Core.List.{List, map}
@@ -14,8 +14,8 @@ use Rattle.sent_plan.specs.SendingPlan.{recordSentPlan}
 use Rattle.received_tpdus.specs.Received.{Received, tpdusOf, receivedOf, returnsIn, recordReceivedTpdus}
 use Rattle.tally.specs.Demand.{Accepted, sendAll, Takes, tpduCall, Handed, receiveAll}
 
--- An accepted plan, entered in one call on a fresh observer. The call is taken if and only if no single call refuses a
--- packet, and then all packets are sent, in plan order: what demand 3 begins with is what the one call answers.
+-- An accepted plan, entered in one call on a fresh observer. The call is accepted if and only if no single call refuses
+-- a packet; it then leaves the sheet that demand 3 begins with, all packets sent in plan order.
 pub record EnteredInOneCall (plan : TrafficPlan) (next : ℕ) (o : Observer) : Type 0 where
   pub all-sent : Takes plan next o
       → recordSentPlan o plan next ≡ record { outcome = gives tt; observer = sendAll o (packetsOf plan next) }
@@ -29,7 +29,8 @@ PlanEntered = (flow : InnerIpFlow) (plan : TrafficPlan) (next : ℕ) → Accepte
 abbrev pub handedTpdu : Received → Handed
 handedTpdu r = record { call = tpduCall; time = r .time; tpdu = r .tpdu }
 
--- A list of returns, taken in one call: on a malformed sheet too, which every single call leaves as it was.
+-- A list of returns, taken in one call, leaves what the single calls leave; on a malformed sheet too, where every call
+-- leaves all as it was.
 abbrev pub ReturnsTaken : Type 0
 ReturnsTaken = (o : Observer) (times lengths bytes returned numbers : List ℕ)
     → recordReceivedTpdus o times lengths bytes returned numbers .observer

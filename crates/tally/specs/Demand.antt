@@ -68,7 +68,7 @@ pub record Handed : Type 0 where
   pub time : ℕ
   pub tpdu : List ℕ
 
--- What it makes of it: whether it refuses, and the observer as it leaves it.
+-- What the call does with it: whether it refuses, and the observer that it leaves.
 pub record Taken : Type 0 where
   pub refuses : Bool
   pub observer : Observer

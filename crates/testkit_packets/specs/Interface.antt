@@ -1,4 +1,4 @@
--- How the C interface puts packets: a version as a number, an outcome as a number and values beside it.
+-- How the C interface represents packets: a version as a number, an outcome as a number and values beside it.
 use Prim.Native.Nat.{ℕ, _+_, _*_}
 use mathlib.Core.Path.{_≡_}
 use mathlib.Core.List.{List}
@@ -15,8 +15,13 @@ abbrev pub versionOf : ℕ → ℕ → ℕ → ℕ
 versionOf major minor patch = major * 65536 + minor * 256 + patch
 
 abbrev pub flowOf : ℕ → List ℕ → List ℕ → ℕ → ℕ → InnerIpFlow
-flowOf version src dst sourcePort destinationPort =
-    record { version = versionNumbered version; src = src; dst = dst; «src_port» = sourcePort; «dst_port» = destinationPort }
+flowOf version src dst sourcePort destinationPort = record {
+  version = versionNumbered version;
+  src = src;
+  dst = dst;
+  «src_port» = sourcePort;
+  «dst_port» = destinationPort;
+}
 
 -- 0 and the count of bytes, or a refusal's number and 0 bytes.
 abbrev pub writtenNumbers : Outcome ℕ → TestkitWritten

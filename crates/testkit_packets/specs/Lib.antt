@@ -1,2 +1,2 @@
--- How the C interface puts what the calls on packets answer.
+-- How the C interface represents what the calls on packets answer.
 pub mod Interface

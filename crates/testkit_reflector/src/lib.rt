@@ -162,8 +162,8 @@ pub struct TestkitReflectorState {
     pub next_error_sequence: u16,
 }
 
-// A GTP-U message without its payload, as it came or as it is to be sent. Where `has_sequence` is 0 it has none; of one
-// to be sent it is 0 or 1.
+// A GTP-U message without its payload, as it came or as it is to be sent. It has no sequence if `has_sequence` is 0; in
+// a message to be sent that is 0 or 1.
 #[repr(C)]
 pub struct TestkitGtpuMessage {
     pub message_type: u8,
@@ -200,8 +200,8 @@ pub const SEND_ECHO_RESPONSE: u8 = 3;
 pub const SEND_ERROR_INDICATION: u8 = 4;
 
 // What handling answers: 0 or a refusal's number; what is to be done; why nothing is sent, or 0; why a message is sent,
-// or 0. `bytes` of the payload to send are in the output; of a routed one none, since it is the received payload. Where
-// nothing is sent the destination is version 4 and zeros, and the message zeros.
+// or 0. `bytes` says how much of the payload to send is in the output: nothing of a routed one, which is the received
+// payload. Where nothing is sent the destination is version 4 and zeros, and the message zeros.
 #[repr(C)]
 pub struct TestkitHandled {
     pub number: u8,
@@ -223,7 +223,7 @@ struct ActionNumbers {
     bytes: usize,
 }
 
-// A sequence number: 1 where there is one, and 0 twice where there is none.
+// A sequence number: 1 and its value, or 0 and 0 if there is none.
 struct SequenceNumbers {
     present: u8,
     value: u16,

@@ -1,4 +1,4 @@
--- What the verdict for C has to do with the report that it is about.
+-- How the verdict for C relates to the report that it judges.
 use Prim.Native.Nat.{ℕ}
 use mathlib.Core.Path.{_≡_}
 use Rattle.error.specs.Outcome.{Outcome, refused, gives}
@@ -11,13 +11,13 @@ use Rattle.testkit_sheet.specs.Interface.{reportNumbers}
 use Rattle.testkit_sheet.specs.Verdict.{noReport, verdictNumbers, judging}
 use Rattle.testkit_sheet.specs.declared.TestkitVerdict.{TestkitVerdict}
 
--- The verdict on a report by what it says itself, or that there is none.
+-- The verdict that a report gives by itself, or that there is no report.
 abbrev pub saysItself : Outcome PacketContinuityReport → TestkitVerdict
 saysItself (refused n) = noReport
 saysItself (gives report) = verdictNumbers (verdictOf report)
 
--- Judged against the budget that it was asked for, a report gets the verdict that it says itself: nothing of it is lost
--- on its way through C.
+-- Judged against the budget that it was made for, a report gets the verdict that it gives by itself: nothing is lost on
+-- the way through C.
 abbrev pub OwnBudget : Type 0
 OwnBudget =
     (o : Observer) (windowStart windowEnd : ℕ) (budget : PacketContinuityBudget)

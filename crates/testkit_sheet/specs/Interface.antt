@@ -1,4 +1,5 @@
--- How the C interface puts a run sheet: an outcome as a number and values beside it, the counts as the sheet has them.
+-- How the C interface represents a run sheet: an outcome as a number and values beside it, the counts as the sheet has
+-- them.
 use Prim.Native.Nat.{ℕ}
 use mathlib.Core.Path.{_≡_}
 use mathlib.Core.List.{List}
@@ -13,7 +14,8 @@ use Rattle.return_calls.specs.Returns.{MessageStep}
 use Rattle.received_tpdus.specs.Received.{ReturnsTaken}
 use Rattle.rows.specs.Columns.{Columns, Column, Sheet}
 use Rattle.return_calls.specs.declared.GtpuReturnDatagramOutcome.{GtpuReturnDatagramOutcome}
-use Rattle.return_calls.specs.declared.GtpuReturnDatagramOutcome.the-variants.{MeasurementTpdu, ErrorIndication, EchoResponse, Ignored}
+use Rattle.return_calls.specs.declared.GtpuReturnDatagramOutcome.the-variants.{MeasurementTpdu, ErrorIndication}
+use Rattle.return_calls.specs.declared.GtpuReturnDatagramOutcome.the-variants.{EchoResponse, Ignored}
 use Rattle.evidence.specs.Budget.{zeroLoss}
 use Rattle.evidence.specs.Latency.{latencyMeans}
 use Rattle.evidence.specs.declared.LatencySummary.{LatencySummary}

@@ -1,4 +1,4 @@
--- How the C interface puts what the calls on a run sheet answer, and the verdict on a report.
+-- How the C interface represents what the calls on a run sheet answer, and the verdict on a report.
 pub mod Interface
 pub mod Verdict
 pub mod Claims

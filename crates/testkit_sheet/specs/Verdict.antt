@@ -10,15 +10,16 @@ use Rattle.evidence.specs.declared.PacketContinuityReport.{PacketContinuityRepo
 use Rattle.report.specs.Report.{withinBudget}
 use Rattle.verdict.specs.Verdict.{verdictOf}
 use Rattle.verdict.specs.declared.Verdict.{Verdict}
-use Rattle.verdict.specs.declared.Verdict.the-variants.{Pass, NothingReturned, TooManyLost, TooManyInARow, OutageTooLong, ErrorIndicated}
+use Rattle.verdict.specs.declared.Verdict.the-variants.{Pass, NothingReturned, TooManyLost, TooManyInARow}
+use Rattle.verdict.specs.declared.Verdict.the-variants.{OutageTooLong, ErrorIndicated}
 use Rattle.testkit_sheet.specs.declared.TestkitContinuityReport.{TestkitContinuityReport}
 use Rattle.testkit_sheet.specs.declared.TestkitVerdict.{TestkitVerdict}
 
 unfoldable pub latencyGiven : Bool → LatencySummary → Latency
 latencyGiven present summary = elim present [ true ↦ Summary summary | false ↦ Absent ]
 
--- The report with these figures and this budget, whose two verdicts are leaf 7's: "Continuity: lost, longest run and
--- longest duration within budget and no error indication. Forwarding: returned above 0."
+-- The report with these figures and this budget. Its two verdicts are leaf 7's: "Forwarding: returned above 0.
+-- Continuity: lost, longest run and longest duration within budget and no error indication."
 abbrev pub heldTo : TestkitContinuityReport → PacketContinuityBudget → PacketContinuityReport
 heldTo r budget = record {
   «window_start_ns» = r .«window_start_ns»;
@@ -53,7 +54,7 @@ verdictNumbers (ErrorIndicated indications) = record { reason = 5; measured = in
 abbrev pub noReport : TestkitVerdict
 noReport = record { reason = 6; measured = 0; allowed = 0 }
 
--- The call: 6 where there is no report, its number being a refusal's; else the verdict on its figures.
+-- The call: reason 6 if the report's number is a refusal's, else the verdict on its figures.
 unfoldable pub judging : TestkitContinuityReport → PacketContinuityBudget → TestkitVerdict
 judging r budget =
     elim (eqb (r .number) 0) [

@@ -29,15 +29,17 @@ ghost use Rattle.return_calls.specs.Answer.{messageMeans};
 ghost use Rattle.received_tpdus.specs.Received.{returnsMeans, recordReceivedTpdus};
 ghost use Rattle.evidence.specs.Latency.{latencyMeans};
 ghost use Rattle.report.specs.Report.{reporting};
-ghost use Rattle.testkit_sheet.specs.Interface.{recordedNumbers, countGiven, returnsNumbers, outcomeCode, ignoredType, datagramNumbers, latencyNumbers, reportNumbers, Records, RecordsDatagram, RecordsReturns};
+ghost use Rattle.testkit_sheet.specs.Interface.{recordedNumbers, countGiven, returnsNumbers, outcomeCode};
+ghost use Rattle.testkit_sheet.specs.Interface.{ignoredType, datagramNumbers, latencyNumbers, reportNumbers};
+ghost use Rattle.testkit_sheet.specs.Interface.{Records, RecordsDatagram, RecordsReturns};
 ghost use Rattle.testkit_sheet.specs.Claims.{OwnBudget};
 ghost use Rattle.testkit_sheet.specs.Verdict.{latencyGiven, heldTo, verdictNumbers, judging};
 
 // What an observer's call answers: 0 or a refusal's number, and the counts as it leaves them.
 #[repr(C)]
 pub struct TestkitRecorded {
-    pub number: u8,
     pub counts: ObserverCounts,
+    pub number: u8,
 }
 
 fn recorded_numbers(recorded: Recorded) -> TestkitRecorded
@@ -46,8 +48,8 @@ fn recorded_numbers(recorded: Recorded) -> TestkitRecorded
     let answer = recorded.answer;
     let counts = recorded.counts;
     TestkitRecorded {
-        number: observer::answer_number(answer),
         counts: counts,
+        number: observer::answer_number(answer),
     }
 }
 
@@ -130,9 +132,9 @@ pub extern "C" fn testkit_record_sent_plan(
 // and the counts afterwards.
 #[repr(C)]
 pub struct TestkitReturnsRecorded {
+    pub counts: ObserverCounts,
     pub number: u8,
     pub returns: usize,
-    pub counts: ObserverCounts,
 }
 
 fn returns_count(answer: ReturnsRecording) -> usize
@@ -159,9 +161,9 @@ fn returns_numbers(recorded: ReturnsRecorded) -> TestkitReturnsRecorded
     let answer = recorded.answer;
     let counts = recorded.counts;
     TestkitReturnsRecorded {
+        counts: counts,
         number: returns_number(answer),
         returns: returns_count(answer),
-        counts: counts,
     }
 }
 
@@ -207,14 +209,14 @@ pub const OUTCOME_ECHO_RESPONSE: u8 = 3;
 
 pub const OUTCOME_IGNORED: u8 = 4;
 
-// What is answered to a datagram: 0 or a refusal's number, what it was, of an ignored one its message's type, else 0,
-// and the counts.
+// What is answered to a datagram: 0 or a refusal's number; what it was; the type of an ignored message, else 0; and the
+// counts.
 #[repr(C)]
 pub struct TestkitDatagramRecorded {
+    pub counts: ObserverCounts,
     pub number: u8,
     pub outcome: u8,
     pub message_type: u8,
-    pub counts: ObserverCounts,
 }
 
 fn datagram_number(answer: ReturnRecording) -> u8
@@ -260,14 +262,14 @@ fn datagram_numbers(recorded: MessageRecorded) -> TestkitDatagramRecorded
     let answer = recorded.answer;
     let counts = recorded.counts;
     TestkitDatagramRecorded {
+        counts: counts,
         number: datagram_number(answer),
         outcome: outcome_code(answer),
         message_type: ignored_type(answer),
-        counts: counts,
     }
 }
 
-// `return_calls::record_return_gtpu_datagram`, which looks at a message's type alone: so C names no more of it.
+// `return_calls::record_return_gtpu_datagram`. Of the parsed header it uses only the type, so C passes only that.
 #[no_mangle]
 pub extern "C" fn testkit_record_return_gtpu_datagram(
     sequences: &[u64],
@@ -558,7 +560,7 @@ pub extern "C" fn testkit_judge_report(
     verdict_numbers(verdict::judge(held_to(report, budget)))
 }
 
-// Carries that a report judged against its own budget gets the verdict that it says itself.
+// Carries that a report judged against its own budget gets the verdict that it gives by itself.
 pub fn own_budget_gives_own_verdict()
     ensures { λ _. ⌜ OwnBudget ⌝ }
 {}

@@ -6,10 +6,10 @@ ghost use lib.ListN.{length};
 // What stands for a number where a word has none: every limit is below it.
 pub const NO_NUMBER: u64 = 18_446_744_073_709_551_615;
 
-// No limit is as large: digits past it are no number.
+// Larger than every limit: a number above it takes no more digits.
 const LARGEST: u64 = 1_000_000_000_000;
 
-// The n bytes from a place on; none where they are not all there.
+// The n bytes from `at` on; none if they are not all there.
 pub fn part(s: &[u8], at: usize, n: usize) -> &[u8] {
     if at <= s.len() {
         if n <= s.len() - at {
@@ -19,7 +19,7 @@ pub fn part(s: &[u8], at: usize, n: usize) -> &[u8] {
     &s[..0]
 }
 
-// Where a byte stands first from a place on, or the length; past the end, that place.
+// The first place of a byte from `at` on, or the length if there is none; `at` itself if it is past the end.
 pub fn find_from(s: &[u8], at: usize, byte: u8) -> usize
     ensures { λ r. ⌜ at ≤ r ⌝ }
     ensures { λ r. ⌜ (at ≤ length (now (s .entry)) → r ≤ length (now (s .entry))) ⌝ }
@@ -39,12 +39,12 @@ pub fn find(s: &[u8], byte: u8) -> usize {
     find_from(s, 0, byte)
 }
 
-// What stands before it: all, where it is not there.
+// What stands before the first such byte: everything, if there is none.
 pub fn before(s: &[u8], byte: u8) -> &[u8] {
     part(s, 0, find(s, byte))
 }
 
-// What stands after it: nothing, where it is not there.
+// What stands after the first such byte: nothing, if there is none.
 pub fn after(s: &[u8], byte: u8) -> &[u8] {
     let at = find(s, byte);
     if at < s.len() {

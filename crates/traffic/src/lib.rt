@@ -128,7 +128,7 @@ impl TrafficEngine {
         }
     }
 
-    // The same, from the engine's next sequence.
+    // `generate_from`, with the engine's own next sequence.
     pub fn generate(&mut self, flow: InnerIpFlow, plan: TrafficPlan, out: &mut [u8]) -> Written
         ensures { λ r. ⌜ generated r (now (self .exit) .«next_sequence») (now (out .exit))
             ≡ generateOf flow plan (now (self .entry) .«next_sequence») (now (out .entry)) ⌝ }

@@ -4,7 +4,8 @@ use mathlib.Core.Bool.{Bool, true, false, not}
 use lib.Dec.{ltb}
 use Rattle.evidence.specs.declared.PacketContinuityReport.{PacketContinuityReport}
 use Rattle.verdict.specs.declared.Verdict.{Verdict}
-use Rattle.verdict.specs.declared.Verdict.the-variants.{Pass, NothingReturned, TooManyLost, TooManyInARow, OutageTooLong, ErrorIndicated}
+use Rattle.verdict.specs.declared.Verdict.the-variants.{Pass, NothingReturned, TooManyLost, TooManyInARow}
+use Rattle.verdict.specs.declared.Verdict.the-variants.{OutageTooLong, ErrorIndicated}
 
 -- The first verdict where the test holds, otherwise the second.
 unfoldable pub either : Bool → Verdict → Verdict → Verdict

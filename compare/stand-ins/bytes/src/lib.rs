@@ -1,4 +1,4 @@
-//! Stands in for the crate `bytes`, which is not at hand.
+//! Stands in for the crate `bytes`, so that the build fetches nothing.
 //!
 //! Serves gtpu.rs (`Bytes::copy_from_slice`, `BytesMut::new`, `to_vec`), traffic.rs and
 //! reflector.rs (`as_ref`), and the stand-in codec (`extend_from_slice`). Nothing is shared

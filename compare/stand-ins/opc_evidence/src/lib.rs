@@ -1,4 +1,4 @@
-//! Stands in for the crate `opc_evidence`, which is not at hand.
+//! Stands in for the crate `opc_evidence`, whose source is not in this repository.
 //!
 //! Serves evidence.rs: `has_raw_sensitive_identifier`, called by `validate_redaction`, and the
 //! struct that `to_dataplane_snapshot` fills in. Redaction and snapshots are no part of the

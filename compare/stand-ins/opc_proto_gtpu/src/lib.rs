@@ -1,5 +1,5 @@
-//! Stands in for the crate `opc_proto_gtpu`, the GTP-U header codec, which is not at hand and is
-//! no part of the port.
+//! Stands in for the crate `opc_proto_gtpu`, the GTP-U header codec, whose source is not in this
+//! repository, and which is no part of the port.
 //!
 //! Serves gtpu.rs, which decodes datagrams with it and encodes answers, and the driver, which
 //! hands the Rust a message that is already parsed. So a "datagram" here has a private form that

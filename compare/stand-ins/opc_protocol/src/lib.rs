@@ -1,4 +1,4 @@
-//! Stands in for the crate `opc_protocol`, which is not at hand.
+//! Stands in for the crate `opc_protocol`, whose source is not in this repository.
 //!
 //! Serves gtpu.rs: the three codec traits that it calls (`GtpuMessage::decode`,
 //! `OwnedGtpuMessage::decode_owned`, `encode`) and the contexts that it hands to them. The

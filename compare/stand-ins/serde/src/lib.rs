@@ -1,4 +1,4 @@
-//! Stands in for the crate `serde`, which is not at hand.
+//! Stands in for the crate `serde`, so that the build fetches nothing.
 //!
 //! Serves evidence.rs, which names the two derives and no trait.
 

@@ -1,4 +1,4 @@
-//! Stands in for the crate `serde_derive`, which is not at hand.
+//! Stands in for the crate `serde_derive`, so that the build fetches nothing.
 //!
 //! Serves evidence.rs: the derives `Serialize` and `Deserialize` expand to nothing, and take the
 //! attribute `#[serde(..)]` with them. JSON is no part of the port, so nothing is ever serialised.

@@ -1,4 +1,4 @@
-//! Stands in for the crate `thiserror`, which is not at hand.
+//! Stands in for the crate `thiserror`, so that the build fetches nothing.
 //!
 //! Serves error.rs: `#[derive(Error)]` on an enum, each variant of which has `#[error("text")]`.
 //! It writes `Display` and `std::error::Error`. A variant has no field, named fields (the text
