@@ -9,7 +9,7 @@ ghost use Rattle.rows.specs.Columns.{sheet};
 ghost use Rattle.observer.specs.Counts.{oneDuplicate, oneOutOfOrder, oneErrorIndication, withUsed};
 ghost use Rattle.observer.specs.Judge.{wellFormed};
 ghost use Rattle.observer.specs.Sending.{recordSent};
-ghost use Rattle.observer.specs.Claims.{PutBack, FreshIsWell, CallsKeepWell, SearchFinds, FullOnlyWhenFull, FullAtRow2049, SentAgain, BelowHighestMarked};
+ghost use Rattle.observer.specs.Claims.{PutBack, MalformedIs, FreshIsWell, CallsKeepWell, RestKept, SearchFinds, FullOnlyWhenFull, FullAtRow2049, SentAgain, BelowHighestMarked};
 ghost use Rattle.observer.specs.Answer.{recordingMeans, acceptance, refusal, afterEntry, afterArrival, lent, records};
 use rows::Arrival;
 use rows::Entry;
@@ -199,9 +199,19 @@ pub fn record_sent(
     ))
 }
 
+// Carries what makes a sheet malformed: one of the three causes of 21, and nothing else.
+pub fn what_is_malformed()
+    ensures { λ _. ⌜ MalformedIs ⌝ }
+{}
+
 // Carries that 21 is never due on a sheet that was fresh and that only these calls have written since.
 pub fn calls_keep_well_formed()
     ensures { λ _. ⌜ PutBack × FreshIsWell × CallsKeepWell ⌝ }
+{}
+
+// Carries that no call writes past the rows that it leaves in use.
+pub fn rest_is_kept()
+    ensures { λ _. ⌜ RestKept ⌝ }
 {}
 
 // Carries that 22 is said at row 2,049 and no sooner, and never of a sequence that is on the sheet.
