@@ -1,27 +1,30 @@
 -- The claims of specs/Claims.antt, proved.
-use Prim.Native.Nat.{ℕ, _<_}
+use Prim.Native.Nat.{ℕ, suc, _≤_, _<_}
 use mathlib.Core.Path.{_≡_, refl, sym, ap, _∙_}
-use mathlib.Core.List.{List, [], _∷_}
+use mathlib.Core.List.{List, [], _∷_, map}
 use mathlib.Core.Bool.{Bool, true, false}
 use native.Mathlib.Omega.{arith}
 use lib.Dec.{eqb, ltb}
-use lib.ListN.{length, getD, set, length-set, length-map}
+use lib.ListN.{length, getD, set, drop, length-set, length-map}
+use lib.Seq.{drop-at}
 use borrow.Author.Tests.{eqb-true, eqb-false, eq-eqb, lt-ltb, le-leb, ltb-true, ltb-false}
+use Rattle.error.specs.Outcome.{Outcome, gives, Cause, _⇒_, firstCause}
 use Rattle.error.proofs.Tests.{and-both}
 use Rattle.observer.specs.Counts.{withUsed, oneDuplicate, outOfOrderIf, oneErrorIndication}
-use Rattle.observer.specs.Observer.{Row, Observer, capacity, rows, sequencesOf}
+use Rattle.observer.specs.Observer.{Row, Observer, capacity, rows, rowAt, sequencesOf, column, withRows, withCounts}
 use Rattle.columns.specs.Columns.{rising}
-use Rattle.observer.specs.Judge.{wellFormed, Step}
+use Rattle.observer.specs.Judge.{rowsKnown, wellFormed, judged, Step, step}
 use Rattle.columns.specs.Place.{holds}
 use Rattle.observer.specs.Place.{placeOf, wasSent, rowOf, highestMarked}
-use Rattle.observer.specs.Sending.{resent, recordSent}
-use Rattle.observer.specs.Returning.{returned, recordReturn}
+use Rattle.observer.specs.Sending.{resent, entered, sendingCauses, recordSent}
+use Rattle.observer.specs.Returning.{returned, returnCauses, afterReturn, recordReturn, recordErrorIndication}
 use Rattle.observer.specs.declared.ObserverCounts.{ObserverCounts}
-use Rattle.observer.specs.Claims.{PutBack, FreshIsWell, Call, sending, returning, indicating, recordCall, CallsKeepWell, SearchFinds, FullOnlyWhenFull, FullAtRow2049, SentAgain, BelowHighestMarked}
+use Rattle.observer.specs.Claims.{PutBack, MalformedIs, FreshIsWell, Call, sending, returning, indicating, recordCall, CallsKeepWell, SameFrom, RestKept, SearchFinds, FullOnlyWhenFull, FullAtRow2049, SentAgain, BelowHighestMarked}
 use Rattle.columns.proofs.Search.{both-right, rising-at, place-at, held-within}
 use Rattle.rows.specs.Columns.{columnLengths}
 use Rattle.rows.proofs.Within.{holds-2048}
 use Rattle.observer.proofs.Rows.{rows-are, rows-with, counts-with, field-at}
+use Rattle.observer.proofs.Judging.{overfull}
 use Rattle.observer.proofs.OutOfOrder.{below-highest}
 use Rattle.observer.proofs.Calls.{sent-again, sent-full, sent-new, return-unknown, return-early, return-duplicate, return-first, indication-counted}
 use Rattle.observer.proofs.Keeping.{WellRows, well-rows, counts-well, set-well, put-well, row-known}
@@ -37,6 +40,45 @@ fresh-is-well o e =
 
 pub below-highest-marked : BelowHighestMarked
 below-highest-marked = below-highest
+
+-- ---- what is malformed
+
+-- what does not hold of a well-formed observer makes it malformed
+refuted : (o : Observer) → (wellFormed o ≡ true → ⊥) → wellFormed o ≡ false
+refuted o h = go (wellFormed o) h
+  where
+    go : (b : Bool) → (b ≡ true → ⊥) → b ≡ false
+    go true h = absurd (h refl)
+    go false h = refl
+
+neighbours-rise : (rs : List Row) → ((k : ℕ) → suc k < length rs → rowAt k rs .sequence < rowAt (suc k) rs .sequence) → rising (sequencesOf rs) ≡ true
+neighbours-rise [] h = refl
+neighbours-rise (r ∷ []) h = refl
+neighbours-rise (r ∷ s ∷ rs) h = and-both _ _ (lt-ltb _ _ (h 0 (omega arith))) (neighbours-rise (s ∷ rs) (λ k g. h (suc k) (omega arith)))
+
+marks-known : (rs : List Row) → ((k : ℕ) → k < length rs → rowAt k rs .mark ≤ 1) → rowsKnown rs ≡ true
+marks-known [] h = refl
+marks-known (r ∷ rs) h = and-both _ _ (lt-ltb (r .mark) 2 (omega (arith, h 0 (omega arith)))) (marks-known rs (λ k g. h (suc k) (omega arith)))
+
+pub malformed-is : MalformedIs
+unfolding wellFormed
+malformed-is o =
+    let rs : List Row = rows o in
+    let l : length (sequencesOf rs) ≡ length rs = length-map rs (λ x. x .sequence) in
+    record {
+      above-capacity = overfull o;
+      not-rising = λ k h g.
+          refuted o
+          (λ w. omega (
+            arith,
+            rising-at (sequencesOf rs) k (suc k) (well-rows o w .rises) (omega arith) (omega arith),
+            field-at (λ x. x .sequence) rs k (omega arith),
+            field-at (λ x. x .sequence) rs (suc k) h,
+          ));
+      unknown-mark = λ k h g. refuted o (λ w. omega (arith, ltb-true (rowAt k rs .mark) 2 (row-known o k (well-rows o w))));
+      otherwise = λ fits rise marks.
+          and-both _ _ (le-leb (o .counts .used) (capacity o) fits) (and-both _ _ (neighbours-rise rs rise) (marks-known rs marks));
+    }
 
 -- ---- the calls keep an observer well formed
 
@@ -83,6 +125,62 @@ module _ (o : Observer) (w : wellFormed o ≡ true) where
 pub calls-keep-well : CallsKeepWell
 calls-keep-well o [] w = w
 calls-keep-well o (call ∷ calls) w = calls-keep-well (recordCall o call .observer) calls (keeps o w call)
+
+-- ---- rows past the count
+
+column-kept : (field : Row → ℕ) (rs : List Row) (old : List ℕ) → drop (length rs) (column field rs old) ≡ drop (length rs) old
+column-kept field rs old = drop-at (map field rs) (drop (length rs) old) (length rs) (length-map rs field)
+
+module _ (o : Observer) where
+  abbrev Rest : Observer → Type 0
+  Rest next = SameFrom (next .counts .used) (o .columns) (next .columns)
+
+  counted : (c : ObserverCounts) → Rest (withCounts c o)
+  counted c = record { sequences = refl; «send_timestamps» = refl; latencies = refl; marks = refl }
+
+  written : (rs : List Row) (c : ObserverCounts) → Rest (withRows rs (withCounts c o))
+  unfolding withRows
+  written rs c = record {
+    sequences = column-kept (λ r. r .sequence) rs (o .columns .sequences);
+    «send_timestamps» = column-kept (λ r. r .«send_timestamp_ns») rs (o .columns .«send_timestamps»);
+    latencies = column-kept (λ r. r .latency) rs (o .columns .latencies);
+    marks = column-kept (λ r. r .mark) rs (o .columns .marks);
+  }
+
+  -- a refusal leaves all as it was
+  caused : (causes : List Cause) (x : Outcome Observer) → Rest (step o x .observer) → Rest (step o (firstCause causes x) .observer)
+  unfolding firstCause
+  caused [] x h = h
+  caused ((true ⇒ n) ∷ causes) x h = counted (o .counts)
+  caused ((false ⇒ n) ∷ causes) x h = caused causes x h
+
+  after-judging : (x : Outcome Observer) → Rest (step o x .observer) → Rest (step o (judged o x) .observer)
+  unfolding judged
+  after-judging x h = caused _ x h
+
+  after-return : (q t : ℕ) → Rest (afterReturn o q t)
+  unfolding afterReturn
+  after-return q t = go (eqb (rowOf q (rows o) .mark) 1)
+    where
+      go : (b : Bool)
+          → Rest
+          (elim b [
+            | true ↦ withCounts (oneDuplicate (o .counts)) o
+            | false ↦
+                withRows (set (rows o) (placeOf q (rows o)) (returned t (rowOf q (rows o))))
+                (withCounts (outOfOrderIf (ltb q (highestMarked (rows o))) (o .counts)) o)
+          ])
+      go true = counted (oneDuplicate (o .counts))
+      go false = written _ _
+
+  after-call : (call : Call) → Rest (recordCall o call .observer)
+  unfolding recordSent recordReturn recordErrorIndication
+  after-call (sending q t) = after-judging _ (caused (sendingCauses o q) (gives _) (written (entered q t (rows o)) (o .counts)))
+  after-call (returning t q) = after-judging _ (caused (returnCauses o q t) (gives _) (after-return q t))
+  after-call indicating = after-judging (gives _) (counted (oneErrorIndication (o .counts)))
+
+pub rest-kept : RestKept
+rest-kept o call = after-call o call
 
 -- ---- the search
 

@@ -1,5 +1,5 @@
 -- What is claimed of the observer and its calls. proofs/Claims.antt proves each claim.
-use Prim.Native.Nat.{ℕ, _≤_, _<_}
+use Prim.Native.Nat.{ℕ, suc, _≤_, _<_}
 use mathlib.Core.Path.{_≡_}
 use mathlib.Core.List.{List, _∷_, _++_}
 use mathlib.Core.Bool.{true, false}
@@ -7,7 +7,7 @@ use lib.Dec.{ltb}
 use lib.ListN.{length, set, take, drop}
 use Rattle.error.specs.Number.{observerFull}
 use Rattle.error.specs.Outcome.{refused, gives}
-use Rattle.rows.specs.Columns.{columnLengths, EachHas}
+use Rattle.rows.specs.Columns.{Columns, columnLengths, EachHas}
 use Rattle.observer.specs.Counts.{fresh}
 use Rattle.observer.specs.Observer.{Row, Observer, capacity, rows, rowAt, sentRow, withRows}
 use Rattle.observer.specs.Judge.{wellFormed, Step}
@@ -19,6 +19,21 @@ use Rattle.observer.specs.InTurn.{inTurn}
 -- The rows that are put back are the used rows, whatever the columns held and however long they are.
 abbrev pub PutBack : Type 0
 PutBack = (rs : List Row) (o : Observer) → rows (withRows rs o) ≡ rs
+
+-- "used count above capacity, used rows not rising, a used row's mark not 0 or 1": each of these alone makes a sheet
+-- malformed, and nothing else does. Said by the numbers of the rows, and not by the tests of specs/Judge.antt.
+pub record Causes21 (o : Observer) : Type 0 where
+  pub above-capacity : capacity o < o .counts .used → wellFormed o ≡ false
+  pub not-rising : (k : ℕ) → suc k < length (rows o)
+      → rowAt (suc k) (rows o) .sequence ≤ rowAt k (rows o) .sequence → wellFormed o ≡ false
+  pub unknown-mark : (k : ℕ) → k < length (rows o) → 1 < rowAt k (rows o) .mark → wellFormed o ≡ false
+  pub otherwise : o .counts .used ≤ capacity o
+      → ((k : ℕ) → suc k < length (rows o) → rowAt k (rows o) .sequence < rowAt (suc k) (rows o) .sequence)
+      → ((k : ℕ) → k < length (rows o) → rowAt k (rows o) .mark ≤ 1)
+      → wellFormed o ≡ true
+
+abbrev pub MalformedIs : Type 0
+MalformedIs = (o : Observer) → Causes21 o
 
 -- A fresh observer is well formed, with columns of any contents and any lengths.
 abbrev pub FreshIsWell : Type 0
@@ -43,6 +58,19 @@ afterCalls o calls = inTurn recordCall o calls .observer
 -- and that only these calls have written since.
 abbrev pub CallsKeepWell : Type 0
 CallsKeepWell = (o : Observer) (calls : List Call) → wellFormed o ≡ true → wellFormed (afterCalls o calls) ≡ true
+
+-- From row n on, the columns hold what they held.
+pub record SameFrom (n : ℕ) (before after : Columns) : Type 0 where
+  pub sequences : drop n (after .sequences) ≡ drop n (before .sequences)
+  pub «send_timestamps» : drop n (after .«send_timestamps») ≡ drop n (before .«send_timestamps»)
+  pub latencies : drop n (after .latencies) ≡ drop n (before .latencies)
+  pub marks : drop n (after .marks) ≡ drop n (before .marks)
+
+-- "rows past the new count keep their contents": after every call, accepted or refused.
+abbrev pub RestKept : Type 0
+RestKept = (o : Observer) (call : Call)
+    → let next : Observer = recordCall o call .observer in
+    SameFrom (next .counts .used) (o .columns) (next .columns)
 
 -- The search finds a sequence exactly where a used row has it.
 pub record Finds (o : Observer) : Type 0 where

@@ -9,8 +9,8 @@ ghost use Rattle.rows.specs.Columns.{sheet};
 ghost use Rattle.observer.specs.Counts.{oneDuplicate, oneOutOfOrder, oneErrorIndication, withUsed};
 ghost use Rattle.observer.specs.Judge.{wellFormed};
 ghost use Rattle.observer.specs.Sending.{recordSent};
-ghost use Rattle.observer.specs.Claims.{PutBack, FreshIsWell, CallsKeepWell, SearchFinds, FullOnlyWhenFull};
-ghost use Rattle.observer.specs.Claims.{FullAtRow2049, SentAgain, BelowHighestMarked};
+ghost use Rattle.observer.specs.Claims.{PutBack, MalformedIs, FreshIsWell, CallsKeepWell, RestKept, SearchFinds};
+ghost use Rattle.observer.specs.Claims.{FullOnlyWhenFull, FullAtRow2049, SentAgain, BelowHighestMarked};
 ghost use Rattle.observer.specs.Answer.{recordingMeans, acceptance, refusal, afterEntry, afterArrival, lent};
 ghost use Rattle.observer.specs.Answer.{records};
 use rows::Arrival;
@@ -186,9 +186,19 @@ pub fn record_sent(
     ))
 }
 
+// Carries what makes a sheet malformed: one of the three causes of 21, and nothing else.
+pub fn what_is_malformed()
+    ensures { λ _. ⌜ MalformedIs ⌝ }
+{}
+
 // Carries that 21 is never due on a sheet that was fresh and that only these calls have written since.
 pub fn calls_keep_well_formed()
     ensures { λ _. ⌜ PutBack × FreshIsWell × CallsKeepWell ⌝ }
+{}
+
+// Carries that no call writes past the rows that it leaves in use.
+pub fn rest_is_kept()
+    ensures { λ _. ⌜ RestKept ⌝ }
 {}
 
 // Carries that 22 is said exactly when no row is free (with columns of 2,048 entries or more, at row 2,049), and never

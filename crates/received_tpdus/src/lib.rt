@@ -6,6 +6,7 @@ ghost use mathlib.Core.Path.{_≡_};
 ghost use Prim.Native.Nat.{_+_, _≤_, min};
 ghost use Rattle.rows.specs.Columns.{sheet};
 ghost use Rattle.received_tpdus.specs.Received.{recordReceivedTpdus, recordsReturns};
+ghost use Rattle.received_tpdus.specs.Claims.{EndToEnd};
 
 // Whether a list of returns was taken, and how many returns it had.
 pub enum ReturnsRecording {
@@ -90,3 +91,8 @@ pub fn record_received_tpdus(
         answer: ReturnsRecording::Accepted(returns),
     }
 }
+
+// Carries that T-PDUs which lie end to end are taken apart as they were.
+pub fn taken_apart_as_they_were()
+    ensures { λ _. ⌜ EndToEnd ⌝ }
+{}

@@ -18,7 +18,7 @@ use Rattle.plan.proofs.Claims.{same-refusal, plan-numbers}
 use Rattle.observer.specs.Observer.{Observer, rows}
 use Rattle.observer.specs.Judge.{wellFormed, Step, step}
 use Rattle.sent_plan.specs.SendingPlan.{sendInTurn, rowsNeeded, freeRows, recordSentPlan}
-use Rattle.sent_plan.specs.PlanClaims.{Entered, EnteredWhole, FullOnlyIfFull, RefusedWhole, AllOrNothing}
+use Rattle.sent_plan.specs.PlanClaims.{Entered, EnteredWhole, FullOnlyIfFull, RefusedWhole, AllOrNothing, PlanBeforeRoom}
 use Rattle.sent_plan.proofs.SendingPlan.{none-refused, one-refused, entering-full, entering-whole, plan-malformed, plan-judged}
 
 module _ (o : Observer) (plan : TrafficPlan) (next : ℕ) where
@@ -85,3 +85,6 @@ all-or-nothing = record {
   full-only-if-full = λ o plan next g. full-only o plan next (way o plan next) g;
   refused-whole = λ o plan next n g. unchanged o plan next (way o plan next) n g;
 }
+
+pub plan-before-room : PlanBeforeRoom
+plan-before-room o plan next n w j = sym (plan-judged o plan next w (refused n) j)

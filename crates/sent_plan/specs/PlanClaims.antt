@@ -48,3 +48,10 @@ pub record AllOrNothing : Type 0 where
   pub entered-whole : EnteredWhole
   pub full-only-if-full : FullOnlyIfFull
   pub refused-whole : RefusedWhole
+
+-- A plan is judged by the generator before 22 is looked at: where its judge refuses, that number is the answer on every
+-- sheet that 21 does not refuse, full or not.
+abbrev pub PlanBeforeRoom : Type 0
+PlanBeforeRoom = (o : Observer) (plan : TrafficPlan) (next n : ℕ) → wellFormed o ≡ true
+    → judgePlan plan next .outcome ≡ refused n
+    → recordSentPlan o plan next ≡ record { outcome = refused n; observer = o }

@@ -16,7 +16,7 @@ ghost use Rattle.columns.specs.Place.{place};
 ghost use Rattle.rows.specs.Columns.{sheet};
 ghost use Rattle.observer.specs.Answer.{records};
 ghost use Rattle.sent_plan.specs.SendingPlan.{recordSentPlan};
-ghost use Rattle.sent_plan.specs.PlanClaims.{AllOrNothing};
+ghost use Rattle.sent_plan.specs.PlanClaims.{AllOrNothing, PlanBeforeRoom};
 
 // How many rows the packets of an accepted plan need. The rows rise, so those with a sequence of the plan stand
 // together, from the place of the first up to the place of the sequence behind the last; these need none.
@@ -95,7 +95,7 @@ pub fn record_sent_plan(
     }
 }
 
-// A plan is entered whole or not at all.
+// A plan is entered whole or not at all, and one that the generator refuses is refused so before 22 is looked at.
 pub fn plan_all_or_nothing()
-    ensures { λ _. ⌜ AllOrNothing ⌝ }
+    ensures { λ _. ⌜ AllOrNothing × PlanBeforeRoom ⌝ }
 {}
