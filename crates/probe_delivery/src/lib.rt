@@ -54,19 +54,27 @@ fn sent_length(action: ReflectorAction) -> usize {
     }
 }
 
-// The packet of a probe: 52 or 72 bytes, end to end.
+// The packet of a probe: they lie end to end.
 fn packet_of(ip: u8, packets: &[u8], probe: u64) -> &[u8] {
     let k = rehearsal_path::row(probe);
     if 2048 <= k {
         return text::part(packets, 0, 0);
     }
     if ip == 4 {
-        return text::part(packets, k * 52, 52);
+        return text::part(
+            packets,
+            k * measurement::IPV4_TPDU_BYTES,
+            measurement::IPV4_TPDU_BYTES,
+        );
     }
-    text::part(packets, k * 72, 72)
+    text::part(
+        packets,
+        k * measurement::IPV6_TPDU_BYTES,
+        measurement::IPV6_TPDU_BYTES,
+    )
 }
 
-fn first_bytes(out: &[u8; 72], length: usize) -> &[u8] {
+fn first_bytes(out: &[u8; reflector_answer::REFLECTOR_BYTES], length: usize) -> &[u8] {
     text::part(out, 0, length)
 }
 
@@ -91,7 +99,7 @@ pub fn deliver(
     fates: &mut [u8],
     refusals: &mut [u64],
 ) -> Progress {
-    let mut out = [0u8; 72];
+    let mut out = [0u8; reflector_answer::REFLECTOR_BYTES];
     let before = run.counts;
     let packet = packet_of(ip(s), packets, probe);
     let known = !rehearsal_path::is_indicated(s, probe);

@@ -94,7 +94,7 @@ pub fn reflect(
     known: bool,
     state: ReflectorState,
     packet: &[u8],
-    out: &mut [u8; 72],
+    out: &mut [u8; reflector_answer::REFLECTOR_BYTES],
 ) -> Handled {
     let place = if known { 0 } else { 1 };
     let teid = if known { 0x1001 } else { 0x1002 };

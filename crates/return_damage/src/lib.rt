@@ -31,18 +31,22 @@ fn probe_field(ip: u64, field: usize) -> usize {
     )
 }
 
-fn set(tpdu: &mut [u8; 72], at: usize, byte: u8) {
-    if at < 72 {
+fn set(tpdu: &mut [u8; measurement::IPV6_TPDU_BYTES], at: usize, byte: u8) {
+    if at < measurement::IPV6_TPDU_BYTES {
         tpdu[at] = byte;
     }
 }
 
-fn get(tpdu: &[u8; 72], at: usize) -> u8 {
-    if at < 72 { tpdu[at] } else { 0 }
+fn get(tpdu: &[u8; measurement::IPV6_TPDU_BYTES], at: usize) -> u8 {
+    if at < measurement::IPV6_TPDU_BYTES {
+        tpdu[at]
+    } else {
+        0
+    }
 }
 
 // Exchanges two bytes.
-fn exchange(tpdu: &mut [u8; 72], at: usize, other: usize) {
+fn exchange(tpdu: &mut [u8; measurement::IPV6_TPDU_BYTES], at: usize, other: usize) {
     let byte = get(tpdu, at);
     let second = get(tpdu, other);
     set(tpdu, at, second);
@@ -50,7 +54,7 @@ fn exchange(tpdu: &mut [u8; 72], at: usize, other: usize) {
 }
 
 // Exchanges two words that follow each other: the checksum stays right.
-fn exchange_words(tpdu: &mut [u8; 72], at: usize) {
+fn exchange_words(tpdu: &mut [u8; measurement::IPV6_TPDU_BYTES], at: usize) {
     exchange(tpdu, at, std::num::wrapping_add_usize(at, 2));
     exchange(
         tpdu,
@@ -60,7 +64,7 @@ fn exchange_words(tpdu: &mut [u8; 72], at: usize) {
 }
 
 // Damage to the headers: the version, the protocol, the UDP length exchanged with a port, no checksum.
-fn damage_headers(s: &Scenario, probe: u64, tpdu: &mut [u8; 72]) {
+fn damage_headers(s: &Scenario, probe: u64, tpdu: &mut [u8; measurement::IPV6_TPDU_BYTES]) {
     let ip = scenario::first(s, scenario::IP);
     if scenario::does(s, scenario::BAD_VERSION, probe) {
         set(tpdu, 0, 0x50);
@@ -78,7 +82,7 @@ fn damage_headers(s: &Scenario, probe: u64, tpdu: &mut [u8; 72]) {
 }
 
 // Damage to the probe: a byte of its send time changed; words of its tag, or of its sequence, exchanged.
-fn damage_measurement(s: &Scenario, probe: u64, tpdu: &mut [u8; 72]) {
+fn damage_measurement(s: &Scenario, probe: u64, tpdu: &mut [u8; measurement::IPV6_TPDU_BYTES]) {
     let ip = scenario::first(s, scenario::IP);
     let time_end = probe_field(ip, layout::PROBE_SEND_TIME + 7);
     if scenario::does(s, scenario::DAMAGE, probe) {
@@ -94,7 +98,7 @@ fn damage_measurement(s: &Scenario, probe: u64, tpdu: &mut [u8; 72]) {
 }
 
 // What the way back does to the bytes of a probe's return.
-pub fn damage(s: &Scenario, probe: u64, tpdu: &mut [u8; 72]) {
+pub fn damage(s: &Scenario, probe: u64, tpdu: &mut [u8; measurement::IPV6_TPDU_BYTES]) {
     damage_headers(s, probe, tpdu);
     damage_measurement(s, probe, tpdu);
 }

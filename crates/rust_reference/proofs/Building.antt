@@ -7,6 +7,7 @@ use mathlib.Core.Logic.{inl}
 use mathlib.Core.Bool.{Bool, true, false}
 use lib.Dec.{ltb}
 use lib.ListN.{length}
+use Rattle.error.specs.Outcome.{refused}
 use Rattle.field.specs.Field.{Bytes, bytesAt}
 use Rattle.field.proofs.Fields.{bytes-append, bytes-at}
 use Rattle.checksum.specs.Sum.{checksumOf}
@@ -18,11 +19,12 @@ use Rattle.measurement.specs.declared.InnerIpFlow.{InnerIpFlow}
 use Rattle.measurement.specs.declared.IpVersion.{IpVersion}
 use Rattle.measurement.specs.declared.IpVersion.the-variants.{V4, V6}
 use Rattle.measurement_packet.specs.Packet.{ipv4Header, ipv4, ipv6, ipHeader, udpSegment, nonzero, udp, buildOf}
-use Rattle.rust_reference.specs.Error.{Result, Ok}
-use Rattle.rust_reference.specs.Answers.{rustFlowOf, rustFlow, inBuffer}
+use Rattle.rust_reference.specs.Error.{Result, Ok, Err}
+use Rattle.rust_reference.specs.Answers.{rustFlowOf, rustFlow, inBuffer, toldWriting}
 use Rattle.rust_reference.specs.Claims.{NoneAdded, Encode, BuildMeasurementTpdu}
 use Rattle.rust_reference.specs.Measurement as rust
 use Rattle.rust_reference.proofs.Checksums.{of-one, nonzero-of-two}
+use Rattle.rust_reference.proofs.Told.{error-told}
 
 module _ (S D : List ℕ) (sport dport s t : ℕ) where
   abbrev src4 : List ℕ
@@ -128,6 +130,12 @@ laid r bytes buffer e added = rw e (by (ltb (length buffer) (length bytes)) refl
     by true f = absurd (added 15 (inl refl) (rw (f, writing)))
     by false f = rw (f, writing)
 
+-- what the Rust leaves in a buffer is told as it is
+in-buffer-told : (r : Result (List ℕ)) (buffer : List ℕ) → inBuffer r buffer ≡ toldWriting (inBuffer r buffer)
+in-buffer-told (Ok vec) buffer = refl
+in-buffer-told (Err x) buffer = ap (λ (n : ℕ). record { outcome = refused n; buffer = buffer }) (error-told x)
+
 pub build : BuildMeasurementTpdu
 build flow s t range buffer added =
-    laid (rust.«build_measurement_tpdu» (rustFlow flow) s t) (buildOf flow s t) buffer (vec-is flow s t (range .source) (range .destination)) added
+    let vec = rust.«build_measurement_tpdu» (rustFlow flow) s t in
+    in-buffer-told vec buffer ∙ ap toldWriting (laid vec (buildOf flow s t) buffer (vec-is flow s t (range .source) (range .destination)) added)

@@ -10,7 +10,7 @@ use lib.Dec.{eqb, ltb}
 use lib.ListN.{length, getD}
 use borrow.Author.Tests.{eqb-true, eqb-false, ltb-true, ltb-false}
 use Rattle.error.specs.Outcome.{Outcome, refused, gives, Cause, _⇒_, firstCause}
-use Rattle.error.proofs.Causes.{Refuses, refuses, passes, refused-gives, not-by}
+use Rattle.error.proofs.Causes.{Refuses, refuses, passes, refused-gives}
 use Rattle.measurement.specs.declared.DecodedTpdu.{DecodedTpdu}
 use Rattle.measurement.specs.declared.IpVersion.{IpVersion}
 use Rattle.measurement.specs.declared.IpVersion.the-variants.{V4, V6}
@@ -34,12 +34,12 @@ use Rattle.reflector_sessions.specs.declared.ReflectorSession.{ReflectorSession
 use Rattle.reflector_sessions.specs.declared.SocketAddr.{SocketAddr}
 use Rattle.reflector_sessions.proofs.Judging.{Sound, is-30, is-31, is-sound, capacity-refused, table-sound}
 use Rattle.rust_reference.specs.Claims.{RefusesAsNewMulti, NewMulti}
-use Rattle.rust_reference.specs.Compared.{told}
+use Rattle.rust_reference.specs.Compared.{asTheRustTells, told}
 use Rattle.rust_reference.specs.Error.{DataplaneTestkitError, Result, Ok, Err, InvalidReflectorCapacity, returnIf, _>>_}
 use Rattle.rust_reference.specs.Number.{outcomeOf}
 use Rattle.rust_reference.specs.Reflector as rust
 use Rattle.rust_reference.specs.Sessions.{Reflector, tableIn, handling, freshReflector, rustConfig, rustReflector, IsMade}
-use Rattle.rust_reference.proofs.Branches.{told-is}
+use Rattle.rust_reference.proofs.Told.{told-not-by}
 
 -- ---- what `new_multi` makes
 
@@ -84,14 +84,18 @@ made-is sessions config made e = by (capacity sessions config)
 pub made-fits : (r : Reflector) → IsMade r → Fits (r .config .«max_sessions»)
 made-fits r m = made-is (r .sessions) (r .config) (m .0) (m .1) .0
 
+-- told as something else than 30
+abbrev Not30 : {A : Type 0} → Outcome A → Type 0
+Not30 o = told o ≡ refused 30 → ⊥
+
 -- a call that judges the maximum first
 as-new-multi : {A : Type 0} (config : MultiSessionReflectorConfig) (o : Outcome A) → (Unfit (config .«max_sessions») → refused 30 ≡ o)
-    → (Fits (config .«max_sessions») → o ≡ refused 30 → ⊥) → RefusesAsNewMulti config o
+    → (Fits (config .«max_sessions») → Not30 o) → RefusesAsNewMulti config o
 as-new-multi config o first never = by (capacity [] config)
   where
     by : Capacity [] config → RefusesAsNewMulti config o
     by (unfit h f) = (λ error e. ap told (sym (first h)), λ e. f)
-    by (fit h f) = (λ error e. absurd (err-ok (sym e ∙ f)), λ e. absurd (never h (told-is o ∙ e)))
+    by (fit h f) = (λ error e. absurd (err-ok (sym e ∙ f)), λ e. absurd (never h e))
 
 -- ---- a table whose maximum fits is refused by 31, or sound
 
@@ -113,70 +117,70 @@ sound-table rows used maximum onward above most added = by (fitting rows used ma
 
 -- ---- no other refusal is by 30
 
-other-number : {A : Type 0} {n m : ℕ} {o : Outcome A} → (n ≡ m → ⊥) → refused n ≡ o → o ≡ refused m → ⊥
-other-number {n = n} {m = m} differ e f = let same : refused n ≡ refused m = e ∙ f in differ cc
+other-number : {A : Type 0} {n : ℕ} {o : Outcome A} → (asTheRustTells n ≡ 30 → ⊥) → refused n ≡ o → Not30 o
+other-number {n = n} differ e f = let same : refused (asTheRustTells n) ≡ refused 30 = ap told e ∙ f in differ cc
 
-table-not-30 : {A : Type 0} (rows used maximum : ℕ) (onward : Outcome A) → Fits maximum → (onward ≡ refused 30 → ⊥)
-    → firstCause (tableCauses rows used maximum) onward ≡ refused 30 → ⊥
+table-not-30 : {A : Type 0} (rows used maximum : ℕ) (onward : Outcome A) → Fits maximum → Not30 onward
+    → Not30 (firstCause (tableCauses rows used maximum) onward)
 table-not-30 rows used maximum onward fits h e = by (fitting rows used maximum fits)
   where
     by : Sound rows used maximum ⊎ Refuses (tableCauses rows used maximum) 31 → ⊥
-    by (inl s) = h (passes onward (is-sound rows used maximum s) ∙ e)
+    by (inl s) = h (ap told (passes onward (is-sound rows used maximum s)) ∙ e)
     by (inr r) = other-number (λ z. omega arith) (refuses onward r) e
 
--- a T-PDU is refused by 1 to 14
-part-not-30 : (v : IpVersion) (src dst u : List ℕ) → readUdp v src dst u ≡ refused 30 → ⊥
+-- no refusal of a T-PDU is told as 30
+part-not-30 : (v : IpVersion) (src dst u : List ℕ) → Not30 (readUdp v src dst u)
 unfolding readUdp udpCauses readProbe probeCauses
-part-not-30 V4 src dst u = not-by 30 (udpCauses V4 src dst u) _ refl (not-by 30 (probeCauses (payload u)) _ refl (λ e. refused-gives (sym e)))
-part-not-30 V6 src dst u = not-by 30 (udpCauses V6 src dst u) _ refl (not-by 30 (probeCauses (payload u)) _ refl (λ e. refused-gives (sym e)))
+part-not-30 V4 src dst u = told-not-by 30 (udpCauses V4 src dst u) _ refl (told-not-by 30 (probeCauses (payload u)) _ refl (λ e. refused-gives (sym e)))
+part-not-30 V6 src dst u = told-not-by 30 (udpCauses V6 src dst u) _ refl (told-not-by 30 (probeCauses (payload u)) _ refl (λ e. refused-gives (sym e)))
 
-read-not-30 : (p : List ℕ) → readOf p ≡ refused 30 → ⊥
+read-not-30 : (p : List ℕ) → Not30 (readOf p)
 unfolding readOf tpduCauses readIpv4 ipv4Causes readIpv6 ipv6Causes
-read-not-30 p = not-by 30 (tpduCauses p) _ refl (either (eqb (getD p 0 0 / 16) 4))
+read-not-30 p = told-not-by 30 (tpduCauses p) _ refl (either (eqb (getD p 0 0 / 16) 4))
   where
-    either : (b : Bool) → _≡_ {A = Outcome DecodedTpdu} (elim b [ true ↦ readIpv4 p | false ↦ readIpv6 p ]) (refused 30) → ⊥
-    either true = not-by 30 (ipv4Causes p) _ refl (part-not-30 V4 _ _ _)
-    either false = not-by 30 (ipv6Causes p) _ refl (part-not-30 V6 _ _ _)
+    either : (b : Bool) → Not30 {A = DecodedTpdu} (elim b [ true ↦ readIpv4 p | false ↦ readIpv6 p ])
+    either true = told-not-by 30 (ipv4Causes p) _ refl (part-not-30 V4 _ _ _)
+    either false = told-not-by 30 (ipv6Causes p) _ refl (part-not-30 V6 _ _ _)
 
-echo-not-30 : (session : ReflectorSession) (p : List ℕ) → reflected session (echoOf p) ≡ refused 30 → ⊥
+echo-not-30 : (session : ReflectorSession) (p : List ℕ) → Not30 (reflected session (echoOf p))
 unfolding echoOf
 echo-not-30 session p = by (readOf p) refl
   where
     by : (o : Outcome DecodedTpdu) → readOf p ≡ o
-        → reflected session (elim o [ refused n ↦ refused n | gives t ↦ gives (echoOfTpdu t) ]) ≡ refused 30 → ⊥
-    by (refused n) e f = let same : n ≡ 30 = cc in read-not-30 p (e ∙ ap refused same)
+        → Not30 (reflected session (elim o [ refused n ↦ refused n | gives t ↦ gives (echoOfTpdu t) ]))
+    by (refused n) e f = let same : asTheRustTells n ≡ 30 = cc in read-not-30 p (ap told e ∙ ap refused same)
     by (gives t) e f = refused-gives (sym f)
 
 -- a message
-abbrev Not30 : Answer → Type 0
-Not30 a = a .outcome ≡ refused 30 → ⊥
+abbrev AnswersNot30 : Answer → Type 0
+AnswersNot30 a = Not30 (a .outcome)
 
-either-not-30 : (t : Bool) (a b : Answer) → Not30 a → Not30 b → Not30 (elim t as (λ u. Answer) [ true ↦ a | false ↦ b ])
+either-not-30 : (t : Bool) (a b : Answer) → AnswersNot30 a → AnswersNot30 b → AnswersNot30 (elim t as (λ u. Answer) [ true ↦ a | false ↦ b ])
 either-not-30 true a b f g = f
 either-not-30 false a b f g = g
 
 answer-not-30 : (r : Reflector) (session : Option ReflectorSession) (source : SocketAddr) (message : GtpuMessage) (payload : List ℕ)
-    → Not30 (answer (r .config) (r .state) session source message payload)
+    → AnswersNot30 (answer (r .config) (r .state) session source message payload)
 unfolding answer gpduKnown gpduOutcome gpduUnknown echoRequest echoRequestOutcome otherMessage
 answer-not-30 r session source message payload =
     either-not-30 (eqb (message .«message_type») 255) _ _ (gpdu-not session)
-    (either-not-30 (eqb (message .«message_type») 1) _ _ (not-by 30 _ _ refl (λ e. refused-gives (sym e)))
+    (either-not-30 (eqb (message .«message_type») 1) _ _ (told-not-by 30 _ _ refl (λ e. refused-gives (sym e)))
     (either-not-30 (eqb (message .«message_type») 2) _ _ (λ e. refused-gives (sym e))
     (either-not-30 (eqb (message .«message_type») 26) _ _ (λ e. refused-gives (sym e))
     (either-not-30 (eqb (message .«message_type») 254) _ _ (λ e. refused-gives (sym e))
-    (either-not-30 (eqb (message .«message_type») 31) _ _ (λ e. refused-gives (sym e)) (other-number (λ z. omega arith) refl))))))
+    (either-not-30 (eqb (message .«message_type») 31) _ _ (λ e. refused-gives (sym e)) (other-number {n = 37} (λ z. omega arith) refl))))))
   where
     by-policy : (session : ReflectorSession) (policy : ReflectorPolicy)
-        → _≡_ {A = Outcome Action} (elim policy [
+        → Not30 {A = Action} (elim policy [
           | Echo ↦ reflected session (echoOf payload)
           | SinkAndCount ↦ gives (noop GpduSunk)
           | Route ↦ gives (gpdu RoutedGpdu (r .config .target .destination) (r .config .target .teid) handedOn)
-        ]) (refused 30) → ⊥
+        ])
     by-policy session Echo = echo-not-30 session payload
     by-policy session SinkAndCount = λ e. refused-gives (sym e)
     by-policy session Route = λ e. refused-gives (sym e)
 
-    gpdu-not : (session : Option ReflectorSession) → Not30 (gpduAnswer (r .config) (r .state) session source (message .teid) payload)
+    gpdu-not : (session : Option ReflectorSession) → AnswersNot30 (gpduAnswer (r .config) (r .state) session source (message .teid) payload)
     gpdu-not (some session) = by-policy session (r .config .policy)
     gpdu-not none = λ e. refused-gives (sym e)
 
@@ -193,15 +197,15 @@ module _ (r : Reflector) where
   unfolding registerSession registerOutcome sessionOutcome
   registering session =
       as-new-multi (r .config) (registerSession (tableIn r) session .outcome) (λ h. refuses _ (is-30 rows (r .used) maximum h))
-      (λ h. table-not-30 rows (r .used) maximum _ h (not-by 30 _ _ refl (onward (find (session .«local_teid») (usedRows (tableIn r))))))
+      (λ h. table-not-30 rows (r .used) maximum _ h (told-not-by 30 _ _ refl (onward (find (session .«local_teid») (usedRows (tableIn r))))))
     where
       onward : (existing : Option ReflectorSession)
-          → _≡_ {A = Outcome Bool} (elim existing [
+          → Not30 {A = Bool} (elim existing [
             | some other ↦ firstCause ((not (sameSession other session) ⇒ 33) ∷ []) (gives false)
             | none ↦ firstCause ((eqb (r .used) maximum ⇒ 34) ∷ []) (gives true)
-          ]) (refused 30) → ⊥
-      onward (some other) = not-by 30 _ _ refl (λ e. refused-gives (sym e))
-      onward none = not-by 30 _ _ refl (λ e. refused-gives (sym e))
+          ])
+      onward (some other) = told-not-by 30 _ _ refl (λ e. refused-gives (sym e))
+      onward none = told-not-by 30 _ _ refl (λ e. refused-gives (sym e))
 
   removing : (teid : ℕ) → RefusesAsNewMulti (r .config) (removeSession (tableIn r) teid .outcome)
   unfolding removeSession removeOutcome
@@ -223,7 +227,7 @@ module _ (r : Reflector) where
       session = find (message .teid) (usedRows (tableIn r))
 
       by : Sound rows (r .used) maximum ⊎ Refuses (tableCauses rows (r .used) maximum) 31 → (t : Bool) → ltb (length buffer) 72 ≡ t
-          → handling r source message payload buffer .outcome ≡ refused 30 → ⊥
+          → Not30 (handling r source message payload buffer .outcome)
       by (inr u) t e =
           other-number (λ z. omega arith)
           (ap outcome (handling-refused rows (r .used) (r .config) (r .state) session source message payload buffer (refuses (gives (r .used)) u)))
@@ -232,7 +236,7 @@ module _ (r : Reflector) where
           (ap outcome (handling-short rows (r .used) (r .config) (r .state) session source message payload buffer (table-sound rows (r .used) maximum s) (ltb-true (length buffer) 72 e)))
       by (inl s) false e = λ f.
           answer-not-30 r session source message payload
-          (ap outcome (handling-passed rows (r .used) (r .config) (r .state) session source message payload buffer (table-sound rows (r .used) maximum s) (ltb-false (length buffer) 72 e)) ∙ f)
+          (ap (λ (a : Answer). told (a .outcome)) (handling-passed rows (r .used) (r .config) (r .state) session source message payload buffer (table-sound rows (r .used) maximum s) (ltb-false (length buffer) 72 e)) ∙ f)
 
 pub new-multi : NewMulti
 new-multi = record {

@@ -1,11 +1,11 @@
 -- The claims of specs/Claims.antt, together.
 use mathlib.Core.Path.{refl}
 use Rattle.rust_reference.specs.Claims.{EqualsTheRust}
-use Rattle.rust_reference.proofs.Branches.{all-compared}
+use Rattle.rust_reference.proofs.Compared.{all-compared, added-is-ours}
 use Rattle.rust_reference.proofs.Building.{encoded, build}
 use Rattle.rust_reference.proofs.Capacity.{new-multi}
 use Rattle.rust_reference.proofs.Checksums.{of-parts}
-use Rattle.rust_reference.proofs.Decoding.{decoded-told}
+use Rattle.rust_reference.proofs.Decoding.{decoded}
 use Rattle.rust_reference.proofs.Echoing.{turned-round, echoed}
 use Rattle.rust_reference.proofs.Elements.{validate}
 use Rattle.rust_reference.proofs.Generating.{interval-ns, generated}
@@ -20,12 +20,13 @@ use Rattle.rust_reference.proofs.Running.{runs-same, runs-of-2048}
 pub equals-the-rust : EqualsTheRust
 equals-the-rust = record {
   compared = all-compared;
+  added = added-is-ours;
   «zero_loss» = refl;
   reversed = turned-round;
   encode = encoded;
   checksum = of-parts;
   «build_measurement_tpdu» = build;
-  «decode_measurement_tpdu» = decoded-told;
+  «decode_measurement_tpdu» = decoded;
   «echo_tpdu» = echoed;
   «validate_error_indication_ies» = validate;
   «interval_ns» = interval-ns;

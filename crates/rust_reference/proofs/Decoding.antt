@@ -23,14 +23,16 @@ use Rattle.measurement.specs.declared.IpVersion.the-variants.{V4, V6}
 use Rattle.measurement_reading.specs.Read.{payload, lengthWrong, covered, sumWrong, probeCauses, udpCauses, readProbe, readUdp, ihl, ipv4Causes, readIpv4, ipv6Causes, readIpv6, readOf}
 use Rattle.measurement_reading.proofs.Rows.{tpdu-rows, row-1, past-1, row-2, past-2-ipv4, past-2-ipv6}
 use Rattle.rust_reference.specs.Claims.{DecodeMeasurementTpdu}
+use Rattle.rust_reference.specs.Compared.{told}
 use Rattle.rust_reference.specs.Error as error
 use Rattle.rust_reference.specs.Error.{Result, Ok, Err, UnsupportedIpVersion, InvalidPacket, returnIf, _>>=_, _>>_}
 use Rattle.rust_reference.specs.Number.{outcomeBy}
 use Rattle.rust_reference.specs.Values.{index, range, same, «u16_at»}
 use Rattle.rust_reference.specs.Answers.{tpduOf}
 use Rattle.rust_reference.specs.Measurement as rust
-use Rattle.rust_reference.proofs.Branches.{unless, row, told-is, compared-bytes}
+use Rattle.rust_reference.proofs.Branches.{unless, row}
 use Rattle.rust_reference.proofs.Checksums.{of-one, of-two}
+use Rattle.rust_reference.proofs.Told.{compared-bytes}
 
 -- a u16 is the field of two bytes
 u16-is : (l : List ℕ) (at : ℕ) → «u16_at» l at ≡ field 2 at l
@@ -75,13 +77,13 @@ module _ {A B : Type 0} (value : A → B) (k : MeasurementHeader → Result A) (
       ap (λ (l : List ℕ). not (same l rust.«MEASUREMENT_MAGIC»)) e
       ∙ ap not (same-number (bytesAt 8 0 body) rust.«MEASUREMENT_MAGIC» (bytes-at 8 0 body b) (omega arith) refl)
 
-  probed : (24 ≤ length body → outcomeBy value (k (record { sequence = field 8 8 body; «send_timestamp_ns» = field 8 16 body })) ≡ onward)
-      → outcomeBy value (_>>=_ (rust.decode body) k) ≡ firstCause (probeCauses body) onward
+  probed : (24 ≤ length body → outcomeBy value (k (record { sequence = field 8 8 body; «send_timestamp_ns» = field 8 16 body })) ≡ told onward)
+      → outcomeBy value (_>>=_ (rust.decode body) k) ≡ told (firstCause (probeCauses body) onward)
   unfolding rust.decode probeCauses firstCause
   probed g = by (ltb (length body) 24) refl (not (eqb (field 8 0 body) (valueOf measurementMagic))) refl
     where
       by : (t : Bool) → ltb (length body) 24 ≡ t → (u : Bool) → not (eqb (field 8 0 body) (valueOf measurementMagic)) ≡ u
-          → outcomeBy value (_>>=_ (rust.decode body) k) ≡ firstCause (probeCauses body) onward
+          → outcomeBy value (_>>=_ (rust.decode body) k) ≡ told (firstCause (probeCauses body) onward)
       by true e u f = rw (e, rust.decode, firstCause)
       by false e true f =
           let long : 24 ≤ length body = ltb-false (length body) 24 e in
@@ -103,12 +105,12 @@ module _ {A B : Type 0} (value : A → B) (k : rust.UdpSegment → Result A) (u 
   unfolding payload
   payload-is = rw (u16-is u 4)
 
-  parsed : 8 ≤ length u → (lengthWrong u ≡ false → outcomeBy value (k (segmentOf u)) ≡ firstCause rows onward)
-      → outcomeBy value (_>>=_ (rust.«parse_udp_segment» u) k) ≡ firstCause ((lengthWrong u ⇒ 10) ∷ rows) onward
+  parsed : 8 ≤ length u → (lengthWrong u ≡ false → outcomeBy value (k (segmentOf u)) ≡ told (firstCause rows onward))
+      → outcomeBy value (_>>=_ (rust.«parse_udp_segment» u) k) ≡ told (firstCause ((lengthWrong u ⇒ 10) ∷ rows) onward)
   unfolding rust.«parse_udp_segment» firstCause
   parsed h g = by (lengthWrong u) refl
     where
-      by : (t : Bool) → lengthWrong u ≡ t → outcomeBy value (_>>=_ (rust.«parse_udp_segment» u) k) ≡ firstCause ((t ⇒ 10) ∷ rows) onward
+      by : (t : Bool) → lengthWrong u ≡ t → outcomeBy value (_>>=_ (rust.«parse_udp_segment» u) k) ≡ told (firstCause ((t ⇒ 10) ∷ rows) onward)
       by true e = rw (le-ltb (length u) 8 h, length-is, e, rust.«parse_udp_segment»)
       by false e = rw (le-ltb (length u) 8 h, length-is, e, rust.«parse_udp_segment») (rw (u16-is u 0, u16-is u 2, payload-is) (g e))
 
@@ -165,21 +167,21 @@ rest6 src dst u = do
   Ok (record { flow = rust.Ipv6 src dst (segment .src-port) (segment .dst-port); measurement = measurement })
 
 module _ (src dst u : List ℕ) (p : Bytes src) (q : Bytes dst) (b : Bytes u) (short : length u < 65536) (long : 8 ≤ length u) where
-  udp4 : length src ≡ 4 → length dst ≡ 4 → outcomeBy tpduOf (rest4 src dst u) ≡ readUdp V4 src dst u
+  udp4 : length src ≡ 4 → length dst ≡ 4 → outcomeBy tpduOf (rest4 src dst u) ≡ told (readUdp V4 src dst u)
   unfolding rest4 readUdp udpCauses readProbe
   udp4 h k =
       parsed tpduOf _ u _ _ long
-      (λ right. row tpduOf (not (eqb («u16_at» u 6) 0) && not (eqb (rust.«checksum_udp_ipv4_including_checksum» src dst u) 0)) _ _ [] (readProbe V4 src dst u)
+      (λ right. row tpduOf (not (eqb («u16_at» u 6) 0) && not (eqb (rust.«checksum_udp_ipv4_including_checksum» src dst u) 0)) _ 12 _ [] (readProbe V4 src dst u) refl
       (ap₂ (λ (x : ℕ) (y : Bool). not (eqb x 0) && y) (u16-is u 6) (sum4-is src dst u p q b short h k))
-      (λ c. probed tpduOf _ (payload u) (payload-bytes u b) _ (λ w. refl) ∙ passes (readProbe V4 src dst u) none))
+      (λ c. probed tpduOf _ (payload u) (payload-bytes u b) _ (λ w. refl) ∙ ap told (passes (readProbe V4 src dst u) none)))
 
-  udp6 : length src ≡ 16 → length dst ≡ 16 → outcomeBy tpduOf (rest6 src dst u) ≡ readUdp V6 src dst u
+  udp6 : length src ≡ 16 → length dst ≡ 16 → outcomeBy tpduOf (rest6 src dst u) ≡ told (readUdp V6 src dst u)
   unfolding rest6 readUdp udpCauses readProbe
   udp6 h k =
-      row tpduOf (eqb («u16_at» u 6) 0) _ _ _ _ (ap (λ (x : ℕ). eqb x 0) (u16-is u 6))
-      (λ z. row tpduOf (not (eqb (rust.«checksum_udp_ipv6_including_checksum» src dst u) 0)) _ _ _ _ (sum6-is src dst u p q b short h k)
+      row tpduOf (eqb («u16_at» u 6) 0) _ 11 _ _ _ refl (ap (λ (x : ℕ). eqb x 0) (u16-is u 6))
+      (λ z. row tpduOf (not (eqb (rust.«checksum_udp_ipv6_including_checksum» src dst u) 0)) _ 12 _ _ _ refl (sum6-is src dst u p q b short h k)
       (λ c. parsed tpduOf _ u [] (readProbe V6 src dst u) long
-      (λ right. probed tpduOf _ (payload u) (payload-bytes u b) _ (λ w. refl) ∙ passes (readProbe V6 src dst u) none)))
+      (λ right. probed tpduOf _ (payload u) (payload-bytes u b) _ (λ w. refl) ∙ ap told (passes (readProbe V6 src dst u) none))))
 
 -- tests that are written in two ways
 quarter : (k : ℕ) → ltb (k * 4) 20 ≡ ltb k 5
@@ -206,27 +208,27 @@ module _ (p : List ℕ) (b : Bytes p) where
 
   read4 : 20 ≤ length p → header + 8 ≤ «u16_at» p 2 → «u16_at» p 2 ≤ length p
       → outcomeBy tpduOf (rest4 (bytesAt 4 12 p) (bytesAt 4 16 p) part4)
-      ≡ readUdp V4 (bytesAt 4 12 p) (bytesAt 4 16 p) (take (field 2 2 p - ihl p * 4) (drop (ihl p * 4) p))
+      ≡ told (readUdp V4 (bytesAt 4 12 p) (bytesAt 4 16 p) (take (field 2 2 p - ihl p * 4) (drop (ihl p * 4) p)))
   unfolding ihl
   read4 h k l =
       let n = length-take («u16_at» p 2 - header) (drop header p) in
       let m = length-drop header p in
       udp4 (bytesAt 4 12 p) (bytesAt 4 16 p) part4 (bytes-at 4 12 p b) (bytes-at 4 16 p b)
       (bytes-take («u16_at» p 2 - header) (drop header p) (bytes-drop header p b)) (omega (arith, u16-below p 2 b)) (omega arith) refl refl
-      ∙ ap (λ (n : ℕ). readUdp V4 (bytesAt 4 12 p) (bytesAt 4 16 p) (take (n - header) (drop header p))) (u16-is p 2)
+      ∙ ap (λ (n : ℕ). told (readUdp V4 (bytesAt 4 12 p) (bytesAt 4 16 p) (take (n - header) (drop header p)))) (u16-is p 2)
 
-  ipv4-read : outcomeBy tpduOf (rust.«decode_ipv4_measurement» p) ≡ readIpv4 p
+  ipv4-read : outcomeBy tpduOf (rust.«decode_ipv4_measurement» p) ≡ told (readIpv4 p)
   unfolding rust.«decode_ipv4_measurement» readIpv4 ipv4Causes rest4
   ipv4-read =
-      row tpduOf (ltb (length p) 20) _ _ _ _ refl
-      (λ c3. row tpduOf (ltb header 20 || ltb (length p) (header + 8)) _ _ _ _ test4
-      (λ c4. row tpduOf (ltb («u16_at» p 2) (header + 8) || ltb (length p) («u16_at» p 2)) _ _ _ _ test5
-      (λ c5. row tpduOf (not (eqb (index p 9) 17)) _ _ _ _ refl
-      (λ c6. row tpduOf (not (eqb (rust.checksum (range p 0 header ∷ [])) 0)) _ _ [] onward header-sum
+      row tpduOf (ltb (length p) 20) _ 3 _ _ _ refl refl
+      (λ c3. row tpduOf (ltb header 20 || ltb (length p) (header + 8)) _ 4 _ _ _ refl test4
+      (λ c4. row tpduOf (ltb («u16_at» p 2) (header + 8) || ltb (length p) («u16_at» p 2)) _ 5 _ _ _ refl test5
+      (λ c5. row tpduOf (not (eqb (index p 9) 17)) _ 6 _ _ _ refl refl
+      (λ c6. row tpduOf (not (eqb (rust.checksum (range p 0 header ∷ [])) 0)) _ 7 _ [] onward refl header-sum
       (λ c7.
       let low = or-neither (ltb («u16_at» p 2) (header + 8)) (ltb (length p) («u16_at» p 2)) (test5 ∙ c5) in
       read4 (ltb-false (length p) 20 c3) (ltb-false («u16_at» p 2) (header + 8) (low .0)) (ltb-false (length p) («u16_at» p 2) (low .1))
-      ∙ passes onward none)))))
+      ∙ ap told (passes onward none))))))
     where
       onward : Outcome DecodedTpdu
       onward = readUdp V4 (bytesAt 4 12 p) (bytesAt 4 16 p) (take (field 2 2 p - ihl p * 4) (drop (ihl p * 4) p))
@@ -241,7 +243,7 @@ module _ (p : List ℕ) (b : Bytes p) where
   part6 = range p 40 (40 + «u16_at» p 4)
 
   read6 : 48 ≤ length p → 8 ≤ «u16_at» p 4 → 40 + «u16_at» p 4 ≤ length p
-      → outcomeBy tpduOf (rest6 (range p 8 24) (range p 24 40) part6) ≡ readUdp V6 (bytesAt 16 8 p) (bytesAt 16 24 p) (take (field 2 4 p) (drop 40 p))
+      → outcomeBy tpduOf (rest6 (range p 8 24) (range p 24 40) part6) ≡ told (readUdp V6 (bytesAt 16 8 p) (bytesAt 16 24 p) (take (field 2 4 p) (drop 40 p)))
   read6 h k l =
       let e : 40 + «u16_at» p 4 - 40 ≡ «u16_at» p 4 = omega arith in
       let n = length-take («u16_at» p 4) (drop 40 p) in
@@ -249,18 +251,18 @@ module _ (p : List ℕ) (b : Bytes p) where
       rw (range-is p 8 16 (omega arith), range-is p 24 16 (omega arith), e)
       (udp6 (bytesAt 16 8 p) (bytesAt 16 24 p) (take («u16_at» p 4) (drop 40 p)) (bytes-at 16 8 p b) (bytes-at 16 24 p b)
       (bytes-take («u16_at» p 4) (drop 40 p) (bytes-drop 40 p b)) (omega (arith, u16-below p 4 b)) (omega arith) refl refl
-      ∙ ap (λ (n : ℕ). readUdp V6 (bytesAt 16 8 p) (bytesAt 16 24 p) (take n (drop 40 p))) (u16-is p 4))
+      ∙ ap (λ (n : ℕ). told (readUdp V6 (bytesAt 16 8 p) (bytesAt 16 24 p) (take n (drop 40 p)))) (u16-is p 4))
 
-  ipv6-read : outcomeBy tpduOf (rust.«decode_ipv6_measurement» p) ≡ readIpv6 p
+  ipv6-read : outcomeBy tpduOf (rust.«decode_ipv6_measurement» p) ≡ told (readIpv6 p)
   unfolding rust.«decode_ipv6_measurement» readIpv6 ipv6Causes rest6
   ipv6-read =
-      row tpduOf (ltb (length p) 48) _ _ _ _ refl
-      (λ c8. row tpduOf (not (eqb (index p 6) 17)) _ _ _ _ refl
-      (λ c6. row tpduOf (ltb (length p) (40 + «u16_at» p 4) || ltb («u16_at» p 4) 8) _ _ [] onward test9
+      row tpduOf (ltb (length p) 48) _ 8 _ _ _ refl refl
+      (λ c8. row tpduOf (not (eqb (index p 6) 17)) _ 6 _ _ _ refl refl
+      (λ c6. row tpduOf (ltb (length p) (40 + «u16_at» p 4) || ltb («u16_at» p 4) 8) _ 9 _ [] onward refl test9
       (λ c9.
       let low = or-neither (ltb (length p) (40 + «u16_at» p 4)) (ltb («u16_at» p 4) 8) (test9 ∙ c9) in
       read6 (ltb-false (length p) 48 c8) (ltb-false («u16_at» p 4) 8 (low .1)) (ltb-false (length p) (40 + «u16_at» p 4) (low .0))
-      ∙ passes onward none)))
+      ∙ ap told (passes onward none))))
     where
       onward : Outcome DecodedTpdu
       onward = readUdp V6 (bytesAt 16 8 p) (bytesAt 16 24 p) (take (field 2 4 p) (drop 40 p))
@@ -271,20 +273,17 @@ module _ (p : List ℕ) (b : Bytes p) where
           rw (u16-is p 4, e) (or-turned (ltb (length p) (field 2 4 p + 40)) (ltb (field 2 4 p) 8))
 
 -- the whole
-pub decoded : (p : List ℕ) → Bytes p → outcomeBy tpduOf (rust.«decode_measurement_tpdu» p) ≡ readOf p
+pub decoded : DecodeMeasurementTpdu
 unfolding rust.«decode_measurement_tpdu»
-decoded p b =
-    unless tpduOf (eqb (length p) 0) _ _ _ (λ e. row-1 p (tpdu-rows p) (eqb-true (length p) 0 e))
+decoded p c =
+    unless tpduOf (eqb (length p) 0) _ _ _ (λ e. ap told (row-1 p (tpdu-rows p) (eqb-true (length p) 0 e)))
     (λ e. by (eqb-false (length p) 0 e) (eqb (index p 0 / 16) 4) refl (eqb (index p 0 / 16) 6) refl)
   where
     by : (length p ≡ 0 → ⊥) → (t : Bool) → eqb (index p 0 / 16) 4 ≡ t → (u : Bool) → eqb (index p 0 / 16) 6 ≡ u
         → outcomeBy tpduOf (elim t [
           | true ↦ rust.«decode_ipv4_measurement» p
           | false ↦ elim u [ true ↦ rust.«decode_ipv6_measurement» p | false ↦ Err (UnsupportedIpVersion (index p 0 / 16)) ]
-        ]) ≡ readOf p
-    by h true e u f = ipv4-read p b ∙ past-2-ipv4 p refl (past-1 p (tpdu-rows p) h) (eqb-true (index p 0 / 16) 4 e)
-    by h false e true f = ipv6-read p b ∙ past-2-ipv6 p refl (past-1 p (tpdu-rows p) h) (eqb-true (index p 0 / 16) 6 f)
-    by h false e false f = row-2 p refl (past-1 p (tpdu-rows p) h) (eqb-false (index p 0 / 16) 4 e) (eqb-false (index p 0 / 16) 6 f)
-
-pub decoded-told : DecodeMeasurementTpdu
-decoded-told p b = decoded p (compared-bytes p b) ∙ told-is (readOf p)
+        ]) ≡ told (readOf p)
+    by h true e u f = ipv4-read p (compared-bytes p c) ∙ ap told (past-2-ipv4 p refl (past-1 p (tpdu-rows p) h) (eqb-true (index p 0 / 16) 4 e))
+    by h false e true f = ipv6-read p (compared-bytes p c) ∙ ap told (past-2-ipv6 p refl (past-1 p (tpdu-rows p) h) (eqb-true (index p 0 / 16) 6 f))
+    by h false e false f = ap told (row-2 p refl (past-1 p (tpdu-rows p) h) (eqb-false (index p 0 / 16) 4 e) (eqb-false (index p 0 / 16) 6 f))

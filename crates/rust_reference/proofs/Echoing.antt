@@ -24,14 +24,16 @@ use Rattle.measurement_packet.specs.Packet.{ipv4Header, ipv4, ipv6, ipHeader, u
 use Rattle.measurement_reading.specs.Read.{readOf}
 use Rattle.measurement_damage.specs.Echo.{echoOfTpdu, echoOf}
 use Rattle.rust_reference.specs.Claims.{NoneAdded, Reversed, EchoTpdu}
+use Rattle.rust_reference.specs.Compared.{Compared, told}
 use Rattle.rust_reference.specs.Error.{DataplaneTestkitError, Result, Ok, Err, UnsupportedIpVersion, returnIf, _>>=_, _>>_}
-use Rattle.rust_reference.specs.Number.{outcomeBy, outcomeOf}
+use Rattle.rust_reference.specs.Number.{outcomeOf}
 use Rattle.rust_reference.specs.Values.{index, range, «u16_at»}
 use Rattle.rust_reference.specs.Answers.{rustFlowOf, flowOf, tpduOf, inBuffer}
 use Rattle.rust_reference.specs.Measurement as rust
-use Rattle.rust_reference.proofs.Branches.{told-is, compared-bytes, AllOk, all, none}
+use Rattle.rust_reference.proofs.Branches.{AllOk, all, none}
 use Rattle.rust_reference.proofs.Building.{built4, built6, laid}
 use Rattle.rust_reference.proofs.Decoding.{decoded}
+use Rattle.rust_reference.proofs.Told.{Alike, both-give, both-refuse, alike, compared-bytes}
 
 pub turned-round : Reversed
 turned-round flow = of (flow .version)
@@ -152,15 +154,15 @@ built d w = of (d .flow) w
         rw (again6 src (unfold Whole in w .2), again6 dst (unfold Whole in w .3)) (made6 dst src dport sport (d .measurement) (turned 16 src dst w))
 
 -- the outcome of the Rust's echo
-pub echo-outcome : (p : List ℕ) → Bytes p → outcomeOf (rust.«echo_tpdu» p) ≡ echoOf p
+pub echo-outcome : (p : List ℕ) → Compared p → outcomeOf (rust.«echo_tpdu» p) ≡ told (echoOf p)
 unfolding rust.«echo_tpdu» echoOf
-echo-outcome p b = of (rust.«decode_measurement_tpdu» p) (whole p b) (readOf p) (decoded p b)
+echo-outcome p c = of (rust.«decode_measurement_tpdu» p) (whole p (compared-bytes p c)) (readOf p) (alike tpduOf (rust.«decode_measurement_tpdu» p) (readOf p) (decoded p c))
   where
-    of : (r : Result rust.DecodedTpdu) → AllOk WholeTpdu r → (o : Outcome DecodedTpdu) → outcomeBy tpduOf r ≡ o
+    of : (r : Result rust.DecodedTpdu) → AllOk WholeTpdu r → (o : Outcome DecodedTpdu) → Alike tpduOf r o
         → outcomeOf (_>>=_ r (λ d. rust.«build_udp_tpdu» (rust.reversed (d .flow)) (rust.encode (d .measurement))))
-        ≡ elim o [ refused n ↦ refused n | gives t ↦ gives (echoOfTpdu t) ]
-    of (Ok d) (all w) o e = rw (← e) (ap outcomeOf (built d w))
-    of (Err x) none o e = rw (← e)
+        ≡ told (elim o [ refused n ↦ refused n | gives t ↦ gives (echoOfTpdu t) ])
+    of (Ok d) (all w) o both-give = ap outcomeOf (built d w)
+    of (Err x) none o (both-refuse e) = ap refused e
 
 -- an echo has 52 or 72 bytes
 built-short : (flow : InnerIpFlow) (s t : ℕ) → length (buildOf flow s t) ≤ 65535
@@ -186,9 +188,8 @@ echo-short p bytes e = of (readOf p) e
 
 pub echoed : EchoTpdu
 unfolding writingOf
-echoed p b buffer added =
-    of (rust.«echo_tpdu» p) (echoOf p) (echo-outcome p (compared-bytes p b)) added ∙ ap (λ (o : Outcome (List ℕ)). writingOf o buffer) (told-is (echoOf p))
+echoed p c buffer added = of (rust.«echo_tpdu» p) (echoOf p) (alike (λ x. x) (rust.«echo_tpdu» p) (echoOf p) (echo-outcome p c)) added
   where
-    of : (r : Result (List ℕ)) (o : Outcome (List ℕ)) → outcomeOf r ≡ o → NoneAdded (writingOf o buffer .outcome) → inBuffer r buffer ≡ writingOf o buffer
-    of (Ok bytes) o e added = rw (← e) (laid (Ok bytes) bytes buffer refl (rw (← e) at added))
-    of (Err x) o e added = rw (← e)
+    of : (r : Result (List ℕ)) (o : Outcome (List ℕ)) → Alike (λ x. x) r o → NoneAdded (writingOf o buffer .outcome) → inBuffer r buffer ≡ writingOf (told o) buffer
+    of (Ok bytes) o both-give added = laid (Ok bytes) bytes buffer refl added
+    of (Err x) o (both-refuse e) added = ap (λ (n : ℕ). record { outcome = refused n; buffer = buffer }) e

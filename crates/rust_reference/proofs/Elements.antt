@@ -17,7 +17,8 @@ use Rattle.rust_reference.specs.Number.{outcomeOf}
 use Rattle.rust_reference.specs.Values.{index, «u16_at»}
 use Rattle.rust_reference.specs.Gtpu.{«required_ies», «while_ies», «validate_error_indication_ies»}
 use Rattle.rust_reference.specs.Claims.{ValidateErrorIndicationIes}
-use Rattle.rust_reference.proofs.Branches.{unless, told-is}
+use Rattle.rust_reference.proofs.Branches.{unless}
+use Rattle.rust_reference.proofs.Told.{told-as}
 
 -- behind the loop
 required : (t p : Bool) → outcomeOf («required_ies» t p) ≡ endOf t p
@@ -191,9 +192,9 @@ loop (suc turns) payload offset t p h =
     by (yes i) next = turn payload offset i turns t p next
     by (no i) next = ended (suc turns) payload offset t p (omega arith)
 
-pub walked : (payload : List ℕ) → outcomeOf («validate_error_indication_ies» payload) ≡ elementsOf payload
+walked : (payload : List ℕ) → outcomeOf («validate_error_indication_ies» payload) ≡ elementsOf payload
 unfolding «validate_error_indication_ies» elementsOf
 walked payload = loop (length payload) payload 0 false false (omega arith)
 
 pub validate : ValidateErrorIndicationIes
-validate payload = walked payload ∙ told-is (elementsOf payload)
+validate payload = told-as (λ x. x) («validate_error_indication_ies» payload) (walked payload)

@@ -8,7 +8,7 @@ use mathlib.Core.Bool.{Bool, true, false}
 use lib.Dec.{eqb, leb, ltb}
 use lib.ListN.{length, drop}
 use borrow.Author.Tests.{eqb-true, eqb-false, leb-true, leb-false, ltb-true, ltb-false, lt-ltb, le-ltb}
-use Rattle.error.specs.Outcome.{Outcome, refused, gives}
+use Rattle.error.specs.Outcome.{refused, gives}
 use Rattle.field.specs.Field.{Bytes}
 use Rattle.measurement.specs.Flow.{InRange}
 use Rattle.measurement.specs.declared.InnerIpFlow.{InnerIpFlow}
@@ -25,10 +25,11 @@ use Rattle.rust_reference.specs.Claims.{NoneAdded, IntervalNs, Generate}
 use Rattle.rust_reference.specs.Error as error
 use Rattle.rust_reference.specs.Error.{DataplaneTestkitError, Result, Ok, Err, Overflow}
 use Rattle.rust_reference.specs.Number.{errorNumber, outcomeBy, outcomeOf}
-use Rattle.rust_reference.specs.Answers.{rustFlow, vecs, headersOf, packetsInBuffer}
+use Rattle.rust_reference.specs.Answers.{rustFlow, vecs, headersOf, packetsInBuffer, toldGenerating}
 use Rattle.rust_reference.specs.Traffic.{GeneratedPacket, Generated, attempted, checked, «interval_ns», «for_offset», generate}
-use Rattle.rust_reference.proofs.Branches.{unless, told-is, AllOk, all, none}
+use Rattle.rust_reference.proofs.Branches.{unless, AllOk, all, none}
 use Rattle.rust_reference.proofs.Building.{vec-is}
+use Rattle.rust_reference.proofs.Told.{error-told, told-as}
 
 interval-is : (plan : TrafficPlan) → outcomeOf («interval_ns» plan) ≡ intervalOf (plan .«target_rate_pps»)
 unfolding «interval_ns»
@@ -39,7 +40,7 @@ interval-is plan =
     (λ f. rate-good rate (eqb-false rate 0 e) (eqb-false (interval rate) 0 f)))
 
 pub interval-ns : IntervalNs
-interval-ns plan = interval-is plan ∙ told-is (intervalOf (plan .«target_rate_pps»))
+interval-ns plan = told-as (λ x. x) («interval_ns» plan) (interval-is plan)
 
 -- a packet without its bytes, and the Rust's answer as a judgement
 abbrev headerOf : GeneratedPacket → MeasurementHeader
@@ -242,8 +243,13 @@ generated-is flow plan next range buffer added = of («interval_ns» plan) (inte
             absurd (added 18 (inr (inl refl)) (sym (ap (λ (x : Generating). x .outcome) (generate-refused flow plan next buffer 18 (ap (λ (x : Judged). x .outcome) (sym judged))))))
         by false f = looped j e (ltb-false 2048 (plan .«packet_count») f)
 
+-- what the Rust leaves in a buffer is told as it is
+packets-told : (r : Result (List GeneratedPacket)) (next : ℕ) (buffer : List ℕ) → packetsInBuffer r next buffer ≡ toldGenerating (packetsInBuffer r next buffer)
+packets-told (Ok packets) next buffer = refl
+packets-told (Err x) next buffer = ap (λ (n : ℕ). record { outcome = refused n; next = next; buffer = buffer }) (error-told x)
+
 pub generated : Generate
 generated flow plan next range buffer added =
     let g = generated-is flow plan next range buffer added in
-    let ours : Generating = generateOf flow plan next buffer in
-    (g .0 ∙ ap (λ (o : Outcome ℕ). record { outcome = o; next = ours .next; buffer = ours .buffer }) (told-is (ours .outcome)), g .1 ∙ told-is (judgePlan plan next .outcome))
+    let rust : Generated = generate next (rustFlow flow) plan in
+    (packets-told (rust .result) (rust .«next_sequence») buffer ∙ ap toldGenerating (g .0), told-as headersOf (rust .result) (g .1))

@@ -37,7 +37,7 @@ use Rattle.reflector_sessions.specs.declared.ReflectorSession.{ReflectorSession
 use Rattle.reflector_sessions.specs.declared.SocketAddr.{SocketAddr}
 use Rattle.reflector_sessions.proofs.Judging.{table-sound}
 use Rattle.rust_reference.specs.Claims.{NoneAdded, HandleDatagram}
-use Rattle.rust_reference.specs.Compared.{ComparedGpdu, ComparedMessage}
+use Rattle.rust_reference.specs.Compared.{ComparedGpdu, ComparedMessage, told}
 use Rattle.rust_reference.specs.Error as error
 use Rattle.rust_reference.specs.Error.{Result, Ok, Err, InvalidPacket}
 use Rattle.rust_reference.specs.Gtpu as gtpu
@@ -47,7 +47,7 @@ use Rattle.rust_reference.specs.Number.{outcomeOf}
 use Rattle.rust_reference.specs.Reflector as rust
 use Rattle.rust_reference.specs.Sessions.{Reflector, tableIn, withState, handling, rustIp, rustAddress, rustSession, rustPolicy, rustReflector, rustSequence, rustMessage, rustRemoved, rustAction, outcomeTo, inOutput, SequenceFits}
 use Rattle.rust_reference.specs.Values.{«saturating_add»}
-use Rattle.rust_reference.proofs.Branches.{told-is, compared-bytes}
+use Rattle.rust_reference.proofs.Told.{Alike, both-give, both-refuse, alike}
 use Rattle.rust_reference.proofs.Capacity.{Fits, made-fits, sound-table}
 use Rattle.rust_reference.proofs.Echoing.{echo-outcome, echo-short}
 use Rattle.rust_reference.proofs.Registering.{SoundIn, find-same}
@@ -113,7 +113,7 @@ module _ (r : Reflector) (source : SocketAddr) (payload buffer : List ℕ) where
   -- the action, the output and the reflector
   abbrev pub Comes : rust.Called (Result rust.ReflectorAction) → Answer → Type 0
   Comes after a =
-      (outcomeOf (after .result) ≡ outcomeTo (rustAction payload) (a .outcome))
+      (outcomeOf (after .result) ≡ outcomeTo (rustAction payload) (told (a .outcome)))
       × (inOutput (after .result) buffer ≡ placed (a .outcome) buffer)
       × (after .reflector ≡ rustReflector (withState (a .state) r))
 
@@ -144,16 +144,16 @@ module _ (r : Reflector) (source : SocketAddr) (payload buffer : List ℕ) where
     abbrev after : Outcome Action → Answer
     after o = record { outcome = o; state = gpduCounted o (stateCounted counter.GpduReceived (r .state)) }
 
-    echoing : (x : Result (List ℕ)) (o : Outcome (List ℕ)) → outcomeOf x ≡ o → ((bytes : List ℕ) → o ≡ gives bytes → length bytes ≤ 65535)
+    echoing : (x : Result (List ℕ)) (o : Outcome (List ℕ)) → Alike (λ y. y) x o → ((bytes : List ℕ) → o ≡ gives bytes → length bytes ≤ 65535)
         → Comes (rust.attempted x received λ echoed.
         rust.attempted (gtpu.«encode_gpdu» (session .«peer_teid») echoed) received λ packet.
         record { result = Ok (rust.Send (rustSession session .«peer_addr») packet ReflectedGpdu); reflector = rust.count counter.GpduForwarded received })
         (after (reflected session o))
-    echoing (Ok bytes) o e short = rw (← e) (rw (le-ltb 65535 (length bytes) (short bytes (sym e))) (refl, refl, count-twice counter.GpduReceived counter.GpduForwarded r))
-    echoing (Err x) o e short = rw (← e) (refl, refl, count-is counter.GpduReceived r)
+    echoing (Ok bytes) o both-give short = rw (le-ltb 65535 (length bytes) (short bytes refl)) (refl, refl, count-twice counter.GpduReceived counter.GpduForwarded r)
+    echoing (Err x) o (both-refuse e) short = (ap refused e, refl, count-is counter.GpduReceived r)
 
     by-policy : (policy : ReflectorPolicy) → r .config .policy ≡ policy → Comes (forwarding (rustPolicy policy (r .config .target))) (after (policyOutcome policy))
-    by-policy Echo e = echoing («echo_tpdu» payload) (echoOf payload) (echo-outcome payload (compared-bytes payload (b .0 e))) (echo-short payload)
+    by-policy Echo e = echoing («echo_tpdu» payload) (echoOf payload) (alike (λ y. y) («echo_tpdu» payload) (echoOf payload) (echo-outcome payload (b .0 e))) (echo-short payload)
     by-policy SinkAndCount e = (refl, refl, count-twice counter.GpduReceived counter.GpduSunk r)
     by-policy Route e = rw (le-ltb 65535 (length payload) (b .1 e)) (refl, refl, count-twice counter.GpduReceived counter.GpduForwarded r)
 
@@ -274,8 +274,7 @@ module _ (r : Reflector) (source : SocketAddr) (message : GtpuMessage) (payload 
 pub handled : HandleDatagram
 handled r made sequence source message payload b buffer added =
     let ready = handle-ready r source message payload buffer (made-fits r made) added in
-    let c = handled-in r source message payload buffer (ready .0) (ready .1) sequence b in
-    (c .0 ∙ ap (outcomeTo (rustAction payload)) (told-is (handling r source message payload buffer .outcome)), c .1, c .2)
+    handled-in r source message payload buffer (ready .0) (ready .1) sequence b
 
 -- ---- the error sequence stays a u16
 

@@ -1,4 +1,6 @@
 -- Why the Rust's results are document 01's.
+pub mod Told
+pub mod Compared
 pub mod Branches
 pub mod Elements
 pub mod Checksums

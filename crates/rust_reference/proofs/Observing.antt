@@ -10,7 +10,7 @@ use lib.ListN.{length, set, length-append}
 use borrow.Author.Tests.{ltb-true, ltb-false, eqb-true, eqb-false, eq-eqb, lt-ltb, le-ltb}
 use Rattle.error.specs.Outcome.{Outcome, refused, gives}
 use Rattle.error.proofs.Tests.{true-not-false, or-left, or-right}
-use Rattle.field.specs.Field.{Bytes}
+use Rattle.measurement.specs.declared.DecodedTpdu.{DecodedTpdu}
 use Rattle.measurement_reading.specs.Read.{readOf}
 use Rattle.gtpu.specs.Element.{elementsOf}
 use Rattle.observer.specs.Claims.{sending, returning, indicating}
@@ -32,9 +32,10 @@ use Rattle.return_calls.proofs.Laws.{kind-2, kind-ignored, kind-other, message-
 use Rattle.return_calls.specs.declared.GtpuReturnDatagramOutcome.{GtpuReturnDatagramOutcome}
 use Rattle.return_calls.specs.declared.GtpuReturnDatagramOutcome.the-variants.{MeasurementTpdu, ErrorIndication, EchoResponse, Ignored}
 use Rattle.rust_reference.specs.Claims.{New, EverySheet, RecordSent, RecordReceivedTpdu, RecordReturnGtpuDatagram}
+use Rattle.rust_reference.specs.Compared.{Compared, ComparedReturn, asTheRustTells, told}
 use Rattle.rust_reference.specs.Error as error
 use Rattle.rust_reference.specs.Error.{DataplaneTestkitError, Result, Ok, Err, InvalidPacket, TimestampReversed}
-use Rattle.rust_reference.specs.Number.{errorNumber, outcomeBy, outcomeOf}
+use Rattle.rust_reference.specs.Number.{errorNumber, outcomeOf}
 use Rattle.rust_reference.specs.Values.{«u64_max», «saturating_add»}
 use Rattle.rust_reference.specs.Map.{Option, None, Some, «is_some_and», «map_or», Entry, get, «contains_key», insert}
 use Rattle.rust_reference.specs.Sheet.{sentOf, receivedOf, highestKey, Same}
@@ -42,10 +43,10 @@ use Rattle.rust_reference.specs.Answers.{tpduOf}
 use Rattle.rust_reference.specs.Gtpu.{«validate_error_indication_ies»}
 use Rattle.rust_reference.specs.Measurement as measurement
 use Rattle.rust_reference.specs.Traffic.{ContinuityObserver, Recorded, tried, «ok_or», «checked_sub», «record_sent», duplicate, «first_return», «record_received_tpdu», «error_indication», «record_return_gtpu_datagram»}
-use Rattle.rust_reference.proofs.Branches.{told-is, compared-bytes}
 use Rattle.rust_reference.proofs.Decoding.{decoded}
-use Rattle.rust_reference.proofs.Elements.{walked}
+use Rattle.rust_reference.proofs.Elements.{validate}
 use Rattle.rust_reference.proofs.Maps.{Located, found, absent, locate, get-found, insert-found, received-resent, contains-found, insert-received, sent-returned, get-absent, insert-absent, received-entered, row-found, set-found, put-absent, late-is, insert-fits, highest-insert}
+use Rattle.rust_reference.proofs.Told.{Alike, both-give, both-refuse, alike, told-as}
 
 -- ---- a fresh sheet, and every well-formed one
 
@@ -131,13 +132,13 @@ pub sending-same : RecordSent
 sending-same rust o same q t added =
     let s = sending-kept rust o same q t
     (λ w full. added 22 (inr (inr (inr (inl refl)))) (ap (λ (x : Step). x .outcome) (sym (sent-full o (same .well) q t w full)))) in
-    (s .0 ∙ told-is _, s .1)
+    (ap told (s .0), s .1)
 
 -- ---- a return
 
--- the same answer, and what is left is related
+-- the same answer, as it is told, and what is left is related
 pub record AsStep (o : Observer) (x : Recorded (Unit {0})) (s : Step) : Type 0 where
-  pub answer : outcomeOf (x .result) ≡ s .outcome
+  pub answer : outcomeOf (x .result) ≡ told (s .outcome)
   pub same : Same (x .observer) (s .observer)
   pub room : capacity (s .observer) ≡ capacity o
 
@@ -178,9 +179,10 @@ checked-fits a b h = rw (le-ltb a b h, «checked_sub»)
 
 module _ (rust : ContinuityObserver) (o : Observer) (same : Same rust o) (t : ℕ) (fits : t ≤ «u64_max») (q : ℕ) where
   -- a refusal leaves both
-  refused-as : (e : DataplaneTestkitError) (s : Step) → step o (refused (errorNumber e)) ≡ s → AsStep o (record { result = Err e; observer = rust }) s
-  refused-as e s p = record {
-    answer = ap (λ (x : Step). x .outcome) p;
+  refused-as : (e : DataplaneTestkitError) (n : ℕ) → errorNumber e ≡ asTheRustTells n → (s : Step) → step o (refused n) ≡ s
+      → AsStep o (record { result = Err e; observer = rust }) s
+  refused-as e n number s p = record {
+    answer = ap refused number ∙ ap (λ (x : Step). told (x .outcome)) p;
     same = subst (λ (x : Step). Same rust (x .observer)) p same;
     room = ap (λ (x : Step). capacity (x .observer)) (sym p);
   }
@@ -193,7 +195,7 @@ module _ (rust : ContinuityObserver) (o : Observer) (same : Same rust o) (t : �
       → AsStep o (record { result = Ok tt; observer = duplicate rust }) (recordReturn o t q)
   unfolding duplicate «saturating_add» oneMore rows capacity
   duplicate-as e = record {
-    answer = ap (λ (x : Step). x .outcome) e;
+    answer = ap (λ (x : Step). told (x .outcome)) e;
     same = subst (λ (x : Step). Same (duplicate rust) (x .observer)) e (record {
       well = ap (λ (x : Step). wellFormed (x .observer)) e ∙ kept-well;
       sent = same .sent;
@@ -217,7 +219,7 @@ module _ (rust : ContinuityObserver) (o : Observer) (same : Same rust o) (t : �
       → AsStep o (record { result = Ok tt; observer = «first_return» rust q l }) (recordReturn o t q)
   unfolding «first_return» withRows capacity
   first-as l X small fit e s r = record {
-    answer = ap (λ (x : Step). x .outcome) e;
+    answer = ap (λ (x : Step). told (x .outcome)) e;
     same = subst (λ (x : Step). Same («first_return» rust q l) (x .observer)) e (record {
       well = ap (λ (x : Step). wellFormed (x .observer)) e ∙ kept-well;
       sent = same .sent ∙ sym s ∙ ap sentOf (sym (rows-with X with-counts));
@@ -242,7 +244,7 @@ module _ (rust : ContinuityObserver) (o : Observer) (same : Same rust o) (t : �
   arrives (absent before after e b a p w) =
       let none-there : get q (rust .sent) ≡ None = ap (get q) (same .sent ∙ ap sentOf e) ∙ get-absent q before after b a in
       rw none-there
-      (refused-as (InvalidPacket error.received-sequence-was-not-sent) (recordReturn o t q) (return-unknown o (same .well) q t w))
+      (refused-as (InvalidPacket error.received-sequence-was-not-sent) 23 refl (recordReturn o t q) (return-unknown o (same .well) q t w))
   arrives (found before r after e b s a p w) =
       let there : get q (rust .sent) ≡ Some (r .«send_timestamp_ns») = ap (get q) (same .sent ∙ ap sentOf e) ∙ get-found q before r after b s a in
       rw there (by (ltb t (r .«send_timestamp_ns»)) refl)
@@ -278,7 +280,7 @@ module _ (rust : ContinuityObserver) (o : Observer) (same : Same rust o) (t : �
           ]) (recordReturn o t q)
       by true h =
           rw (checked-under t (r .«send_timestamp_ns») (ltb-true t (r .«send_timestamp_ns») h))
-          (refused-as TimestampReversed (recordReturn o t q) (return-early o (same .well) q t w (rw row-is (ltb-true t (r .«send_timestamp_ns») h))))
+          (refused-as TimestampReversed 24 refl (recordReturn o t q) (return-early o (same .well) q t w (rw row-is (ltb-true t (r .«send_timestamp_ns») h))))
       by false h =
           rw (checked-fits t (r .«send_timestamp_ns») (ltb-false t (r .«send_timestamp_ns») h))
           (subst (λ (x : Bool). AsStep o (elim x [
@@ -287,29 +289,33 @@ module _ (rust : ContinuityObserver) (o : Observer) (same : Same rust o) (t : �
           ]) (recordReturn o t q)) (sym marked) (judged-by (eqb (r .mark) 1) refl (ltb-false t (r .«send_timestamp_ns») h)))
 
 -- what the T-PDU reads as, for the observer
-sequence-read : (tpdu : List ℕ) (x : Result measurement.DecodedTpdu) → outcomeBy tpduOf x ≡ readOf tpdu → outcomeBy (λ d. d .measurement .sequence) x ≡ sequenceRead tpdu
+sequence-read : (tpdu : List ℕ) → Compared tpdu → Alike (λ d. d .measurement .sequence) (measurement.«decode_measurement_tpdu» tpdu) (sequenceRead tpdu)
 unfolding sequenceRead
-sequence-read tpdu (Ok d) e = rw (← e, sequenceRead)
-sequence-read tpdu (Err x) e = rw (← e, sequenceRead)
+sequence-read tpdu c = of (measurement.«decode_measurement_tpdu» tpdu) (readOf tpdu) (alike tpduOf (measurement.«decode_measurement_tpdu» tpdu) (readOf tpdu) (decoded tpdu c))
+  where
+    of : (x : Result measurement.DecodedTpdu) (o : Outcome DecodedTpdu) → Alike tpduOf x o
+        → Alike (λ d. d .measurement .sequence) x (elim o [ refused n ↦ refused n | gives d ↦ gives (d .measurement .sequence) ])
+    of (Ok d) o both-give = both-give
+    of (Err x) o (both-refuse e) = both-refuse e
 
 module _ (rust : ContinuityObserver) (o : Observer) (same : Same rust o) (t : ℕ) (fits : t ≤ «u64_max») where
-  received-as : (x : Result measurement.DecodedTpdu) (read : Outcome ℕ) → outcomeBy (λ d. d .measurement .sequence) x ≡ read
+  received-as : (x : Result measurement.DecodedTpdu) (read : Outcome ℕ) → Alike (λ d. d .measurement .sequence) x read
       → AsStep o (tried x rust (λ d. arriving rust t (d .measurement .sequence))) (afterReading o read (recordReturn o t))
-  received-as (Ok d) read e =
-      rw (← e) (arrives rust o same t fits (d .measurement .sequence) (locate (d .measurement .sequence) (rows o) (well-rows o (same .well) .rises)))
-  received-as (Err x) read e = rw (← e) (refused-as rust o same t fits 0 x (refusing o (errorNumber x)) (refusing-well o (errorNumber x) (same .well)))
+  received-as (Ok d) read both-give =
+      arrives rust o same t fits (d .measurement .sequence) (locate (d .measurement .sequence) (rows o) (well-rows o (same .well) .rises))
+  received-as (Err x) read (both-refuse {n = n} e) = refused-as rust o same t fits 0 x n e (refusing o n) (refusing-well o n (same .well))
 
-  pub received-step : (tpdu : List ℕ) → Bytes tpdu → AsStep o («record_received_tpdu» rust t tpdu) (recordReceivedTpdu o t tpdu)
+  pub received-step : (tpdu : List ℕ) → Compared tpdu → AsStep o («record_received_tpdu» rust t tpdu) (recordReceivedTpdu o t tpdu)
   unfolding «record_received_tpdu» recordReceivedTpdu
-  received-step tpdu b = received-as (measurement.«decode_measurement_tpdu» tpdu) (sequenceRead tpdu) (sequence-read tpdu (measurement.«decode_measurement_tpdu» tpdu) (decoded tpdu b))
+  received-step tpdu c = received-as (measurement.«decode_measurement_tpdu» tpdu) (sequenceRead tpdu) (sequence-read tpdu c)
 
 pub received-same : RecordReceivedTpdu
-received-same rust o same t fits tpdu b = let a = received-step rust o same t fits tpdu (compared-bytes tpdu b) in (a .answer ∙ told-is _, a .same)
+received-same rust o same t fits tpdu c = let a = received-step rust o same t fits tpdu c in (a .answer, a .same)
 
 -- ---- a message
 
 pub record AsMessage (o : Observer) (x : Recorded GtpuReturnDatagramOutcome) (s : MessageStep) : Type 0 where
-  pub answer : outcomeOf (x .result) ≡ s .outcome
+  pub answer : outcomeOf (x .result) ≡ told (s .outcome)
   pub same : Same (x .observer) (s .observer)
   pub room : capacity (s .observer) ≡ capacity o
 
@@ -339,10 +345,14 @@ neither t m n e (inl h) = true-not-false (sym (or-right (eqb t m) _ (eq-eqb t n 
 neither t m n e (inr h) = true-not-false (sym (or-left _ (eqb t n) (eq-eqb t m h)) ∙ e)
 
 -- a return, as a message of its kind
-as-kind : (o : Observer) (kind : GtpuReturnDatagramOutcome) (r : Result (Unit {0})) (rust : ContinuityObserver) (s : Step) → outcomeOf r ≡ s .outcome → Same rust (s .observer)
+as-kind : (o : Observer) (kind : GtpuReturnDatagramOutcome) (r : Result (Unit {0})) (rust : ContinuityObserver) (s : Step) → outcomeOf r ≡ told (s .outcome) → Same rust (s .observer)
     → capacity (s .observer) ≡ capacity o → AsMessage o (tried r rust (λ u. record { result = Ok kind; observer = rust })) (asMessage kind s)
-as-kind o kind (Ok u) rust s e same c = record { answer = rw (← e); same = same; room = c }
-as-kind o kind (Err x) rust s e same c = record { answer = rw (← e); same = same; room = c }
+as-kind o kind r rust s e same c = of r (s .outcome) (alike (λ u. u) r (s .outcome) e)
+  where
+    of : (r : Result (Unit {0})) (given : Outcome (Unit {0})) → Alike (λ u. u) r given
+        → AsMessage o (tried r rust (λ u. record { result = Ok kind; observer = rust })) (asMessage kind (record { outcome = given; observer = s .observer }))
+    of (Ok u) given both-give = record { answer = refl; same = same; room = c }
+    of (Err x) given (both-refuse f) = record { answer = ap refused f; same = same; room = c }
 
 module _ (rust : ContinuityObserver) (o : Observer) (same : Same rust o) where
   -- an Error Indication
@@ -359,30 +369,30 @@ module _ (rust : ContinuityObserver) (o : Observer) (same : Same rust o) where
     indications = ap (λ (n : ℕ). min (n + 1) «u64_max») (same .indications);
   }
 
-  indicated : (r : Result (Unit {0})) (walk : Outcome (Unit {0})) → outcomeOf r ≡ walk
+  indicated : (r : Result (Unit {0})) (walk : Outcome (Unit {0})) → Alike (λ u. u) r walk
       → AsMessage o (tried r rust (λ u. record { result = Ok ErrorIndication; observer = «error_indication» rust })) (asMessage ErrorIndication (afterReading o walk (λ accepted. recordErrorIndication o)))
-  indicated (Ok u) walk e =
-      rw (← e) (subst (λ (s : Step). AsMessage o (record { result = Ok ErrorIndication; observer = «error_indication» rust }) (asMessage ErrorIndication s))
-      (indication-counted o (same .well)) (record { answer = refl; same = indication-with; room = unfold capacity in refl }))
-  indicated (Err x) walk e =
-      rw (← e) (subst (λ (s : Step). AsMessage o (record { result = Err x; observer = rust }) (asMessage ErrorIndication s))
-      (refusing-well o (errorNumber x) (same .well)) (record { answer = refl; same = same; room = refl }))
+  indicated (Ok u) walk both-give =
+      subst (λ (s : Step). AsMessage o (record { result = Ok ErrorIndication; observer = «error_indication» rust }) (asMessage ErrorIndication s))
+      (indication-counted o (same .well)) (record { answer = refl; same = indication-with; room = unfold capacity in refl })
+  indicated (Err x) walk (both-refuse {n = n} e) =
+      subst (λ (s : Step). AsMessage o (record { result = Err x; observer = rust }) (asMessage ErrorIndication s))
+      (refusing-well o n (same .well)) (record { answer = ap refused e; same = same; room = refl })
 
   -- a message that changes nothing
   noted : (r : Result GtpuReturnDatagramOutcome) → AsMessage o (record { result = r; observer = rust }) (unchanged o (outcomeOf r))
-  noted r = record { answer = judged-well o (outcomeOf r) (same .well); same = same; room = refl }
+  noted r = record { answer = told-as (λ x. x) r (judged-well o (outcomeOf r) (same .well)); same = same; room = refl }
 
-  pub message-step : (t : ℕ) → t ≤ «u64_max» → (ty : ℕ) (payload : List ℕ) → (ty ≡ 255 → Bytes payload)
+  pub message-step : (t : ℕ) → t ≤ «u64_max» → (ty : ℕ) (payload : List ℕ) → ComparedReturn ty payload
       → AsMessage o («record_return_gtpu_datagram» rust t ty payload) (recordReturnMessage o t ty payload)
   unfolding «record_return_gtpu_datagram»
-  message-step t fits ty payload b =
+  message-step t fits ty payload c =
       branch o (eqb ty 255) _ _ _
       (λ is.
-      let a = received-step rust o same t fits payload (b (eqb-true ty 255 is)) in
+      let a = received-step rust o same t fits payload (c (eqb-true ty 255 is)) in
       said (message-255 ty o t payload (eqb-true ty 255 is))
       (as-kind o MeasurementTpdu («record_received_tpdu» rust t payload .result) («record_received_tpdu» rust t payload .observer) (recordReceivedTpdu o t payload) (a .answer) (a .same) (a .room)))
       (λ no. branch o (eqb ty 26) _ _ _
-      (λ is. said (message-26 ty o t payload (eqb-true ty 26 is)) (indicated («validate_error_indication_ies» payload) (elementsOf payload) (walked payload)))
+      (λ is. said (message-26 ty o t payload (eqb-true ty 26 is)) (indicated («validate_error_indication_ies» payload) (elementsOf payload) (alike (λ u. u) («validate_error_indication_ies» payload) (elementsOf payload) (validate payload))))
       (λ nor. said (message-other ty o t payload (eqb-false ty 255 no) (eqb-false ty 26 nor))
       (branch o (eqb ty 2) _ _ _
       (λ is. said (ap (unchanged o) (kind-2 ty (eqb-true ty 2 is))) (noted (Ok EchoResponse)))
@@ -392,5 +402,4 @@ module _ (rust : ContinuityObserver) (o : Observer) (same : Same rust o) where
       (noted (Err (InvalidPacket error.unsupported-GTP-U-return-message-type))))))))
 
 pub message-same : RecordReturnGtpuDatagram
-message-same rust o same t fits ty payload b =
-    let a = message-step rust o same t fits ty payload (λ is. compared-bytes payload (b is)) in (a .answer ∙ told-is _, a .same)
+message-same rust o same t fits ty payload c = let a = message-step rust o same t fits ty payload c in (a .answer, a .same)

@@ -9,15 +9,17 @@ use Rattle.reflector_sessions.specs.Register.{registerSession}
 use Rattle.reflector_sessions.specs.Remove.{removeSession}
 use Rattle.reflector_sessions.specs.declared.ReflectorSession.{ReflectorSession}
 use Rattle.rust_reference.specs.Claims.{NoneAdded, AllCallsTyped, NoneAddedInCalls, AllOutputsFit, ReflectorRuns, ReflectorRunsWithRoom}
+use Rattle.rust_reference.specs.Compared.{told}
 use Rattle.rust_reference.specs.Error.{Ok}
+use Rattle.rust_reference.specs.Map.{Option}
 use Rattle.rust_reference.specs.Reflecting.{Call, register, remove, handle, Typed, OutputFits, Given, registered, removed, acted, Answer, answerTo, afterCall, answersTo, toldAnswer, after, rustAnswerTo, rustAfterCall, rustAnswersTo, rustAfter}
 use Rattle.rust_reference.specs.Reflector as rust
-use Rattle.rust_reference.specs.Sessions.{Reflector, tableIn, handling, freshReflector, rustConfig, rustReflector, rustRemoved, rustAction, outcomeTo, SequenceFits}
-use Rattle.rust_reference.proofs.Branches.{told-is}
+use Rattle.rust_reference.specs.Sessions.{Reflector, tableIn, handling, freshReflector, rustConfig, rustReflector, rustSession, rustRemoved, rustAction, outcomeTo, SequenceFits}
 use Rattle.rust_reference.proofs.Capacity.{Fits, made-is}
 use Rattle.rust_reference.proofs.Handling.{handle-ready, handled-in, handled-fits}
 use Rattle.rust_reference.proofs.Registering.{SoundIn, register-sound, registered-in}
 use Rattle.rust_reference.proofs.Removing.{remove-sound, removed-in}
+use Rattle.rust_reference.proofs.Told.{told-as, told-to}
 
 -- a refusal is one in any terms
 none-before : {A B : Type 0} (value : A → B) (o : Outcome A) → NoneAdded (outcomeTo value o) → NoneAdded o
@@ -38,7 +40,7 @@ unfolding registerSession removeSession
 call-same r s sequence (register session) typed long =
     let c = registered-in r session s in
     record {
-      answer = ap (λ (o : Outcome Given). answer-of o []) (ap (outcomeTo registered) (c .0) ∙ told-is _);
+      answer = ap (λ (o : Outcome Given). answer-of o []) (ap (outcomeTo registered) (told-as (λ x. x) (rust.«register_session» (rustReflector r) (rustSession session) .result) (c .0)) ∙ told-to registered (registerSession (tableIn r) session .outcome));
       left = c .1;
       sound = c .2;
       sequence = sequence;
@@ -46,15 +48,16 @@ call-same r s sequence (register session) typed long =
 call-same r s sequence (remove teid) typed long =
     let c = removed-in r teid s in
     record {
-      answer = ap (λ (o : Outcome Given). answer-of o []) (ap (outcomeTo removed) (c .0) ∙ told-is _);
+      answer = ap (λ (o : Outcome Given). answer-of o []) (ap (λ (o : Outcome (Option rust.ReflectorSession)). told (outcomeTo removed o)) (c .0));
       left = c .1;
       sound = c .2;
       sequence = sequence;
     }
 call-same r s sequence (handle source message payload buffer) typed long =
     let c = handled-in r source message payload buffer s long sequence typed in
+    let ours = handling r source message payload buffer .outcome in
     record {
-      answer = ap₂ answer-of (ap (outcomeTo acted) (c .0) ∙ told-is _) (c .1);
+      answer = ap₂ answer-of (ap (outcomeTo acted) (c .0 ∙ told-to (rustAction payload) ours) ∙ told-to acted (outcomeTo (rustAction payload) ours)) (c .1);
       left = c .2;
       sound = s;
       sequence = handled-fits r source message payload buffer s long sequence;

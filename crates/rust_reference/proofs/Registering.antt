@@ -29,7 +29,7 @@ use Rattle.rust_reference.specs.Map as map
 use Rattle.rust_reference.specs.Number.{outcomeOf}
 use Rattle.rust_reference.specs.Reflector as rust
 use Rattle.rust_reference.specs.Sessions.{Reflector, tableIn, withTable, rustIp, rustSession, rustReflector, rustRemoved}
-use Rattle.rust_reference.proofs.Branches.{told-is}
+use Rattle.rust_reference.proofs.Told.{told-as}
 use Rattle.rust_reference.proofs.Capacity.{Fits, made-fits, sound-table}
 
 abbrev pub SoundIn : Reflector → Type 0
@@ -185,4 +185,5 @@ register-sound r fits session added = sound-table (length (r .sessions)) (r .use
 
 pub registered : RegisterSession
 unfolding registerSession
-registered r made session added = let c = registered-in r session (register-sound r (made-fits r made) session added) in (c .0 ∙ told-is _, c .1)
+registered r made session added = let c = registered-in r session (register-sound r (made-fits r made) session added) in
+    (told-as (λ x. x) (rust.«register_session» (rustReflector r) (rustSession session) .result) (c .0), c .1)

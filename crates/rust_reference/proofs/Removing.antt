@@ -19,9 +19,10 @@ use Rattle.reflector_sessions.proofs.Judging.{is-sound}
 use Rattle.reflector_sessions.proofs.Search.{used-within}
 use Rattle.rust_reference.specs.Claims.{NoneAdded, RemoveSession}
 use Rattle.rust_reference.specs.Map as map
+use Rattle.rust_reference.specs.Compared.{told}
 use Rattle.rust_reference.specs.Reflector as rust
 use Rattle.rust_reference.specs.Sessions.{Reflector, tableIn, withTable, rustSession, rustReflector, rustRemoved, outcomeTo}
-use Rattle.rust_reference.proofs.Branches.{told-is}
+use Rattle.rust_reference.proofs.Told.{told-to}
 use Rattle.rust_reference.proofs.Capacity.{Fits, made-fits, sound-table}
 use Rattle.rust_reference.proofs.Registering.{SoundIn, vec-length}
 
@@ -123,4 +124,4 @@ remove-sound r fits teid added = sound-table (length (r .sessions)) (r .used) (r
 pub removed : RemoveSession
 unfolding removeSession
 removed r made teid added = let c = removed-in r teid (remove-sound r (made-fits r made) teid added) in
-    (c .0 ∙ ap (outcomeTo rustRemoved) (told-is (removeSession (tableIn r) teid .outcome)), c .1)
+    (ap told (c .0) ∙ sym (told-to rustRemoved (removeSession (tableIn r) teid .outcome)), c .1)

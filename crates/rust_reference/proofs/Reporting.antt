@@ -24,13 +24,13 @@ use Rattle.report.specs.Report as leaf
 use Rattle.report.specs.Report.{latenciesOf, total, greatest, least, runs, withinBudget, reporting}
 use Rattle.report.specs.Loops.{longestIn, outageIn, gapOf, sinceOf}
 use Rattle.report.proofs.Runs.{longest-of, outage-of}
+use Rattle.rust_reference.specs.Compared.{told}
 use Rattle.rust_reference.specs.Claims.{Report}
 use Rattle.rust_reference.specs.Answers.{latencyOf, reportOf}
 use Rattle.rust_reference.specs.Values.{«u64_max», «saturating_add», «saturating_add_u128»}
 use Rattle.rust_reference.specs.Map.{Some, Entry, keys, values, contains}
 use Rattle.rust_reference.specs.Sheet.{sentOf, receivedOf, ValuesFit, Same}
 use Rattle.rust_reference.specs.Traffic.{ContinuityObserver, «for_latency», «latency_summary», GapSummary, «for_sent», «gap_summary», report}
-use Rattle.rust_reference.proofs.Branches.{told-is}
 use Rattle.rust_reference.proofs.Maps.{Below, Above, rising-above, contains-keys, contains-found}
 
 -- ---- latencies
@@ -296,4 +296,4 @@ pub report-same : Report
 unfolding reporting
 report-same rust o same start end budget =
     ap (λ (r : PacketContinuityReport). gives r) (report-is rust o same start end budget)
-    ∙ judged-well o (gives (leaf.reportOf (rows o) (o .counts) start end budget)) (same .well) ∙ told-is _
+    ∙ ap told (judged-well o (gives (leaf.reportOf (rows o) (o .counts) start end budget)) (same .well))

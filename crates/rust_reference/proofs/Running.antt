@@ -30,7 +30,6 @@ use Rattle.rust_reference.specs.Gtpu.{«validate_error_indication_ies»}
 use Rattle.rust_reference.specs.Measurement as measurement
 use Rattle.rust_reference.specs.Runs.{Call, sending, receiving, returning, reporting-on, Typed, Answer, done, message, reported, answering, answerTo, afterCall, answersTo, after, rustAnswerTo, rustAfterCall, rustAnswersTo, rustAfter}
 use Rattle.rust_reference.specs.Traffic.{ContinuityObserver, new, Recorded, tried, «ok_or», «checked_sub», «record_sent», duplicate, «first_return», «record_received_tpdu», «error_indication», «record_return_gtpu_datagram»}
-use Rattle.rust_reference.proofs.Branches.{told-is, compared-bytes}
 use Rattle.rust_reference.proofs.Observing.{new-same, sending-kept, sending-same, arriving, received-step, received-same, message-step, message-same}
 use Rattle.rust_reference.proofs.Maps.{Located, found, absent, locate, insert-absent}
 use Rattle.rust_reference.proofs.Reporting.{sent-length, report-same}
@@ -192,12 +191,13 @@ call-free : (rust : ContinuityObserver) (o : Observer) → Same rust o → capac
     → (rustAnswerTo rust call ≡ told (answerTo o call)) × Same (rustAfterCall rust call) (afterCall o call) × (capacity (afterCall o call) ≡ capacity o)
 unfolding «record_sent»
 call-free rust o same room (sending q t) typed h =
-    let s = sending-kept rust o same q t (free-row rust o same room q t h) in (ap (answering (λ u. done)) (s .0) ∙ told-is _, s .1, s .2)
+    let s = sending-kept rust o same q t (free-row rust o same room q t h) in (ap (λ (x : Outcome (Unit {0})). told (answering (λ u. done) x)) (s .0), s .1, s .2)
 call-free rust o same room (receiving t tpdu) typed h =
-    let s = received-step rust o same t (typed .0) tpdu (compared-bytes tpdu (typed .1)) in (ap (answering (λ u. done)) (s .answer) ∙ told-is _, s .same, s .room)
+    let s = received-step rust o same t (typed .0) tpdu (typed .1) in
+    (ap (answering (λ u. done)) (s .answer) ∙ told-answering (λ (u : Unit {0}). done) (recordReceivedTpdu o t tpdu .outcome), s .same, s .room)
 call-free rust o same room (returning t ty payload) typed h =
-    let s = message-step rust o same t (typed .0) ty payload (λ is. compared-bytes payload (typed .1 is)) in
-    (ap (answering message) (s .answer) ∙ told-is _, s .same, s .room)
+    let s = message-step rust o same t (typed .0) ty payload (typed .1) in
+    (ap (answering message) (s .answer) ∙ told-answering message (recordReturnMessage o t ty payload .outcome), s .same, s .room)
 call-free rust o same room (reporting-on start end budget) typed h =
     (ap (answering reported) (report-same rust o same start end budget) ∙ told-answering reported (reporting o start end budget), same, refl)
 

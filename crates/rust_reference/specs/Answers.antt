@@ -57,6 +57,10 @@ abbrev pub inBuffer : Result (List ℕ) → List ℕ → Writing
 inBuffer (Ok vec) buffer = record { outcome = gives (length vec); buffer = vec ++ drop (length vec) buffer }
 inBuffer (Err error) buffer = record { outcome = refused (errorNumber error); buffer = buffer }
 
+-- What our writer leaves, in the numbers that are compared.
+abbrev pub toldWriting : Writing → Writing
+toldWriting w = record { outcome = told (w .outcome); buffer = w .buffer }
+
 -- The Rust's packets, end to end.
 abbrev pub vecs : List GeneratedPacket → List ℕ
 vecs [] = []

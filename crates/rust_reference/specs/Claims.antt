@@ -50,10 +50,10 @@ use Rattle.rust_reference.specs.Sheet.{receivedOf, ValuesFit, Same, rust
 use Rattle.rust_reference.specs.Runs.{Call, Typed, answerTo, afterCall, answersTo, after, rustAnswersTo}
 use Rattle.rust_reference.specs.Runs.{rustAfter}
 use Rattle.rust_reference.specs.Map.{Option}
-use Rattle.rust_reference.specs.Number.{outcomeBy, outcomeOf}
+use Rattle.rust_reference.specs.Number.{errorNumber, outcomeBy, outcomeOf}
 use Rattle.rust_reference.specs.Compared.{Compared, ComparedReturn, ComparedMessage, asTheRustTells, told}
-use Rattle.rust_reference.specs.Answers.{rustFlow, tpduOf, inBuffer, headersOf, packetsInBuffer, toldGenerating}
-use Rattle.rust_reference.specs.Answers.{reportOf}
+use Rattle.rust_reference.specs.Answers.{rustFlow, tpduOf, inBuffer, toldWriting, headersOf, packetsInBuffer}
+use Rattle.rust_reference.specs.Answers.{toldGenerating, reportOf}
 use Rattle.rust_reference.specs.Sessions.{Reflector, tableIn, withTable, withState, freshReflector, handling}
 use Rattle.rust_reference.specs.Sessions.{rustAddress, rustSession, rustConfig, rustReflector, rustMessage}
 use Rattle.rust_reference.specs.Sessions.{rustRemoved, rustAction, outcomeTo, inOutput, IsMade, SequenceFits}
@@ -69,6 +69,11 @@ abbrev pub Added : ℕ → Type 0
 Added n =
     (n ≡ outputTooShort) ⊎ (n ≡ tooManyPackets) ⊎ (n ≡ malformedObserver) ⊎ (n ≡ observerFull)
     ⊎ (n ≡ malformedReflectorTable)
+
+-- What is added is ours: no error of the Rust has such a number. A number of the Rust's among them would take what it
+-- refuses out of every claim.
+abbrev pub AddedIsOurs : Type 0
+AddedIsOurs = (error : DataplaneTestkitError) → Added (errorNumber error) → ⊥
 
 -- "where no refusal marked added is due"
 abbrev pub NoneAdded : {A : Type 0} → Outcome A → Type 0
@@ -123,7 +128,7 @@ abbrev pub BuildMeasurementTpdu : Type 0
 BuildMeasurementTpdu = (flow : InnerIpFlow) (sequence time : ℕ) → InRange flow sequence time → (buffer : List ℕ)
     → NoneAdded (writing (buildOf flow sequence time) buffer .outcome)
     → inBuffer (measurement.«build_measurement_tpdu» (rustFlow flow) sequence time) buffer
-    ≡ writing (buildOf flow sequence time) buffer
+    ≡ toldWriting (writing (buildOf flow sequence time) buffer)
 
 abbrev pub DecodeMeasurementTpdu : Type 0
 DecodeMeasurementTpdu = (tpdu : List ℕ) → Compared tpdu
@@ -320,6 +325,7 @@ ReflectorRunsWithRoom = (sessions : List ReflectorSession) (config : MultiSessio
 -- All of it, by the Rust's names.
 pub record EqualsTheRust : Type 0 where
   pub compared : WhatIsCompared
+  pub added : AddedIsOurs
   pub «zero_loss» : ZeroLoss
   pub reversed : Reversed
   pub encode : Encode
