@@ -1,7 +1,7 @@
 // The exit status of the command `rehearse`. A script acts on it, so the status of a verdict has a contract.
 use verdict::Verdict;
 ghost use mathlib.Core.Path.{_≡_};
-ghost use Rattle.exit_status.specs.Status.{statusOf};
+ghost use Rattle.exit_status.specs.Status.{statusOf, ZeroSaysPass};
 
 pub const PASSED: u64 = 0;
 
@@ -26,3 +26,8 @@ pub fn of_verdict(verdict: Verdict) -> u64
         Verdict::ErrorIndicated(_) => FAILED,
     }
 }
+
+// Carries that status 0 says PASS, and that nothing else does.
+pub fn zero_says_pass()
+    ensures { λ _. ⌜ ZeroSaysPass ⌝ }
+{}

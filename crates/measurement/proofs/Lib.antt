@@ -1,2 +1,3 @@
--- The laws of the pseudo-header.
+-- The laws of the pseudo-header and of the versions' numbers.
 pub mod Pseudo
+pub mod Versions

@@ -4,3 +4,4 @@ pub mod Flow
 pub mod Pseudo
 pub mod Probe
 pub mod Answer
+pub mod Claims

@@ -7,6 +7,7 @@ ghost use Rattle.checksum.specs.Sum.{sumOf, foldOf};
 ghost use Rattle.measurement.specs.Flow.{versionNumbered, versionNumber, address, reversedOf};
 ghost use Rattle.measurement.specs.Pseudo.{pseudoHeader};
 ghost use Rattle.measurement.specs.Probe.{probe};
+ghost use Rattle.measurement.specs.Claims.{VersionsNumbered};
 
 pub mod layout; // layout.rt: where each field stands
 
@@ -161,3 +162,8 @@ pub fn pseudo_header_words(version: IpVersion, src: [u8; 16], dst: [u8; 16], udp
 {
     17 + (udp_length as u64) + address_sum(version, src) + address_sum(version, dst)
 }
+
+// Carries that a version comes back from its number, and that no number but 4 stands for IPv4.
+pub fn versions_read_back()
+    ensures { λ _. ⌜ VersionsNumbered ⌝ }
+{}

@@ -32,7 +32,7 @@ ghost use Rattle.report.specs.Report.{reporting};
 ghost use Rattle.testkit_sheet.specs.Interface.{recordedNumbers, countGiven, returnsNumbers, outcomeCode};
 ghost use Rattle.testkit_sheet.specs.Interface.{ignoredType, datagramNumbers, latencyNumbers, reportNumbers};
 ghost use Rattle.testkit_sheet.specs.Interface.{Records, RecordsDatagram, RecordsReturns};
-ghost use Rattle.testkit_sheet.specs.Claims.{OwnBudget};
+ghost use Rattle.testkit_sheet.specs.Claims.{OwnBudget, PassesByFigures, VerdictsTold, DatagramsTold};
 ghost use Rattle.testkit_sheet.specs.Verdict.{latencyGiven, heldTo, verdictNumbers, judging};
 
 // What an observer's call answers: 0 or a refusal's number, and the counts as it leaves them.
@@ -563,4 +563,14 @@ pub extern "C" fn testkit_judge_report(
 // Carries that a report judged against its own budget gets the verdict that it gives by itself.
 pub fn own_budget_gives_own_verdict()
     ensures { λ _. ⌜ OwnBudget ⌝ }
+{}
+
+// Carries that C is told PASS exactly where something returned and the figures are within the budget.
+pub fn passes_by_figures()
+    ensures { λ _. ⌜ PassesByFigures ⌝ }
+{}
+
+// Carries that the numbers tell verdicts apart, PASS from all others, and what datagrams were.
+pub fn numbers_tell_apart()
+    ensures { λ _. ⌜ VerdictsTold × DatagramsTold ⌝ }
 {}

@@ -1,2 +1,3 @@
 -- The verdict on a run.
 pub mod Verdict
+pub mod Claims

@@ -3,6 +3,7 @@
 use evidence::PacketContinuityReport;
 ghost use mathlib.Core.Path.{_≡_};
 ghost use Rattle.verdict.specs.Verdict.{verdictOf};
+ghost use Rattle.verdict.specs.Claims.{PassesIfKept, ReasonsAreTrue};
 
 // The verdict on a report. Beside a reason stand the number that was too large and the budget's, in this order.
 pub enum Verdict {
@@ -40,3 +41,8 @@ pub fn judge(r: PacketContinuityReport) -> Verdict
     }
     Verdict::ErrorIndicated(r.gtpu_error_indications)
 }
+
+// Carries that a run passes exactly where something returned and the budget was kept, and that a reason is true.
+pub fn passes_if_kept()
+    ensures { λ _. ⌜ PassesIfKept × ReasonsAreTrue ⌝ }
+{}

@@ -1,0 +1,2 @@
+-- The laws of the verdict.
+pub mod Claims
