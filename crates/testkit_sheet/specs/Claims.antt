@@ -29,8 +29,8 @@ OwnBudget =
     → judging (reportNumbers (reporting o windowStart windowEnd budget)) budget
     ≡ saysItself (reporting o windowStart windowEnd budget)
 
--- Leaf 7 of a report's figures against a budget: "Continuity: lost, longest run and longest duration within budget and
--- no error indication. Forwarding: returned above 0." And that there is a report.
+-- Leaf 7 of a report's figures against a budget: "Forwarding: returned above 0. Continuity: lost, longest run and
+-- longest duration within budget and no error indication." And that there is a report.
 pub record Kept (r : TestkitContinuityReport) (budget : PacketContinuityBudget) : Type 0 where
   pub a-report : r .number ≡ 0
   pub some-returned : 0 < r .«received_packets»
