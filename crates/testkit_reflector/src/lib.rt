@@ -33,6 +33,7 @@ ghost use Rattle.testkit_reflector.specs.Interface.{RemovesNumbers, poli
 ghost use Rattle.testkit_reflector.specs.Interface.{configOf, stateOf, messageOf, noopNumber, sendNumber};
 ghost use Rattle.testkit_reflector.specs.Interface.{actionNumbers, sequenceNumbers, addressNumbers};
 ghost use Rattle.testkit_reflector.specs.Interface.{messageNumbers, stateNumbers, handledNumbers, AnswersNumbers};
+ghost use Rattle.testkit_reflector.specs.Claims.{SequenceReadsBack, AddressReadsBack};
 ghost use Rattle.reflector_sessions.specs.Session.{valueOf};
 
 // What registering answers: 0 and whether the session was added, or a refusal's number; and the used count that it
@@ -490,3 +491,8 @@ pub extern "C" fn testkit_handle_datagram(
         out,
     )
 }
+
+// Carries that a sequence and an address which C is answered with, handed back, are the same ones.
+pub fn numbers_read_back()
+    ensures { λ _. ⌜ SequenceReadsBack × AddressReadsBack ⌝ }
+{}
