@@ -47,6 +47,7 @@ pub struct MultiSessionReflectorConfig {
 }
 
 // The reflector's counts.
+#[repr(C)]
 pub struct ReflectorStats {
     pub gpdu_received: u64,
     pub gpdu_forwarded: u64,
@@ -67,6 +68,7 @@ pub enum ReflectorCounter {
 }
 
 // What changes from message to message: the counts, and the sequence number of the next Error Indication.
+#[repr(C)]
 pub struct ReflectorState {
     pub stats: ReflectorStats,
     pub next_error_sequence: u16,
