@@ -1,5 +1,6 @@
--- What C is given and hands back is the same: for each of these the two maps of specs/Interface.antt, into numbers and
--- out of them, mean one encoding. So they cannot both be wrong in the same way as the code.
+-- What C is answered and hands back is the same: for each of these the two maps of specs/Interface.antt, into numbers
+-- and out of them, mean one encoding. A map that loses or changes something is refused here, even where the code does
+-- the same.
 use mathlib.Core.Path.{_≡_}
 use Rattle.gtpu.specs.declared.SequenceNumber.{SequenceNumber}
 use Rattle.reflector_sessions.specs.Session.{valueOf}
