@@ -754,14 +754,15 @@ static void open_table(struct testkit_table *opened)
     opened->config.policy = TESTKIT_POLICY_ECHO;
     opened->config.target = address_of(9, 60, 6060);
     opened->config.target_teid = 0x66;
-    opened->state.gpdu_received = 1000;
-    opened->state.gpdu_forwarded = 2000;
-    opened->state.gpdu_sunk = 3000;
-    opened->state.echo_requests_answered = 4000;
-    opened->state.error_indications_sent = 5000;
-    opened->state.malformed_rejected = 6000;
+    opened->state.stats.gpdu_received = 1000;
+    opened->state.stats.gpdu_forwarded = 2000;
+    opened->state.stats.gpdu_sunk = 3000;
+    opened->state.stats.echo_requests_answered = 4000;
+    opened->state.stats.error_indications_sent = 5000;
+    opened->state.stats.malformed_rejected = 6000;
     opened->state.next_error_sequence = 65535;
     compare_testkit_reflector_config("a configuration that is handed in", opened->config, opened->config);
+    compare_testkit_reflector_stats("counts that are handed in", opened->state.stats, opened->state.stats);
     compare_testkit_reflector_state("a state that is handed in", opened->state, opened->state);
 }
 
@@ -866,23 +867,23 @@ static void handling(void)
     struct testkit_handled due;
     size_t length = make(4, 5);
 
-    s.gpdu_received++;
-    s.gpdu_forwarded++;
+    s.stats.gpdu_received++;
+    s.stats.gpdu_forwarded++;
     handle(
         "echo", message_of(255, 0x11, 9, 77), packet, length,
         sends(TESTKIT_SEND_REFLECTED_GPDU, 52, address_of(4, 20, 2020), message_of(255, 0x12, 0, 0)), s);
     expect("the echo's number", testkit_decode(copy(out, 52), 52, read_src, read_dst).number, TESTKIT_ACCEPTED);
     expect_bytes("the echo's source", read_src, dst, 4);
-    s.gpdu_received++;
+    s.stats.gpdu_received++;
     handle(
         "echo, refused", message_of(255, 0x21, 0, 0), packet, length - 1,
         nothing(TESTKIT_INVALID_IPV4_TOTAL_LENGTH, TESTKIT_ACTION_REFUSED, 0), s);
-    s.gpdu_received++;
+    s.stats.gpdu_received++;
     handle(
         "echo, null", message_of(255, 0x21, 0, 0), NULL, 0,
         nothing(TESTKIT_TRUNCATED_IP_HEADER, TESTKIT_ACTION_REFUSED, 0), s);
 
-    s.error_indications_sent++;
+    s.stats.error_indications_sent++;
     s.next_error_sequence = 1;
     handle(
         "unknown", message_of(255, 0x01020304, 0, 0), packet, length,
@@ -890,27 +891,27 @@ static void handling(void)
     expect("its elements", testkit_validate_elements(copy(out, 24), 24), TESTKIT_ACCEPTED);
     expect_bytes("its TEID", out + 1, "\1\2\3\4", 4);
     expect_bytes("its address", out + 8, source.address, 16);
-    s.error_indications_sent++;
+    s.stats.error_indications_sent++;
     s.next_error_sequence = 2;
     handle(
         "unknown, again", message_of(255, 0x31, 0, 0), packet, length,
         sends(TESTKIT_SEND_ERROR_INDICATION, 24, source, message_of(26, 0, 1, 1)), s);
 
-    s.echo_requests_answered++;
+    s.stats.echo_requests_answered++;
     handle(
         "an Echo Request", message_of(1, 0, 200, 777), packet, 0,
         sends(TESTKIT_SEND_ECHO_RESPONSE, 2, source, message_of(2, 0, 1, 777)), s);
     expect("its recovery", out[0], 14);
     expect("its recovery counter", out[1], 44);
-    s.malformed_rejected++;
+    s.stats.malformed_rejected++;
     handle(
         "an Echo Request with a TEID", message_of(1, 5, 1, 777), packet, 0,
         nothing(TESTKIT_ECHO_REQUEST_TEID_NOT_ZERO, TESTKIT_ACTION_REFUSED, 0), s);
-    s.malformed_rejected++;
+    s.stats.malformed_rejected++;
     handle(
         "an Echo Request without sequence", message_of(1, 0, 0, 777), packet, 0,
         nothing(TESTKIT_ECHO_REQUEST_MISSING_SEQUENCE, TESTKIT_ACTION_REFUSED, 0), s);
-    s.malformed_rejected++;
+    s.stats.malformed_rejected++;
     handle(
         "an unknown type", message_of(77, 0, 0, 0), packet, 0,
         nothing(TESTKIT_UNSUPPORTED_MESSAGE_TYPE, TESTKIT_ACTION_REFUSED, 0), s);
@@ -928,20 +929,20 @@ static void handling(void)
         nothing(0, TESTKIT_ACTION_NOOP, TESTKIT_NOOP_SUPPORTED_EXTENSION_HEADERS_NOTIFICATION_IGNORED), s);
 
     table.config.policy = twin.config.policy = TESTKIT_POLICY_SINK_AND_COUNT;
-    s.gpdu_received++;
-    s.gpdu_sunk++;
+    s.stats.gpdu_received++;
+    s.stats.gpdu_sunk++;
     handle(
         "sink", message_of(255, 0x21, 0, 0), packet, length, nothing(0, TESTKIT_ACTION_NOOP, TESTKIT_NOOP_GPDU_SUNK),
         s);
     table.config.policy = twin.config.policy = TESTKIT_POLICY_ROUTE;
-    s.gpdu_received++;
-    s.gpdu_forwarded++;
+    s.stats.gpdu_received++;
+    s.stats.gpdu_forwarded++;
     handle(
         "route", message_of(255, 0x21, 0, 0), packet, length,
         sends(TESTKIT_SEND_ROUTED_GPDU, 0, target, message_of(255, 0x66, 0, 0)), s);
     table.config.policy = twin.config.policy = 200;
-    s.gpdu_received++;
-    s.gpdu_forwarded++;
+    s.stats.gpdu_received++;
+    s.stats.gpdu_forwarded++;
     handle(
         "route, by another number", message_of(255, 0x21, 0, 0), packet, length,
         sends(TESTKIT_SEND_ROUTED_GPDU, 0, target, message_of(255, 0x66, 0, 0)), s);

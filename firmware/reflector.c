@@ -81,12 +81,13 @@ void reflector_serve(struct reflector *reflector)
 void reflector_log(const struct reflector *reflector, const char *name)
 {
     const struct testkit_reflector_state *state = &reflector->table.state;
+    const struct testkit_reflector_stats *stats = &state->stats;
     printf("%s: sessions %zu\n", name, reflector->table.used);
     printf(
         "  G-PDUs received %" PRIu64 ", forwarded %" PRIu64 ", sunk %" PRIu64 "; Echo Requests answered %" PRIu64
         "; Error Indications %" PRIu64 ", next %u; malformed %" PRIu64 "\n",
-        state->gpdu_received, state->gpdu_forwarded, state->gpdu_sunk, state->echo_requests_answered,
-        state->error_indications_sent, (unsigned)state->next_error_sequence, state->malformed_rejected);
+        stats->gpdu_received, stats->gpdu_forwarded, stats->gpdu_sunk, stats->echo_requests_answered,
+        stats->error_indications_sent, (unsigned)state->next_error_sequence, stats->malformed_rejected);
     printf(
         "  sent: reflected %u, routed %u, Echo Responses %u, Error Indications %u\n",
         reflector->sent[TESTKIT_SEND_REFLECTED_GPDU], reflector->sent[TESTKIT_SEND_ROUTED_GPDU],

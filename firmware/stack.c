@@ -339,7 +339,7 @@ static void measure_reflector_ends(void)
         }
     }
     state = (struct testkit_reflector_state){
-        UINT64_MAX, UINT64_MAX, UINT64_MAX, UINT64_MAX, UINT64_MAX, UINT64_MAX, 65535};
+        {UINT64_MAX, UINT64_MAX, UINT64_MAX, UINT64_MAX, UINT64_MAX, UINT64_MAX}, 65535};
     for (int k = 0; k < 4 * 256; k++) {
         message = (struct testkit_gtpu_message){(uint8_t)k, k / 256 % 2 ? 1 : 99, (uint8_t)(k / 512), 65535};
         message.teid = message.message_type == 1 ? 0 : message.teid;
@@ -347,7 +347,7 @@ static void measure_reflector_ends(void)
             measure(call_handle);
         }
     }
-    state = (struct testkit_reflector_state){0, 0, 0, 0, 0, 0, 0};
+    state = (struct testkit_reflector_state){{0, 0, 0, 0, 0, 0}, 0};
 }
 
 /* The packet of `in` with room for options of every length: IHL and total length raised, both header sums made right.

@@ -257,7 +257,7 @@ enum testkit_stack {
     TESTKIT_STACK_JUDGE_REPORT = 48,
     TESTKIT_STACK_REGISTER_SESSION = 184,
     TESTKIT_STACK_REMOVE_SESSION = 128,
-    TESTKIT_STACK_HANDLE_DATAGRAM = 776
+    TESTKIT_STACK_HANDLE_DATAGRAM = 792
 };
 
 /* The version of the archive. A program compares it with TESTKIT_VERSION when it starts. */
@@ -672,15 +672,19 @@ struct testkit_reflector_config {
     uint32_t target_teid;              /* neither is judged: a port or TEID of 0 is handed on */
 };
 
-/* What changes from message to message. Fresh: all counts 0, next_error_sequence 1. A count that has reached UINT64_MAX
- * stays there. */
-struct testkit_reflector_state {
+/* The reflector's counts. One that has reached UINT64_MAX stays there. */
+struct testkit_reflector_stats {
     uint64_t gpdu_received; /* of known TEIDs */
     uint64_t gpdu_forwarded;
     uint64_t gpdu_sunk;
     uint64_t echo_requests_answered;
     uint64_t error_indications_sent;
     uint64_t malformed_rejected;
+};
+
+/* What changes from message to message. Fresh: all counts 0, next_error_sequence 1. */
+struct testkit_reflector_state {
+    struct testkit_reflector_stats stats;
     uint16_t next_error_sequence; /* after 65535 comes 1 */
 };
 

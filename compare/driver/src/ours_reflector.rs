@@ -115,16 +115,23 @@ pub struct Config {
     pub target_teid: u32,
 }
 
-/// C's `struct testkit_reflector_state`.
+/// C's `struct testkit_reflector_stats`.
 #[repr(C)]
 #[derive(Debug, Clone, Copy, Default, PartialEq, Eq)]
-pub struct State {
+pub struct Stats {
     pub gpdu_received: u64,
     pub gpdu_forwarded: u64,
     pub gpdu_sunk: u64,
     pub echo_requests_answered: u64,
     pub error_indications_sent: u64,
     pub malformed_rejected: u64,
+}
+
+/// C's `struct testkit_reflector_state`.
+#[repr(C)]
+#[derive(Debug, Clone, Copy, Default, PartialEq, Eq)]
+pub struct State {
+    pub stats: Stats,
     pub next_error_sequence: u16,
 }
 

@@ -480,7 +480,8 @@ impl Pair {
         run.seen.add(answer.number);
         if let Some(number) = leave_out(&mut run.part, &message.payload) {
             let mut due = before.clone();
-            due.state.gpdu_received = due.state.gpdu_received.saturating_add(1);
+            let received = &mut due.state.stats.gpdu_received;
+            *received = received.saturating_add(1);
             let answer = (answer.told(), out, &self.ours);
             let refused = not_sent(number, 0, 0, due.state);
             let untouched = vec![DIRT; LEAST_OUTPUT];

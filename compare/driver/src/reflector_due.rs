@@ -7,7 +7,7 @@ use testkit_open::reflector::{
     OpenReflector, ReflectorPolicy, ReflectorSendReason, ReflectorSession, RouteTarget,
 };
 
-use crate::ours_reflector::{Address, Config, Handled, Message as Header, Session, State};
+use crate::ours_reflector::{Address, Config, Handled, Message as Header, Session, State, Stats};
 use crate::rust_side::gtpu::Message;
 use crate::rust_side::reflector::{Action, Reflector};
 use crate::rust_side::Outcome;
@@ -70,12 +70,14 @@ pub fn plain(mut address: Address) -> Address {
 
 pub fn our_state(state: &OpenReflector) -> State {
     State {
-        gpdu_received: state.stats.gpdu_received,
-        gpdu_forwarded: state.stats.gpdu_forwarded,
-        gpdu_sunk: state.stats.gpdu_sunk,
-        echo_requests_answered: state.stats.echo_requests_answered,
-        error_indications_sent: state.stats.error_indications_sent,
-        malformed_rejected: state.stats.malformed_rejected,
+        stats: Stats {
+            gpdu_received: state.stats.gpdu_received,
+            gpdu_forwarded: state.stats.gpdu_forwarded,
+            gpdu_sunk: state.stats.gpdu_sunk,
+            echo_requests_answered: state.stats.echo_requests_answered,
+            error_indications_sent: state.stats.error_indications_sent,
+            malformed_rejected: state.stats.malformed_rejected,
+        },
         next_error_sequence: state.next_error_sequence,
     }
 }

@@ -163,13 +163,14 @@ fn config_bytes(config: &Config) -> Vec<u8> {
 
 /// The counts and the error sequence: 50 bytes.
 fn state_bytes(state: &State) -> Vec<u8> {
+    let stats = &state.stats;
     let counts = [
-        state.gpdu_received,
-        state.gpdu_forwarded,
-        state.gpdu_sunk,
-        state.echo_requests_answered,
-        state.error_indications_sent,
-        state.malformed_rejected,
+        stats.gpdu_received,
+        stats.gpdu_forwarded,
+        stats.gpdu_sunk,
+        stats.echo_requests_answered,
+        stats.error_indications_sent,
+        stats.malformed_rejected,
     ];
     let mut bytes: Vec<u8> = counts.into_iter().flat_map(u64::to_be_bytes).collect();
     bytes.extend(state.next_error_sequence.to_be_bytes());

@@ -83,7 +83,11 @@ fn find(sessions: usize) -> Timing {
             }
         },
     );
-    assert_eq!(ours.state.gpdu_sunk, rust.stats().gpdu_sunk, "all are sunk");
+    assert_eq!(
+        ours.state.stats.gpdu_sunk,
+        rust.stats().gpdu_sunk,
+        "all are sunk"
+    );
     let repeats = REPEATS as f64;
     let name = format!("find in row {sessions}, G-PDU sunk");
     (name, our_time / repeats, rust_time / repeats)

@@ -2,27 +2,41 @@
 use Prim.Native.Nat.{ℕ}
 use mathlib.Core.Path.{_≡_, refl, sym, ap, _∙_}
 use mathlib.Core.Logic.{_⊎_, inl, inr}
+use mathlib.Core.Bool.{Bool, true, false}
 use mathlib.Core.List.{List, [], _++_, append-nil}
-use mathlib.Core.Option.{some, none}
+use mathlib.Core.Option.{Option, some, none}
+use native.Mathlib.Omega.{arith}
+use lib.Dec.{eqb}
 use lib.ListN.{length}
 use borrow.Author.Tests.{eq-eqb}
-use Rattle.error.specs.Outcome.{gives}
+use Rattle.error.specs.Number.{outputTooShort, unsupportedMessageType}
+use Rattle.error.specs.Outcome.{Outcome, refused, gives}
+use Rattle.error.proofs.Causes.{refused-gives, not-by}
 use Rattle.field.specs.Field.{bigEndian}
 use Rattle.field.proofs.Fields.{length-big-endian, length-bytesAt}
 use Rattle.measurement.specs.Flow.{addressLength, address, reversedOf, InRange}
 use Rattle.measurement.specs.declared.IpVersion.{IpVersion}
 use Rattle.measurement.specs.declared.IpVersion.the-variants.{V4, V6}
 use Rattle.measurement_packet.specs.Packet.{buildOf}
-use Rattle.measurement_reading.specs.Read.{readOf}
-use Rattle.measurement_damage.specs.Echo.{echoOf}
+use Rattle.measurement_reading.specs.Read.{payload as udpPayload, probeCauses, readProbe, udpCauses, readUdp, ipv4Causes, readIpv4, ipv6Causes, readIpv6, versionOf, tpduCauses, readOf}
+use Rattle.measurement.specs.declared.DecodedTpdu.{DecodedTpdu}
+use Rattle.measurement_damage.specs.Echo.{echoOfTpdu, echoOf}
 use Rattle.measurement_damage.specs.Claims.{tpduBuilt}
 use Rattle.measurement_damage.proofs.Claims.{reads-back, echo-is-reversed, reversed-in-range}
 use Rattle.gtpu.proofs.Claims.{error-indication-accepted}
 use Rattle.reflector_sessions.specs.Session.{valueOf}
-use Rattle.reflector_answer.specs.Answer.{written, answer, gpduUnknown, gpduKnown, gpduOutcome, errorIndicationTo}
+use Rattle.reflector_answer.specs.Answer.{written, Answer, Action, reflected, answer, gpduUnknown, gpduKnown, gpduOutcome, gpduAnswer, echoRequest, echoRequestOutcome, otherMessage, errorIndicationTo}
+use Rattle.reflector_sessions.specs.declared.ReflectorSession.{ReflectorSession}
+use Rattle.reflector_sessions.specs.declared.SocketAddr.{SocketAddr}
+use Rattle.gtpu.specs.declared.GtpuMessage.{GtpuMessage}
+use Rattle.reflector_answer.specs.declared.MultiSessionReflectorConfig.{MultiSessionReflectorConfig}
+use Rattle.reflector_answer.specs.declared.ReflectorPolicy.{ReflectorPolicy}
+use Rattle.reflector_answer.specs.declared.ReflectorPolicy.the-variants.{Echo, SinkAndCount, Route}
+use Rattle.reflector_answer.specs.declared.ReflectorState.{ReflectorState}
+use Rattle.reflector_answer.proofs.Answers.{handling-short, handling-passed}
 use Rattle.reflector_answer.specs.declared.ReflectorSendReason.the-variants.{ReflectedGpdu, ErrorIndication}
 use Rattle.gtpu.specs.declared.SequenceNumber.the-variants.{Present, Absent}
-use Rattle.reflector_answer.specs.Claims.{Sends, IndicationAccepted, EchoReadsBack}
+use Rattle.reflector_answer.specs.Claims.{Sends, IndicationAccepted, EchoReadsBack, LeastOutput}
 
 pub address-of : (v : IpVersion) (bytes : List ℕ) → (length (address v bytes) ≡ 4) ⊎ (length (address v bytes) ≡ 16)
 unfolding address addressLength
@@ -55,4 +69,86 @@ echo-reads-back config state session source message e p flow sequence time g beh
     payload = refl;
   },
   ap readOf (sym (append-nil (buildOf (reversedOf flow) sequence time))) ∙ reads-back (reversedOf flow) sequence time (reversed-in-range g) [],
+)
+
+-- ---- 15: no cause but the output's length has this number
+
+abbrev NotShort : {A : Type 0} → Outcome A → Type 0
+NotShort o = o ≡ refused outputTooShort → ⊥
+
+given : {A : Type 0} {x : A} → NotShort (gives x)
+given e = refused-gives (sym e)
+
+read-probe : (v : IpVersion) (source destination part : List ℕ) → NotShort (readProbe v source destination part)
+unfolding readProbe probeCauses
+read-probe v source destination part = not-by outputTooShort (probeCauses (udpPayload part)) _ refl given
+
+read-udp : (v : IpVersion) (source destination part : List ℕ) → NotShort (readUdp v source destination part)
+unfolding readUdp udpCauses
+read-udp V4 source destination part = not-by outputTooShort (udpCauses V4 source destination part) _ refl (read-probe V4 source destination part)
+read-udp V6 source destination part = not-by outputTooShort (udpCauses V6 source destination part) _ refl (read-probe V6 source destination part)
+
+read-ipv4 : (tpdu : List ℕ) → NotShort (readIpv4 tpdu)
+unfolding readIpv4 ipv4Causes
+read-ipv4 tpdu = not-by outputTooShort (ipv4Causes tpdu) _ refl (read-udp V4 _ _ _)
+
+read-ipv6 : (tpdu : List ℕ) → NotShort (readIpv6 tpdu)
+unfolding readIpv6 ipv6Causes
+read-ipv6 tpdu = not-by outputTooShort (ipv6Causes tpdu) _ refl (read-udp V6 _ _ _)
+
+read-tpdu : (tpdu : List ℕ) → NotShort (readOf tpdu)
+unfolding readOf tpduCauses
+read-tpdu tpdu = not-by outputTooShort (tpduCauses tpdu) _ refl (by (eqb (versionOf tpdu) 4))
+  where
+    by : (b : Bool) → NotShort {A = DecodedTpdu} (elim b [ true ↦ readIpv4 tpdu | false ↦ readIpv6 tpdu ])
+    by true = read-ipv4 tpdu
+    by false = read-ipv6 tpdu
+
+echo : (session : ReflectorSession) (tpdu : List ℕ) → NotShort (reflected session (echoOf tpdu))
+unfolding echoOf
+echo session tpdu = by (readOf tpdu) (read-tpdu tpdu)
+  where
+    by : (o : Outcome DecodedTpdu) → NotShort o → NotShort {A = Action} (reflected session (elim o [ refused n ↦ refused n | gives t ↦ gives (echoOfTpdu t) ]))
+    by (refused n) h e = h (let same : n ≡ outputTooShort = cc in ap refused same)
+    by (gives t) h e = given e
+
+module _ (config : MultiSessionReflectorConfig) (state : ReflectorState) (source : SocketAddr) (message : GtpuMessage) (payload : List ℕ) where
+  abbrev Of : Answer → Type 0
+  Of a = NotShort (a .outcome)
+
+  either : (t : Bool) (a b : Answer) → Of a → Of b → Of (elim t [ true ↦ a | false ↦ b ])
+  either true a b g h = g
+  either false a b g h = h
+
+  other : (t : ℕ) → Of (otherMessage state t)
+  unfolding otherMessage
+  other t =
+      either (eqb t 2) _ _ given (either (eqb t 26) _ _ given (either (eqb t 254) _ _ given (either (eqb t 31) _ _ given (λ e. let z : _≡_ {A = ℕ} unsupportedMessageType outputTooShort = cc in omega arith))))
+
+  request : Of (echoRequest config state source message)
+  unfolding echoRequest echoRequestOutcome
+  request = not-by outputTooShort _ _ refl given
+
+  known : (session : ReflectorSession) → NotShort (gpduOutcome config session payload)
+  unfolding gpduOutcome
+  known session = by (config .policy) refl
+    where
+      by : (p : ReflectorPolicy) → config .policy ≡ p → NotShort (gpduOutcome config session payload)
+      by Echo e = rw (e, gpduOutcome) (echo session payload)
+      by SinkAndCount e = rw (e, gpduOutcome) given
+      by Route e = rw (e, gpduOutcome) given
+
+  of-gpdu : (session : Option ReflectorSession) → Of (gpduAnswer config state session source (message .teid) payload)
+  unfolding gpduKnown gpduUnknown
+  of-gpdu (some session) = known session
+  of-gpdu none = given
+
+  answered : (session : Option ReflectorSession) → Of (answer config state session source message payload)
+  unfolding answer
+  answered session = either (eqb (message .«message_type») 255) _ _ (of-gpdu session) (either (eqb (message .«message_type») 1) _ _ request (other (message .«message_type»)))
+
+pub least-output : LeastOutput
+least-output rows used n config e state session source message payload output = (
+  (λ l. sym (handling-short rows used config state session source message payload output (sym e) l)),
+  (λ l short. answered config state source message payload session (ap (λ (a : Answer). a .outcome) (handling-passed rows used config state session source message payload output (sym e) l) ∙ short)),
 )

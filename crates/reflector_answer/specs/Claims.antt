@@ -1,9 +1,11 @@
 -- What is claimed of the reflector's answers. Proved in proofs/Claims.antt.
-use Prim.Native.Nat.{ℕ}
+use Prim.Native.Nat.{ℕ, _<_, _≤_}
 use mathlib.Core.Path.{_≡_}
 use mathlib.Core.List.{List, _++_}
-use mathlib.Core.Option.{some, none}
-use Rattle.error.specs.Outcome.{Outcome, gives}
+use mathlib.Core.Option.{Option, some, none}
+use lib.ListN.{length}
+use Rattle.error.specs.Number.{outputTooShort}
+use Rattle.error.specs.Outcome.{Outcome, refused, gives}
 use Rattle.measurement.specs.Flow.{reversedOf, InRange}
 use Rattle.measurement.specs.declared.InnerIpFlow.{InnerIpFlow}
 use Rattle.measurement_packet.specs.Packet.{buildOf}
@@ -11,10 +13,12 @@ use Rattle.measurement_reading.specs.Read.{readOf}
 use Rattle.measurement_damage.specs.Claims.{tpduBuilt}
 use Rattle.gtpu.specs.Element.{elementsOf}
 use Rattle.gtpu.specs.Message.{gtpuMsgGpdu}
+use Rattle.reflector_sessions.specs.Judge.{tableOutcome}
 use Rattle.reflector_sessions.specs.Session.{valueOf}
 use Rattle.reflector_sessions.specs.declared.ReflectorSession.{ReflectorSession}
 use Rattle.reflector_sessions.specs.declared.SocketAddr.{SocketAddr}
 use Rattle.reflector_answer.specs.Answer.{written, Outbound, Action, send, Answer, answer}
+use Rattle.reflector_answer.specs.Handle.{handleFound}
 use Rattle.gtpu.specs.declared.GtpuMessage.{GtpuMessage}
 use Rattle.reflector_answer.specs.declared.MultiSessionReflectorConfig.{MultiSessionReflectorConfig}
 use Rattle.reflector_answer.specs.declared.ReflectorPolicy.the-variants.{Echo}
@@ -49,3 +53,16 @@ EchoReadsBack = (config : MultiSessionReflectorConfig) (state : ReflectorState) 
     × Sends (answer config state (some session) source message (buildOf flow sequence time ++ behind)) ReflectedGpdu
     (valueOf (session .«peer_addr»)) bytes
     × (readOf bytes ≡ gives (tpduBuilt (reversedOf flow) sequence time))
+
+-- "It is judged 30, 31, 15 (output under 72 bytes)": in a table that 30 and 31 pass, an output of 71 bytes or less is
+-- refused by 15 with nothing changed, whatever the message, and one of 72 or more never is. The card's digits stand
+-- here, so that the code and specs/Handle.antt cannot both mean another length.
+abbrev pub LeastOutput : Type 0
+LeastOutput = (rows used n : ℕ) (config : MultiSessionReflectorConfig)
+    → tableOutcome rows used (config .«max_sessions») ≡ gives n
+    → (state : ReflectorState) (session : Option ReflectorSession) (source : SocketAddr) (message : GtpuMessage)
+    (payload output : List ℕ)
+    → (length output < 72 → handleFound rows used config state session source message payload output
+    ≡ record { outcome = refused outputTooShort; state = state })
+    × (72 ≤ length output
+    → handleFound rows used config state session source message payload output .outcome ≡ refused outputTooShort → ⊥)

@@ -20,7 +20,7 @@ ghost use Rattle.reflector_sessions.specs.Judge.{sessionFound};
 ghost use Rattle.reflector_answer.specs.State.{counted, nextErrorSequence, stateCounted};
 ghost use Rattle.reflector_answer.specs.Answer.{errorIndicationBlock, errorIndicationTo, ignored, gpduKnown};
 ghost use Rattle.reflector_answer.specs.Answer.{gpduUnknown, echoRequest, otherMessage, answer};
-ghost use Rattle.reflector_answer.specs.Claims.{IndicationAccepted, EchoReadsBack};
+ghost use Rattle.reflector_answer.specs.Claims.{IndicationAccepted, EchoReadsBack, LeastOutput};
 ghost use Rattle.reflector_answer.specs.Handle.{nothingSent, handledOf, forwarded, Answers, HandledAs, EchoFits};
 ghost use Rattle.reflector_answer.specs.Handle.{reflectorBytes, handleFound};
 
@@ -46,6 +46,7 @@ pub struct MultiSessionReflectorConfig {
 }
 
 // The reflector's counts.
+#[repr(C)]
 pub struct ReflectorStats {
     pub gpdu_received: u64,
     pub gpdu_forwarded: u64,
@@ -66,6 +67,7 @@ pub enum ReflectorCounter {
 }
 
 // What changes from message to message: the counts, and the sequence number of the next Error Indication.
+#[repr(C)]
 pub struct ReflectorState {
     pub stats: ReflectorStats,
     pub next_error_sequence: u16,
@@ -477,4 +479,9 @@ pub fn indications_accepted()
 // Carries that an echo which the reflector answers with reads back to the reversed flow, with sequence and time kept.
 pub fn echoes_read_back()
     ensures { λ _. ⌜ EchoReadsBack ⌝ }
+{}
+
+// Carries that 15 means an output under 72 bytes, and nothing else.
+pub fn least_output_is_72()
+    ensures { λ _. ⌜ LeastOutput ⌝ }
 {}

@@ -1,12 +1,12 @@
 // The reflector's calls for C on a table of six rows that the caller holds by value. Registering and removal hand the
 // rows back with the answer. The prover does not by itself follow a function that lends rows: these three are proved by
 // hand, so that callers such as the replay need no such proof.
+use reflector_answer::ReflectorState;
 use reflector_sessions::LentSocketAddr;
 use reflector_sessions::ReflectorSession;
 use testkit_reflector::TestkitGtpuMessage;
 use testkit_reflector::TestkitHandled;
 use testkit_reflector::TestkitReflectorConfig;
-use testkit_reflector::TestkitReflectorState;
 use testkit_reflector::TestkitRegistered;
 use testkit_reflector::TestkitRemoved;
 ghost use mathlib.Core.Path.{_≡_};
@@ -16,7 +16,7 @@ ghost use Rattle.reflector_sessions.specs.Register.{registerSession};
 ghost use Rattle.reflector_sessions.specs.Remove.{removeSession};
 ghost use Rattle.reflector.specs.Handle.{handleDatagram};
 ghost use Rattle.testkit_reflector.specs.Interface.{RegistersNumbers, RemovesNumbers, AnswersNumbers, configOf};
-ghost use Rattle.testkit_reflector.specs.Interface.{stateOf, messageOf};
+ghost use Rattle.testkit_reflector.specs.Interface.{messageOf};
 
 // What registering answers, and the rows that it leaves.
 pub struct RegisteredRows {
@@ -91,14 +91,14 @@ pub fn handle_datagram(
     rows: [ReflectorSession; 6],
     used: usize,
     config: TestkitReflectorConfig,
-    state: TestkitReflectorState,
+    state: ReflectorState,
     source: LentSocketAddr,
     message: TestkitGtpuMessage,
     payload: &[u8],
     out: &mut [u8],
 ) -> TestkitHandled
     ensures { λ r. ⌜ AnswersNumbers r (now (out .exit))
-        (handleDatagram rows used (configOf config) (stateOf state) (valueOf source) (messageOf message)
+        (handleDatagram rows used (configOf config) state (valueOf source) (messageOf message)
         (now (payload .entry)) (now (out .entry))) (now (out .entry)) ⌝ }
 {
     testkit_reflector::testkit_handle_datagram(

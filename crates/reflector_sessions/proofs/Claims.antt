@@ -18,7 +18,7 @@ use Rattle.reflector_sessions.specs.Judge.{tableCauses}
 use Rattle.reflector_sessions.specs.Table.{Table, usedRows, find, placeOf, appended, swapRemoved}
 use Rattle.reflector_sessions.specs.Register.{invalidSession, sessionOutcome, registerOutcome, registeredTable, registerSession}
 use Rattle.reflector_sessions.specs.Remove.{removeOutcome, removedTable, removeSession}
-use Rattle.reflector_sessions.specs.Claims.{teidAt, Unique, AddedIsFound, UnchangedIsFound, RemovedIsNotFound, StaysUnique}
+use Rattle.reflector_sessions.specs.Claims.{teidAt, Unique, AddedIsFound, UnchangedIsFound, RemovedIsNotFound, StaysUnique, OtherRowsKept}
 use Rattle.reflector_sessions.specs.declared.ReflectorSession.{ReflectorSession}
 use Rattle.reflector_sessions.proofs.Judging.{Sound, Judged, unsound, sound, judge}
 
@@ -343,3 +343,29 @@ remove-unique t u teid = go (removeSession t teid .outcome) refl
 
 pub stays-unique : StaysUnique
 stays-unique t u = (register-unique t u, remove-unique t u)
+
+-- ---- the rows that a call does not write
+
+abbrev Kept : ℕ → Table → Table → Type 0
+Kept i before after = getD (after .sessions) i noSession ≡ getD (before .sessions) i noSession
+
+register-keeps : (t : Table) (session : ReflectorSession) (i : ℕ) → (i ≡ t .used → ⊥) → Kept i t (registerSession t session .table)
+unfolding registerSession
+register-keeps t session i ne = go (registerSession t session .outcome)
+  where
+    go : (o : Outcome Bool) → Kept i t (registeredTable o session t)
+    go (refused n) = refl
+    go (gives false) = refl
+    go (gives true) = getD-set-other (t .sessions) (t .used) i session noSession ne
+
+remove-keeps : (t : Table) (teid i : ℕ) → (i ≡ placeOf teid (usedRows t) → ⊥) → Kept i t (removeSession t teid .table)
+unfolding removeSession
+remove-keeps t teid i ne = go (removeSession t teid .outcome)
+  where
+    go : (o : Outcome (Option ReflectorSession)) → Kept i t (removedTable o (placeOf teid (usedRows t)) t)
+    go (refused n) = refl
+    go (gives none) = refl
+    go (gives (some s)) = getD-set-other (t .sessions) (placeOf teid (usedRows t)) i (getD (t .sessions) (t .used - 1) noSession) noSession ne
+
+pub other-rows-kept : OtherRowsKept
+other-rows-kept t = (register-keeps t, remove-keeps t)

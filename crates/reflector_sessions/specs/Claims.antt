@@ -7,7 +7,7 @@ use mathlib.Core.Option.{some, none}
 use lib.ListN.{length, getD}
 use Rattle.error.specs.Outcome.{gives}
 use Rattle.reflector_sessions.specs.Session.{noSession, sameSession}
-use Rattle.reflector_sessions.specs.Table.{Table, usedRows, find}
+use Rattle.reflector_sessions.specs.Table.{Table, usedRows, find, placeOf}
 use Rattle.reflector_sessions.specs.Register.{registerSession}
 use Rattle.reflector_sessions.specs.Remove.{removeSession}
 use Rattle.reflector_sessions.specs.declared.ReflectorSession.{ReflectorSession}
@@ -43,3 +43,13 @@ abbrev pub StaysUnique : Type 0
 StaysUnique = (t : Table) → Unique (usedRows t)
     → ((session : ReflectorSession) → Unique (usedRows (registerSession t session .table)))
     × ((teid : ℕ) → Unique (usedRows (removeSession t teid .table)))
+
+-- "then appended" and "moves the last used row into the hole; rows past the count keep their contents": registering
+-- writes no row but the first past the used ones, and removal none but the hole. Every other row, used or not, is as it
+-- was, on refusals too. No law above says this of rows past the count, which a later call may come to use.
+abbrev pub OtherRowsKept : Type 0
+OtherRowsKept = (t : Table)
+    → ((session : ReflectorSession) (i : ℕ) → (i ≡ t .used → ⊥)
+    → getD (registerSession t session .table .sessions) i noSession ≡ getD (t .sessions) i noSession)
+    × ((teid i : ℕ) → (i ≡ placeOf teid (usedRows t) → ⊥)
+    → getD (removeSession t teid .table .sessions) i noSession ≡ getD (t .sessions) i noSession)

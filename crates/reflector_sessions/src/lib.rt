@@ -14,6 +14,7 @@ ghost use Rattle.reflector_sessions.specs.Table.{tableOf, foundIn, searc
 ghost use Rattle.reflector_sessions.specs.Register.{invalidSession, sessionOutcome, registerOutcome};
 ghost use Rattle.reflector_sessions.specs.Register.{registerSession, registrationOf, registeredOf, Registers};
 ghost use Rattle.reflector_sessions.specs.Claims.{AddedIsFound, UnchangedIsFound, RemovedIsNotFound, StaysUnique};
+ghost use Rattle.reflector_sessions.specs.Claims.{OtherRowsKept};
 ghost use Rattle.reflector_sessions.specs.Remove.{removeOutcome, removeSession, removedOf, Removes};
 
 // A UDP socket address: the Rust's `SocketAddr`, where flow info and scope are 0. Of an IPv4 address only the first 4
@@ -413,4 +414,9 @@ pub fn registered_until_removed()
 // Carries that a call leaves no two used rows with the same TEID, if there were none before.
 pub fn teids_stay_unique()
     ensures { λ _. ⌜ StaysUnique ⌝ }
+{}
+
+// Carries that a call leaves every row as it was but the one that it writes.
+pub fn other_rows_kept()
+    ensures { λ _. ⌜ OtherRowsKept ⌝ }
 {}

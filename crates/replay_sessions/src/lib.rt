@@ -1,6 +1,8 @@
 // The reflector's calls, each on a record of the data. A record begins with the table before the call: the used count
 // (1 byte), the maximum (2) and 6 rows of 27 bytes, each both TEIDs and the peer's address; an address is version, 16
 // bytes and port. Every row is compared afterwards, used or not.
+use reflector_answer::ReflectorState;
+use reflector_answer::ReflectorStats;
 use reflector_by_value::RegisteredRows;
 use reflector_by_value::RemovedRows;
 use reflector_sessions::LentSocketAddr;
@@ -8,7 +10,6 @@ use reflector_sessions::ReflectorSession;
 use testkit_reflector::TestkitGtpuMessage;
 use testkit_reflector::TestkitHandled;
 use testkit_reflector::TestkitReflectorConfig;
-use testkit_reflector::TestkitReflectorState;
 
 const ROWS: usize = 3;
 
@@ -149,14 +150,16 @@ fn config(s: &[u8]) -> TestkitReflectorConfig {
     }
 }
 
-fn state(s: &[u8]) -> TestkitReflectorState {
-    TestkitReflectorState {
-        gpdu_received: replay_data::number(s, 0),
-        gpdu_forwarded: replay_data::number(s, 8),
-        gpdu_sunk: replay_data::number(s, 16),
-        echo_requests_answered: replay_data::number(s, 24),
-        error_indications_sent: replay_data::number(s, 32),
-        malformed_rejected: replay_data::number(s, 40),
+fn state(s: &[u8]) -> ReflectorState {
+    ReflectorState {
+        stats: ReflectorStats {
+            gpdu_received: replay_data::number(s, 0),
+            gpdu_forwarded: replay_data::number(s, 8),
+            gpdu_sunk: replay_data::number(s, 16),
+            echo_requests_answered: replay_data::number(s, 24),
+            error_indications_sent: replay_data::number(s, 32),
+            malformed_rejected: replay_data::number(s, 40),
+        },
         next_error_sequence: replay_data::word(s, 48),
     }
 }
@@ -170,13 +173,14 @@ fn message(s: &[u8]) -> TestkitGtpuMessage {
     }
 }
 
-fn same_state(state: TestkitReflectorState, due: &[u8]) -> bool {
-    state.gpdu_received == replay_data::number(due, 0)
-        && state.gpdu_forwarded == replay_data::number(due, 8)
-        && state.gpdu_sunk == replay_data::number(due, 16)
-        && state.echo_requests_answered == replay_data::number(due, 24)
-        && state.error_indications_sent == replay_data::number(due, 32)
-        && state.malformed_rejected == replay_data::number(due, 40)
+fn same_state(state: ReflectorState, due: &[u8]) -> bool {
+    let stats = state.stats;
+    stats.gpdu_received == replay_data::number(due, 0)
+        && stats.gpdu_forwarded == replay_data::number(due, 8)
+        && stats.gpdu_sunk == replay_data::number(due, 16)
+        && stats.echo_requests_answered == replay_data::number(due, 24)
+        && stats.error_indications_sent == replay_data::number(due, 32)
+        && stats.malformed_rejected == replay_data::number(due, 40)
         && state.next_error_sequence == replay_data::word(due, 48)
 }
 

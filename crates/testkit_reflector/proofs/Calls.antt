@@ -56,8 +56,8 @@ pub answers-numbers : (r : TestkitHandled) (x : Handled) (after : List ℕ) (a :
 answers-numbers r x after a before e p = (e ∙ ap handledNumbers (p .0), p .1)
 
 -- the same of what was found, with each of the values that it is handled with
-pub found-numbers : (r : TestkitHandled) (x : Handled) (after : List ℕ) (rows used : ℕ) (session : Option ReflectorSession) (payload before : List ℕ) {config config′ : MultiSessionReflectorConfig} {state state′ : ReflectorState} {source source′ : SocketAddr} {message message′ : GtpuMessage}
-    → config ≡ config′ → state ≡ state′ → source ≡ source′ → message ≡ message′ → r ≡ handledNumbers x → Answers x after (handleFound rows used config state session source message payload before) before
-    → AnswersNumbers r after (handleFound rows used config′ state′ session source′ message′ payload before) before
-found-numbers r x after rows used session payload before {config} {config′} {state} {state′} {source} {source′} {message} {message′} config-is state-is source-is message-is e p =
-    subst (λ (a : Answer). AnswersNumbers r after a before) (λ i. handleFound rows used (config-is i) (state-is i) session (source-is i) (message-is i) payload before) (answers-numbers r x after (handleFound rows used config state session source message payload before) before e p)
+pub found-numbers : (r : TestkitHandled) (x : Handled) (after : List ℕ) (rows used : ℕ) (state : ReflectorState) (session : Option ReflectorSession) (payload before : List ℕ) {config config′ : MultiSessionReflectorConfig} {source source′ : SocketAddr} {message message′ : GtpuMessage}
+    → config ≡ config′ → source ≡ source′ → message ≡ message′ → r ≡ handledNumbers x → Answers x after (handleFound rows used config state session source message payload before) before
+    → AnswersNumbers r after (handleFound rows used config′ state session source′ message′ payload before) before
+found-numbers r x after rows used state session payload before {config} {config′} {source} {source′} {message} {message′} config-is source-is message-is e p =
+    subst (λ (a : Answer). AnswersNumbers r after a before) (λ i. handleFound rows used (config-is i) state session (source-is i) (message-is i) payload before) (answers-numbers r x after (handleFound rows used config state session source message payload before) before e p)

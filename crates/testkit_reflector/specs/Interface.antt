@@ -27,7 +27,6 @@ use Rattle.reflector_answer.specs.declared.ReflectorPolicy.{ReflectorPolicy}
 use Rattle.reflector_answer.specs.declared.ReflectorPolicy.the-variants.{Echo, SinkAndCount, Route}
 use Rattle.reflector_answer.specs.declared.ReflectorSendReason.{ReflectorSendReason}
 use Rattle.reflector_answer.specs.declared.ReflectorSendReason.the-variants as send
-use Rattle.reflector_answer.specs.declared.ReflectorState.{ReflectorState}
 use Rattle.gtpu.specs.declared.SequenceNumber.{SequenceNumber}
 use Rattle.gtpu.specs.declared.SequenceNumber.the-variants.{Absent, Present}
 use Rattle.measurement.specs.Flow.{versionNumber}
@@ -36,7 +35,6 @@ use Rattle.testkit_reflector.specs.declared.SequenceNumbers.{SequenceNum
 use Rattle.testkit_reflector.specs.declared.TestkitGtpuMessage.{TestkitGtpuMessage}
 use Rattle.testkit_reflector.specs.declared.TestkitHandled.{TestkitHandled}
 use Rattle.testkit_reflector.specs.declared.TestkitReflectorConfig.{TestkitReflectorConfig}
-use Rattle.testkit_reflector.specs.declared.TestkitReflectorState.{TestkitReflectorState}
 use Rattle.testkit_reflector.specs.declared.TestkitRegistered.{TestkitRegistered}
 use Rattle.testkit_reflector.specs.declared.TestkitRemoved.{TestkitRemoved}
 
@@ -93,19 +91,6 @@ configOf c = record {
   target = record { destination = valueOf (c .target); teid = c .«target_teid» };
 }
 
-abbrev pub stateOf : TestkitReflectorState → ReflectorState
-stateOf s = record {
-  stats = record {
-    «gpdu_received» = s .«gpdu_received»;
-    «gpdu_forwarded» = s .«gpdu_forwarded»;
-    «gpdu_sunk» = s .«gpdu_sunk»;
-    «echo_requests_answered» = s .«echo_requests_answered»;
-    «error_indications_sent» = s .«error_indications_sent»;
-    «malformed_rejected» = s .«malformed_rejected»;
-  };
-  «next_error_sequence» = s .«next_error_sequence»;
-}
-
 abbrev pub messageOf : TestkitGtpuMessage → GtpuMessage
 messageOf m = record {
   «message_type» = m .«message_type»;
@@ -153,17 +138,6 @@ messageNumbers m = record {
   sequence = sequenceNumbers (m .«sequence_number») .value;
 }
 
-abbrev pub stateNumbers : ReflectorState → TestkitReflectorState
-stateNumbers s = record {
-  «gpdu_received» = s .stats .«gpdu_received»;
-  «gpdu_forwarded» = s .stats .«gpdu_forwarded»;
-  «gpdu_sunk» = s .stats .«gpdu_sunk»;
-  «echo_requests_answered» = s .stats .«echo_requests_answered»;
-  «error_indications_sent» = s .stats .«error_indications_sent»;
-  «malformed_rejected» = s .stats .«malformed_rejected»;
-  «next_error_sequence» = s .«next_error_sequence»;
-}
-
 abbrev pub handledNumbers : Handled → TestkitHandled
 handledNumbers h = record {
   number = actionNumbers (h .action) .number;
@@ -173,7 +147,7 @@ handledNumbers h = record {
   bytes = actionNumbers (h .action) .bytes;
   destination = addressNumbers (h .message .destination);
   message = messageNumbers (h .message);
-  state = stateNumbers (h .state);
+  state = h .state;
 }
 
 -- The answer and the output of a message handled on this output.

@@ -11,7 +11,6 @@ use reflector_answer::ReflectorNoopReason;
 use reflector_answer::ReflectorPolicy;
 use reflector_answer::ReflectorSendReason;
 use reflector_answer::ReflectorState;
-use reflector_answer::ReflectorStats;
 use reflector_answer::RouteTarget;
 use reflector_sessions::FoundSession;
 use reflector_sessions::LentSocketAddr;
@@ -30,9 +29,10 @@ ghost use Rattle.reflector_answer.specs.Handle.{handleFound};
 ghost use Rattle.reflector.specs.Handle.{handleDatagram};
 ghost use Rattle.testkit_reflector.specs.Interface.{registeredNumbers, RegistersNumbers, removedNumbers};
 ghost use Rattle.testkit_reflector.specs.Interface.{RemovesNumbers, policyNumbered, policyNumber, sequenceOf};
-ghost use Rattle.testkit_reflector.specs.Interface.{configOf, stateOf, messageOf, noopNumber, sendNumber};
+ghost use Rattle.testkit_reflector.specs.Interface.{configOf, messageOf, noopNumber, sendNumber};
 ghost use Rattle.testkit_reflector.specs.Interface.{actionNumbers, sequenceNumbers, addressNumbers};
-ghost use Rattle.testkit_reflector.specs.Interface.{messageNumbers, stateNumbers, handledNumbers, AnswersNumbers};
+ghost use Rattle.testkit_reflector.specs.Interface.{messageNumbers, handledNumbers, AnswersNumbers};
+ghost use Rattle.testkit_reflector.specs.Claims.{SequenceReadsBack, AddressReadsBack};
 ghost use Rattle.reflector_sessions.specs.Session.{valueOf};
 
 // What registering answers: 0 and whether the session was added, or a refusal's number; and the used count that it
@@ -150,18 +150,6 @@ pub struct TestkitReflectorConfig {
     pub target_teid: u32,
 }
 
-// The counts, and the sequence number of the next Error Indication.
-#[repr(C)]
-pub struct TestkitReflectorState {
-    pub gpdu_received: u64,
-    pub gpdu_forwarded: u64,
-    pub gpdu_sunk: u64,
-    pub echo_requests_answered: u64,
-    pub error_indications_sent: u64,
-    pub malformed_rejected: u64,
-    pub next_error_sequence: u16,
-}
-
 // A GTP-U message without its payload, as it came or as it is to be sent. It has no sequence if `has_sequence` is 0; in
 // a message to be sent that is 0 or 1.
 #[repr(C)]
@@ -211,7 +199,7 @@ pub struct TestkitHandled {
     pub bytes: usize,
     pub destination: LentSocketAddr,
     pub message: TestkitGtpuMessage,
-    pub state: TestkitReflectorState,
+    pub state: ReflectorState,
 }
 
 // An action in numbers.
@@ -264,22 +252,6 @@ fn config_of(config: TestkitReflectorConfig) -> MultiSessionReflectorConfig
             destination: target.value(),
             teid: config.target_teid,
         },
-    }
-}
-
-fn state_of(state: TestkitReflectorState) -> ReflectorState
-    ensures { λ r. ⌜ r ≡ stateOf state ⌝ }
-{
-    ReflectorState {
-        stats: ReflectorStats {
-            gpdu_received: state.gpdu_received,
-            gpdu_forwarded: state.gpdu_forwarded,
-            gpdu_sunk: state.gpdu_sunk,
-            echo_requests_answered: state.echo_requests_answered,
-            error_indications_sent: state.error_indications_sent,
-            malformed_rejected: state.malformed_rejected,
-        },
-        next_error_sequence: state.next_error_sequence,
     }
 }
 
@@ -395,21 +367,6 @@ fn message_numbers(message: OutboundMessage) -> TestkitGtpuMessage
     }
 }
 
-fn state_numbers(state: ReflectorState) -> TestkitReflectorState
-    ensures { λ r. ⌜ r ≡ stateNumbers state ⌝ }
-{
-    let stats = state.stats;
-    TestkitReflectorState {
-        gpdu_received: stats.gpdu_received,
-        gpdu_forwarded: stats.gpdu_forwarded,
-        gpdu_sunk: stats.gpdu_sunk,
-        echo_requests_answered: stats.echo_requests_answered,
-        error_indications_sent: stats.error_indications_sent,
-        malformed_rejected: stats.malformed_rejected,
-        next_error_sequence: state.next_error_sequence,
-    }
-}
-
 fn handled_numbers(handled: Handled) -> TestkitHandled
     ensures { λ r. ⌜ r ≡ handledNumbers handled ⌝ }
 {
@@ -426,7 +383,7 @@ fn handled_numbers(handled: Handled) -> TestkitHandled
         bytes: action.bytes,
         destination: address_numbers(destination),
         message: message_numbers(message),
-        state: state_numbers(state),
+        state: state,
     }
 }
 
@@ -435,7 +392,7 @@ fn handle_found(
     length: usize,
     used: usize,
     config: TestkitReflectorConfig,
-    state: TestkitReflectorState,
+    state: ReflectorState,
     found: FoundSession,
     source: LentSocketAddr,
     message: TestkitGtpuMessage,
@@ -443,7 +400,7 @@ fn handle_found(
     out: &mut [u8],
 ) -> TestkitHandled
     ensures { λ r. ⌜ AnswersNumbers r (now (out .exit))
-        (handleFound length used (configOf config) (stateOf state) (sessionFound used found) (valueOf source)
+        (handleFound length used (configOf config) state (sessionFound used found) (valueOf source)
         (messageOf message) (now (payload .entry)) (now (out .entry)))
         (now (out .entry)) ⌝ }
 {
@@ -451,7 +408,7 @@ fn handle_found(
         length,
         used,
         config_of(config),
-        state_of(state),
+        state,
         found,
         source.value(),
         message_of(message),
@@ -466,14 +423,14 @@ pub extern "C" fn testkit_handle_datagram(
     sessions: &[ReflectorSession],
     used: usize,
     config: TestkitReflectorConfig,
-    state: TestkitReflectorState,
+    state: ReflectorState,
     source: LentSocketAddr,
     message: TestkitGtpuMessage,
     payload: &[u8],
     out: &mut [u8],
 ) -> TestkitHandled
     ensures { λ r. ⌜ AnswersNumbers r (now (out .exit))
-        (handleDatagram (now (sessions .entry)) used (configOf config) (stateOf state) (valueOf source)
+        (handleDatagram (now (sessions .entry)) used (configOf config) state (valueOf source)
         (messageOf message) (now (payload .entry)) (now (out .entry)))
         (now (out .entry)) ⌝ }
 {
@@ -490,3 +447,8 @@ pub extern "C" fn testkit_handle_datagram(
         out,
     )
 }
+
+// Carries that a sequence and an address which C is answered with, handed back, are the same ones.
+pub fn numbers_read_back()
+    ensures { λ _. ⌜ SequenceReadsBack × AddressReadsBack ⌝ }
+{}

@@ -52,15 +52,15 @@ use Rattle.reflector_sessions.proofs.LentSocketAddr.Laws as L′
 use Rattle.reflector_sessions.proofs.ReflectorSession as T
 use Rattle.reflector_sessions.proofs.ReflectorSession.Laws as T′
 use Rattle.reflector.specs.Handle.{handleDatagram}
-use Rattle.testkit_reflector.specs.Interface.{configOf, stateOf, messageOf, AnswersNumbers}
+use Rattle.testkit_reflector.specs.Interface.{configOf, messageOf, AnswersNumbers}
 use Rattle.testkit_reflector.specs.declared.TestkitGtpuMessage.{TestkitGtpuMessage}
 use Rattle.testkit_reflector.specs.declared.TestkitHandled.{TestkitHandled}
 use Rattle.testkit_reflector.specs.declared.TestkitReflectorConfig.{TestkitReflectorConfig}
-use Rattle.testkit_reflector.specs.declared.TestkitReflectorState.{TestkitReflectorState}
+use Rattle.reflector_answer.specs.declared.ReflectorState.{ReflectorState}
 use Rattle.testkit_reflector.proofs.TestkitReflectorConfig as K
 use Rattle.testkit_reflector.proofs.TestkitReflectorConfig.Laws as K′
-use Rattle.testkit_reflector.proofs.TestkitReflectorState as S
-use Rattle.testkit_reflector.proofs.TestkitReflectorState.Laws as S′
+use Rattle.reflector_answer.proofs.ReflectorState as S
+use Rattle.reflector_answer.proofs.ReflectorState.Laws as S′
 use Rattle.testkit_reflector.proofs.TestkitGtpuMessage as G
 use Rattle.testkit_reflector.proofs.TestkitGtpuMessage.Laws as G′
 use Rattle.testkit_reflector.proofs.TestkitHandled as N
@@ -76,7 +76,7 @@ use Rattle.reflector_by_value.proofs.handle_datagram.Statement as state
 use Rattle.reflector_by_value.proofs.handle_datagram.Code as code
 
 abbrev Arg : Type 0
-Arg = List ReflectorSession × (ℕ × (TestkitReflectorConfig × (TestkitReflectorState × (LentSocketAddr × (TestkitGtpuMessage × (RefT (List ℕ) × (RefT (List ℕ) × Unit {0})))))))
+Arg = List ReflectorSession × (ℕ × (TestkitReflectorConfig × (ReflectorState × (LentSocketAddr × (TestkitGtpuMessage × (RefT (List ℕ) × (RefT (List ℕ) × Unit {0})))))))
 
 -- the rows' and the payload's places in the signature
 abbrev rows-slot : Slot 2
@@ -99,7 +99,7 @@ Ends = Unit {0} × (Unit {0} × (Unit {0} × (Unit {0} × (Unit {0} × (Unit {0}
 abbrev last : Ends → List ℕ
 last ends = ends .1 .1 .1 .1 .1 .1 .1 .0
 
-module _ {M : Type 1} (𝓤 : URA M) (H : Heap 𝓤) (A : Atoms 𝓤) (W : Given 𝓤 H A) (at-mem : Memory → SProp 𝓤) (run : Routine → Fun 𝓤) (κ₁ κ₂ : Lft) (q₁ q₂ : Share) (rows : List ReflectorSession) (used : ℕ) (config : TestkitReflectorConfig) (state : TestkitReflectorState)
+module _ {M : Type 1} (𝓤 : URA M) (H : Heap 𝓤) (A : Atoms 𝓤) (W : Given 𝓤 H A) (at-mem : Memory → SProp 𝓤) (run : Routine → Fun 𝓤) (κ₁ κ₂ : Lft) (q₁ q₂ : Share) (rows : List ReflectorSession) (used : ℕ) (config : TestkitReflectorConfig) (state : ReflectorState)
     (source : LentSocketAddr) (message : TestkitGtpuMessage) (y z : RefT (List ℕ)) (rows-val config-val state-val source-val message-val : Val) (rows-are : Is (Array R 6) rows (rows-val ∷ [])) (used-fits : used < 2 ^ 64)
     (config-is : Is K.the-row config (config-val ∷ [])) (state-is : Is S.the-row state (state-val ∷ [])) (source-is : Is L.the-row source (source-val ∷ [])) (message-is : Is G.the-row message (message-val ∷ []))
     (payload-room : Room u8 (length (y .now))) (out-room : Room u8 (length (z .now))) where
@@ -129,7 +129,7 @@ module _ {M : Type 1} (𝓤 : URA M) (H : Heap 𝓤) (A : Atoms 𝓤) (W : Given
   table α l γ = ShrSlice (named 0) (α ∷ []) R .own (record { ptr = (l, 0); name = γ; now = rows }) (sliceVal (l, 0) 6 ∷ [])
 
   -- `testkit_handle_datagram`, of these
-  abbrev core-args : ℕ → GName → RefT (List ReflectorSession) × (ℕ × (TestkitReflectorConfig × (TestkitReflectorState × (LentSocketAddr × (TestkitGtpuMessage × (RefT (List ℕ) × (RefT (List ℕ) × Unit {0})))))))
+  abbrev core-args : ℕ → GName → RefT (List ReflectorSession) × (ℕ × (TestkitReflectorConfig × (ReflectorState × (LentSocketAddr × (TestkitGtpuMessage × (RefT (List ℕ) × (RefT (List ℕ) × Unit {0})))))))
   core-args l γ = (record { ptr = (l, 0); name = γ; now = rows }, (used, (config, (state, (source, (message, (y, (z, tt))))))))
 
   abbrev to-core : ℕ → ℕ → GName → Core 𝓤 H A at-mem run .Ghost
@@ -143,7 +143,7 @@ module _ {M : Type 1} (𝓤 : URA M) (H : Heap 𝓤) (A : Atoms 𝓤) (W : Given
       move ! (2 ∷ 0 ∷ []) $ fjoin ! $ move ! (1 ∷ 0 ∷ []) $ join ! $ frame ! $ done !
 
   abbrev answer : Answer
-  answer = handleDatagram rows used (configOf config) (stateOf state) (valueOf source) (messageOf message) (y .now) (z .now)
+  answer = handleDatagram rows used (configOf config) state (valueOf source) (messageOf message) (y .now) (z .now)
 
   exits : (w : Val) (t : TestkitHandled) (zs : List ℕ) → Is N.the-row t (w ∷ []) → length zs ≡ length (z .now) → AnswersNumbers t zs answer (z .now) → ent 𝓤 (⋆ 𝓤 H A (tokens ∷ ‵ (finally u8 (z .name) zs) ∷ [])) (Post w)
   exits w t zs is l e =

@@ -7,9 +7,6 @@ use Rattle.testkit_reflector.proofs.handle_found.Tie as tie
 config-of-requires : tie.Need-config-of-requires
 config-of-requires c κs = search needs
 
-state-of-requires : tie.Need-state-of-requires
-state-of-requires c κs = search needs
-
 value-requires : tie.Need-value-requires
 value-requires c κs = search needs
 
@@ -29,7 +26,7 @@ returns : tie.Need-returns
 returns c =
     let k = c .before .before .before in
     let m = k .before .before in
-    found-numbers (c .handled-numbers .result) (k .handle-found .result) _ _ _ _ _ _ (m .before .before .before .config-of .ensures) (m .before .before .state-of .ensures) (m .before .value .ensures) (m .message-of .ensures)
+    found-numbers (c .handled-numbers .result) (k .handle-found .result) _ _ _ _ _ _ _ (m .before .before .config-of .ensures) (m .before .value .ensures) (m .message-of .ensures)
     (c .handled-numbers .ensures) (k .handle-found .ensures .1)
 
 pub handle-found-spec : {M : Type 1} → statement M
@@ -37,7 +34,6 @@ handle-found-spec =
     tie.close
     (tie.spec
     config-of-requires
-    state-of-requires
     value-requires
     message-of-requires
     handle-found-requires

@@ -12,11 +12,8 @@ address-numbers-requires c κs = search needs
 message-numbers-requires : tie.Need-message-numbers-requires
 message-numbers-requires c κs = search needs
 
-state-numbers-requires : tie.Need-state-numbers-requires
-state-numbers-requires c κs = search needs
-
 returns : tie.Need-returns
-returns c = rw (c .before .before .before .action-numbers .ensures, c .before .before .address-numbers .ensures, c .before .message-numbers .ensures, c .state-numbers .ensures)
+returns c = rw (c .before .before .action-numbers .ensures, c .before .address-numbers .ensures, c .message-numbers .ensures)
 
 pub handled-numbers-spec : {M : Type 1} → statement M
-handled-numbers-spec = tie.close (tie.spec action-numbers-requires address-numbers-requires message-numbers-requires state-numbers-requires returns)
+handled-numbers-spec = tie.close (tie.spec action-numbers-requires address-numbers-requires message-numbers-requires returns)

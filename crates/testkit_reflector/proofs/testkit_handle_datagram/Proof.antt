@@ -14,7 +14,7 @@ use Rattle.reflector_sessions.specs.Session.{valueOf}
 use Rattle.reflector_sessions.specs.Judge.{sessionFound}
 use Rattle.reflector.specs.Handle.{handleDatagram}
 use Rattle.reflector.proofs.Handling.{handled-is}
-use Rattle.testkit_reflector.specs.Interface.{configOf, stateOf, messageOf, AnswersNumbers}
+use Rattle.testkit_reflector.specs.Interface.{configOf, messageOf, AnswersNumbers}
 use Rattle.reflector_sessions.proofs.Changes.{one-struct, struct}
 use Rattle.reflector_sessions.proofs.Finds.{Find}
 use Rattle.reflector_sessions.proofs.HandsOn as hands-on
@@ -23,8 +23,8 @@ use Rattle.reflector_sessions.proofs.LentSocketAddr as D
 use Rattle.reflector_sessions.proofs.LentSocketAddr.Laws as D′
 use Rattle.testkit_reflector.proofs.TestkitReflectorConfig as K
 use Rattle.testkit_reflector.proofs.TestkitReflectorConfig.Laws as K′
-use Rattle.testkit_reflector.proofs.TestkitReflectorState as S
-use Rattle.testkit_reflector.proofs.TestkitReflectorState.Laws as S′
+use Rattle.reflector_answer.proofs.ReflectorState as S
+use Rattle.reflector_answer.proofs.ReflectorState.Laws as S′
 use Rattle.testkit_reflector.proofs.TestkitGtpuMessage as G
 use Rattle.testkit_reflector.proofs.TestkitGtpuMessage.Laws as G′
 use Rattle.testkit_reflector.proofs.TestkitHandled as N
@@ -42,10 +42,10 @@ use Rattle.testkit_reflector.proofs.testkit_handle_datagram.Code as cod
 
 -- what `handle_found` promises, and what is due
 abbrev Done : FoundPromise K.the-row S.the-row D.the-row G.the-row N.the-row
-Done rows used config state found source message payload out r after = AnswersNumbers r after (handleFound rows used (configOf config) (stateOf state) (sessionFound used found) (valueOf source) (messageOf message) payload out) out
+Done rows used config state found source message payload out r after = AnswersNumbers r after (handleFound rows used (configOf config) state (sessionFound used found) (valueOf source) (messageOf message) payload out) out
 
 abbrev Due : Promise K.the-row S.the-row D.the-row G.the-row N.the-row
-Due sessions used config state source message payload out r after = AnswersNumbers r after (handleDatagram sessions used (configOf config) (stateOf state) (valueOf source) (messageOf message) payload out) out
+Due sessions used config state source message payload out r after = AnswersNumbers r after (handleDatagram sessions used (configOf config) state (valueOf source) (messageOf message) payload out) out
 
 pub testkit-handle-datagram-spec : {M : Type 1} → stated.statement M
 unfolding code.routine tablesOf
@@ -57,7 +57,7 @@ testkit-handle-datagram-spec 𝓤 H 𝓜 𝓖 𝓡 =
     (struct S.the-type S′.the-laws S′.the-plain (λ x. tt) (λ x f. refl)) (struct D.the-type D′.the-laws D′.the-plain (λ x. tt) (λ x f. refl))
     (λ message. getV (fieldsOf (LL.val G.the-type G′.the-laws message)) 0) (λ message. message .teid) (λ message. restOf (restOf (fieldsOf (LL.val G.the-type G′.the-laws message)))) (one-struct G.the-type G′.the-laws G′.the-plain (λ x. tt) (λ x f. refl))
     (struct N.the-type N′.the-laws N′.the-plain (λ x. tt) (λ x f. refl)) (λ config is. LL.owed K.the-type K′.the-laws config _ is .0 .1) (λ message is. LL.owed G.the-type G′.the-laws message _ is .1 .0 .1) Done Due
-    (λ sessions used config state source message payload out r after answered. subst (λ (to : Answer). AnswersNumbers r after to out) (handled-is (configOf config) (stateOf state) (valueOf source) (messageOf message) payload out sessions used) answered) #handle-found
+    (λ sessions used config state source message payload out r after answered. subst (λ (to : Answer). AnswersNumbers r after to out) (handled-is (configOf config) state (valueOf source) (messageOf message) payload out sessions used) answered) #handle-found
     𝓤 H (𝓖 .A) (givenOf 𝓤 H 𝓜 𝓖) (𝓜 .mem) (𝓡 .run) (tablesOf 𝓤 H 𝓜 (tables 𝓤 H 𝓜 𝓡 code.env))
     (cited 𝓤 H (Find 𝓤 H (𝓖 .A) (𝓜 .mem) (𝓡 .run)) 𝓜 𝓡 code.env #find-session find-def.routine code.calls-reflector-sessions·find-session (find-thm.met 𝓤 H 𝓜 𝓖 𝓡))
     (cited 𝓤 H (HandlesFound K.the-row S.the-row D.the-row G.the-row N.the-row 𝓤 H (𝓖 .A) Done) 𝓜 𝓡 code.env #handle-found handle-def.routine code.calls-testkit-reflector·handle-found (handle-thm.met 𝓤 H 𝓜 𝓖 𝓡)))
