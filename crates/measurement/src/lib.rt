@@ -5,7 +5,7 @@ ghost use mathlib.Core.Path.{_≡_};
 ghost use Prim.Native.Nat.{ℕ, _+_, _^_, _<_};
 ghost use Rattle.field.specs.Field.{valueOf};
 ghost use Rattle.checksum.specs.Sum.{sumOf, foldOf};
-ghost use Rattle.measurement.specs.Flow.{versionNumbered, versionNumber, address, reversedOf};
+ghost use Rattle.measurement.specs.Flow.{versionNumbered, versionNumber, address, reversedOf, InRange};
 ghost use Rattle.measurement.specs.Pseudo.{udpProtocol, pseudoHeader};
 ghost use Rattle.measurement.specs.Probe.{measurementMagic, probe};
 
@@ -155,6 +155,12 @@ pub fn measurement_magic() -> u64
 {
     MEASUREMENT_MAGIC
 }
+
+// Carries that whatever the code is handed is in range: each flow, sequence and time meets the hypothesis of the
+// theorems about packets.
+pub fn every_value_is_in_range(flow: InnerIpFlow, sequence: u64, send_timestamp_ns: u64)
+    ensures { λ _. ⌜ InRange flow sequence «send_timestamp_ns» ⌝ }
+{}
 
 // A number that, added to any sum, folds to the same as the words of the address. Four bytes are added at once.
 fn address_sum(version: IpVersion, bytes: [u8; 16]) -> u64
