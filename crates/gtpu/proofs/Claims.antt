@@ -8,8 +8,8 @@ use lib.ListN.{length, drop-of-length-le}
 use Rattle.error.specs.Outcome.{firstCause}
 use Rattle.field.specs.Field.{bytesAt}
 use Rattle.field.proofs.Fields.{split-off}
-use Rattle.gtpu.specs.Element.{elementSize, elementCauses, endOf, walk, elementsFrom, elementsOf}
-use Rattle.gtpu.specs.Claims.{SameRule, EndRule, EmptyList, errorIndication, ErrorIndicationAccepted, Examples}
+use Rattle.gtpu.specs.Element.{elementSize, elementCauses, endOf, walk, elementsFrom, elementsOf, errorIndication}
+use Rattle.gtpu.specs.Claims.{SameRule, EndRule, EmptyList, ErrorIndicationAccepted, Examples}
 use Rattle.gtpu.proofs.Walk.{at-end, onward}
 
 pub same-rule : SameRule

@@ -8,9 +8,8 @@ use lib.ListN.{length, drop, replicate}
 use Rattle.error.specs.Number.{truncatedElement, invalidPeerAddressLength, unsupportedFixedLengthElement}
 use Rattle.error.specs.Number.{missingTeidDataI, missingPeerAddress}
 use Rattle.error.specs.Outcome.{Outcome, refused, gives, firstCause}
-use Rattle.field.specs.Field.{bigEndian}
 use Rattle.gtpu.specs.Element.{isTeidDataI, isPeerAddress, elementSize, elementCauses, endOf}
-use Rattle.gtpu.specs.Element.{elementsFrom, elementsOf}
+use Rattle.gtpu.specs.Element.{elementsFrom, elementsOf, errorIndication}
 
 -- "what follows an element is read by the same rule": the walk, without the number that bounds its recursion.
 unfoldable pub SameRule : Type 0
@@ -30,11 +29,7 @@ EndRule = (hasTeidData hasPeerAddress : Bool)
 unfoldable pub EmptyList : Type 0
 EmptyList = elementsOf [] ≡ refused missingTeidDataI
 
--- Leaf 9, the payload of an Error Indication: "16, TEID, 133, length, sender's address".
-abbrev pub errorIndication : List ℕ → List ℕ → List ℕ
-errorIndication teid address = 16 ∷ (teid ++ (133 ∷ (bigEndian 2 (length address) ++ address)))
-
--- It is accepted, for every TEID and every IPv4 or IPv6 address.
+-- The payload of an Error Indication is accepted, for every TEID and every IPv4 or IPv6 address.
 abbrev pub ErrorIndicationAccepted : Type 0
 ErrorIndicationAccepted = (teid address : List ℕ) → length teid ≡ 4 → (length address ≡ 4) ⊎ (length address ≡ 16)
     → elementsOf (errorIndication teid address) ≡ gives tt

@@ -1,25 +1,33 @@
 -- The information elements of an Error Indication: document 01, leaf 8, with the card's numbers 25 to 29.
 use Prim.Native.Nat.{ℕ, zero, suc, _+_}
-use mathlib.Core.List.{List, [], _∷_}
+use mathlib.Core.List.{List, [], _∷_, _++_}
 use mathlib.Core.Bool.{Bool, true, false, not, _||_, _&&_}
 use lib.Dec.{eqb, ltb}
 use lib.ListN.{length, drop, getD}
 use Rattle.error.specs.Number.{truncatedElement, invalidPeerAddressLength, unsupportedFixedLengthElement}
 use Rattle.error.specs.Number.{missingTeidDataI, missingPeerAddress}
 use Rattle.error.specs.Outcome.{Outcome, gives, Cause, _⇒_, firstCause}
-use Rattle.field.specs.Field.{field}
+use Rattle.field.specs.Field.{bigEndian, field}
 
 -- The type of the element at the front of a list: one byte.
 abbrev pub elementType : List ℕ → ℕ
 elementType list = getD list 0 0
 
--- Type 16 is TEID Data I.
-abbrev pub isTeidDataI : ℕ → Bool
-isTeidDataI ieType = eqb ieType 16
+-- The types of the two elements that an Error Indication must have: 16 is TEID Data I, 133 is GTP-U Peer Address.
+abbrev pub teidDataI : ℕ
+teidDataI = 16
 
--- Type 133 is GTP-U Peer Address.
+abbrev pub gtpuPeerAddress : ℕ
+gtpuPeerAddress = 133
+
+abbrev pub elementTypesOf : List ℕ
+elementTypesOf = teidDataI ∷ gtpuPeerAddress ∷ []
+
+abbrev pub isTeidDataI : ℕ → Bool
+isTeidDataI ieType = eqb ieType teidDataI
+
 abbrev pub isPeerAddress : ℕ → Bool
-isPeerAddress ieType = eqb ieType 133
+isPeerAddress ieType = eqb ieType gtpuPeerAddress
 
 -- "Types 128 to 255: a 2-byte length": the bytes behind the type.
 abbrev pub valueLength : List ℕ → ℕ
@@ -83,3 +91,7 @@ elementsFrom hasTeidData hasPeerAddress list = walk (length list) hasTeidData ha
 -- The payload of an Error Indication.
 unfoldable pub elementsOf : List ℕ → Outcome (Unit {0})
 elementsOf payload = elementsFrom false false payload
+
+-- Leaf 9, the payload of an Error Indication: "16, TEID, 133, length, sender's address".
+abbrev pub errorIndication : List ℕ → List ℕ → List ℕ
+errorIndication teid address = teidDataI ∷ (teid ++ (gtpuPeerAddress ∷ (bigEndian 2 (length address) ++ address)))

@@ -4,7 +4,7 @@ ghost use mathlib.Core.Path.{_≡_};
 ghost use Prim.Native.Nat.{_<_, _≤_};
 ghost use lib.ListN.{length, getD};
 ghost use Rattle.gtpu.specs.Message.{messageTypesOf};
-ghost use Rattle.gtpu.specs.Element.{otherLength, elementOf, endOf, elementsFrom, elementsOf};
+ghost use Rattle.gtpu.specs.Element.{elementTypesOf, otherLength, elementOf, endOf, elementsFrom, elementsOf};
 ghost use Rattle.gtpu.specs.Claims.{SameRule, EndRule, EmptyList, ErrorIndicationAccepted, Examples};
 ghost use Rattle.gtpu.specs.Answer.{means, numbered, judgedMeans, goOn, walkedMeans, Advanced};
 
@@ -48,10 +48,17 @@ pub fn message_types() -> [u8; 6]
     ]
 }
 
-// The types of the two information elements that an Error Indication must have.
-const TEID_DATA_I: u8 = 16;
+// The types of the two information elements that an Error Indication must have. `element_types` proves that they are
+// those of specs/Element.antt.
+pub const TEID_DATA_I: u8 = 16;
 
-const GTPU_PEER_ADDRESS: u8 = 133;
+pub const GTPU_PEER_ADDRESS: u8 = 133;
+
+pub fn element_types() -> [u8; 2]
+    ensures { λ r. ⌜ r ≡ elementTypesOf ⌝ }
+{
+    [TEID_DATA_I, GTPU_PEER_ADDRESS]
+}
 
 // TEID Data I whole: its type and 4 bytes.
 const TEID_DATA_I_SIZE: usize = 5;

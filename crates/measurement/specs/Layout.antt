@@ -49,9 +49,6 @@ ipv6PayloadLength = 4
 abbrev pub ipv6NextHeader : ℕ
 ipv6NextHeader = 6
 
-abbrev pub ipv6HopLimit : ℕ
-ipv6HopLimit = 7
-
 abbrev pub ipv6SourceAddress : ℕ
 ipv6SourceAddress = 8
 
@@ -106,7 +103,6 @@ offsetsOf =
     ∷ ipv4HeaderBytes
     ∷ ipv6PayloadLength
     ∷ ipv6NextHeader
-    ∷ ipv6HopLimit
     ∷ ipv6SourceAddress
     ∷ ipv6DestinationAddress
     ∷ ipv6HeaderBytes

@@ -36,8 +36,6 @@ pub const IPV6_PAYLOAD_LENGTH: usize = 4;
 
 pub const IPV6_NEXT_HEADER: usize = 6;
 
-pub const IPV6_HOP_LIMIT: usize = 7;
-
 pub const IPV6_SOURCE_ADDRESS: usize = 8;
 
 pub const IPV6_DESTINATION_ADDRESS: usize = 24;
@@ -63,7 +61,7 @@ pub const PROBE_SEND_TIME: usize = 16;
 pub const PROBE_BYTES: usize = 24;
 
 // Every offset, header by header.
-pub fn offsets() -> [usize; 27]
+pub fn offsets() -> [usize; 26]
     ensures { λ r. ⌜ r ≡ offsetsOf ⌝ }
 {
     [
@@ -81,7 +79,6 @@ pub fn offsets() -> [usize; 27]
         IPV4_HEADER_BYTES,
         IPV6_PAYLOAD_LENGTH,
         IPV6_NEXT_HEADER,
-        IPV6_HOP_LIMIT,
         IPV6_SOURCE_ADDRESS,
         IPV6_DESTINATION_ADDRESS,
         IPV6_HEADER_BYTES,

@@ -3,10 +3,11 @@
 // measurement_damage. The calls are in measurement_build, measurement_decode and measurement_echo.
 ghost use mathlib.Core.Path.{_≡_};
 ghost use Prim.Native.Nat.{ℕ, _+_, _^_, _<_};
+ghost use Rattle.field.specs.Field.{valueOf};
 ghost use Rattle.checksum.specs.Sum.{sumOf, foldOf};
-ghost use Rattle.measurement.specs.Flow.{versionNumbered, versionNumber, address, reversedOf};
-ghost use Rattle.measurement.specs.Pseudo.{pseudoHeader};
-ghost use Rattle.measurement.specs.Probe.{probe};
+ghost use Rattle.measurement.specs.Flow.{versionNumbered, versionNumber, address, reversedOf, InRange};
+ghost use Rattle.measurement.specs.Pseudo.{udpProtocol, pseudoHeader};
+ghost use Rattle.measurement.specs.Probe.{measurementMagic, probe};
 ghost use Rattle.measurement.specs.Claims.{VersionsNumbered};
 
 pub mod layout; // layout.rt: where each field stands
@@ -17,6 +18,12 @@ pub const ADDRESS_BYTES: usize = 16;
 pub const IPV4_TPDU_BYTES: usize = 52;
 
 pub const IPV6_TPDU_BYTES: usize = 72;
+
+// The protocol number of UDP, and the tag of a probe as a number. `udp_protocol` and `measurement_magic` prove that
+// they are those of the definitions.
+pub const UDP_PROTOCOL: u8 = 17;
+
+pub const MEASUREMENT_MAGIC: u64 = 0x4f50_4344_5054_4b31;
 
 pub enum IpVersion {
     V4,
@@ -137,6 +144,26 @@ pub enum Written {
     Refused(u8),
 }
 
+// The number that stands for UDP in either IP header: RFC 768, "Protocol Application".
+pub fn udp_protocol() -> u8
+    ensures { λ r. ⌜ r ≡ udpProtocol ⌝ }
+{
+    UDP_PROTOCOL
+}
+
+// The first 8 bytes of a probe, read as one number.
+pub fn measurement_magic() -> u64
+    ensures { λ r. ⌜ r ≡ valueOf measurementMagic ⌝ }
+{
+    MEASUREMENT_MAGIC
+}
+
+// Carries that whatever the code is handed is in range: each flow, sequence and time meets the hypothesis of the
+// theorems about packets.
+pub fn every_value_is_in_range(flow: InnerIpFlow, sequence: u64, send_timestamp_ns: u64)
+    ensures { λ _. ⌜ InRange flow sequence «send_timestamp_ns» ⌝ }
+{}
+
 // A number that, added to any sum, folds to the same as the words of the address. Four bytes are added at once.
 fn address_sum(version: IpVersion, bytes: [u8; 16]) -> u64
     ensures { λ r. ⌜ ((n : ℕ) → foldOf (n + r) ≡ foldOf (n + sumOf (address version bytes))) × (r < 2 ^ 34) ⌝ }
@@ -160,7 +187,10 @@ pub fn pseudo_header_words(version: IpVersion, src: [u8; 16], dst: [u8; 16], udp
         ≡ foldOf (n + sumOf (pseudoHeader version (address version src) (address version dst) «udp_length»)))
         × (r < 2 ^ 36) ⌝ }
 {
-    17 + (udp_length as u64) + address_sum(version, src) + address_sum(version, dst)
+    (UDP_PROTOCOL as u64)
+        + (udp_length as u64)
+        + address_sum(version, src)
+        + address_sum(version, dst)
 }
 
 // Carries that a version comes back from its number, and that no number but 4 stands for IPv4.

@@ -16,7 +16,7 @@ ghost use Rattle.measurement_packet.specs.Packet.{ipv4Header, ipv6, nonzero, ud
 ghost use Rattle.measurement_build.specs.Segment.{segmentOver};
 
 // The IPv4 header's sum less the pseudo-header's. The addresses are in both and cancel out.
-const IPV4_MORE: u64 = 0x4500 + 52 + 0x4011 - 17 - 32;
+const IPV4_MORE: u64 = 0x4500 + 52 + 0x4011 - (measurement::UDP_PROTOCOL as u64) - 32;
 
 // The sum of the words that every UDP segment has: the length, and the probe's tag.
 const UDP_SAME: u64 = 32 + 0x4f50 + 0x4344 + 0x5054 + 0x4b31;
@@ -39,7 +39,7 @@ fn write_ipv4_header(pseudo: u64, src: [u8; 16], dst: [u8; 16], out: &mut [u8])
     out[layout::IPV4_FLAGS_AND_FRAGMENT_OFFSET] = 0;
     out[layout::IPV4_FLAGS_AND_FRAGMENT_OFFSET + 1] = 0;
     out[layout::IPV4_TIME_TO_LIVE] = 64;
-    out[layout::IPV4_PROTOCOL] = 17;
+    out[layout::IPV4_PROTOCOL] = measurement::UDP_PROTOCOL;
     out[layout::IPV4_HEADER_CHECKSUM] = field::high(checksum);
     out[layout::IPV4_HEADER_CHECKSUM + 1] = field::low(checksum);
     out[layout::IPV4_SOURCE_ADDRESS] = src[0];
@@ -68,7 +68,7 @@ fn write_ipv6_header(src: [u8; 16], dst: [u8; 16], out: &mut [u8])
     ensures { λ _. ⌜ now (out .exit) ≡ ipv6 (bytesAt 16 0 src) (bytesAt 16 0 dst) ++ drop 40 (now (out .entry)) ⌝ }
 {
     // Version, traffic class and flow label (4), payload length (2), next header, hop limit.
-    let first = [0x60, 0, 0, 0, 0, 32, 17, 64];
+    let first = [0x60, 0, 0, 0, 0, 32, measurement::UDP_PROTOCOL, 64];
     put(out, layout::IP_VERSION, &first);
     put(out, layout::IPV6_SOURCE_ADDRESS, &src);
     put(out, layout::IPV6_DESTINATION_ADDRESS, &dst);

@@ -26,6 +26,9 @@ ghost use Rattle.measurement_reading.specs.Read.{readIpv4, readIpv6, readOf};
 ghost use Rattle.measurement_decode.specs.Part.{Part, Addresses, HasProbe};
 ghost use Rattle.measurement_decode.specs.Numbers.{decodingNumbered, tpduNumbers, sourceLeft, destinationLeft};
 
+// The least IPv6 packet that is read: both headers.
+const IPV6_UDP_BYTES: usize = layout::IPV6_HEADER_BYTES + layout::UDP_HEADER_BYTES;
+
 // What reading answers: 0 and the values, or a refusal's number and zeros beside version 4. No two neighbouring fields
 // have the same width: such a pair would be copied by one wide load, which waits for both stores.
 pub struct TpduNumbers {
@@ -67,7 +70,7 @@ fn length_wrong(udp: &[u8]) -> bool
     ensures { λ r. ⌜ r ≡ lengthWrong (now (udp .entry)) ⌝ }
 {
     let n = read_u16(&udp[..], layout::UDP_LENGTH) as usize;
-    if n < 8 {
+    if n < layout::UDP_HEADER_BYTES {
         return true;
     }
     udp.len() < n
@@ -102,7 +105,11 @@ fn sum_wrong(addresses: u64, udp: &[u8]) -> bool
         ≡ sumWrong v src dst (now (udp .entry))) ⌝ }
 {
     let length = udp.len() as u64;
-    checksum::sum(addresses + 17 + length, &udp[..]) != 65535
+    checksum::sum(
+        addresses + (measurement::UDP_PROTOCOL as u64) + length,
+        &udp[..],
+    )
+        != 65535
 }
 
 // 13 and 14, for a part whose UDP length is right.
@@ -113,10 +120,10 @@ fn judge_probe(udp: &[u8]) -> u8
 {
     let end = read_u16(&udp[..], layout::UDP_LENGTH) as usize;
     let payload = &udp[layout::UDP_HEADER_BYTES..end];
-    if payload.len() < 24 {
+    if payload.len() < layout::PROBE_BYTES {
         return error::TRUNCATED_MEASUREMENT_HEADER;
     }
-    if read_u64(payload, layout::PROBE_TAG) != 0x4f50_4344_5054_4b31 {
+    if read_u64(payload, layout::PROBE_TAG) != measurement::MEASUREMENT_MAGIC {
         return error::MEASUREMENT_MAGIC_MISMATCH;
     }
     0
@@ -169,7 +176,7 @@ fn low_half(byte: u8) -> usize
 fn judge_ipv4(tpdu: &[u8]) -> u8
     ensures { λ r. ⌜ r ≡ outcomeNumber (readIpv4 (now (tpdu .entry))) ⌝ }
 {
-    if tpdu.len() < 20 {
+    if tpdu.len() < layout::IPV4_HEADER_BYTES {
         return error::TRUNCATED_IPV4_HEADER;
     }
     let ihl = low_half(tpdu[layout::IPV4_IHL]);
@@ -177,17 +184,17 @@ fn judge_ipv4(tpdu: &[u8]) -> u8
         return error::INVALID_IPV4_IHL;
     }
     let start = ihl * 4;
-    if tpdu.len() < start + 8 {
+    if tpdu.len() < start + layout::UDP_HEADER_BYTES {
         return error::INVALID_IPV4_IHL;
     }
     let end = read_u16(&tpdu[..], layout::IPV4_TOTAL_LENGTH) as usize;
-    if end < start + 8 {
+    if end < start + layout::UDP_HEADER_BYTES {
         return error::INVALID_IPV4_TOTAL_LENGTH;
     }
     if tpdu.len() < end {
         return error::INVALID_IPV4_TOTAL_LENGTH;
     }
-    if tpdu[layout::IPV4_PROTOCOL] != 17 {
+    if tpdu[layout::IPV4_PROTOCOL] != measurement::UDP_PROTOCOL {
         return error::PAYLOAD_IS_NOT_UDP;
     }
     if checksum::checksum(&tpdu[..start]) != 0 {
@@ -203,14 +210,14 @@ fn judge_ipv4(tpdu: &[u8]) -> u8
 fn judge_ipv6(tpdu: &[u8]) -> u8
     ensures { λ r. ⌜ r ≡ outcomeNumber (readIpv6 (now (tpdu .entry))) ⌝ }
 {
-    if tpdu.len() < 48 {
+    if tpdu.len() < IPV6_UDP_BYTES {
         return error::TRUNCATED_IPV6_UDP_PACKET;
     }
-    if tpdu[layout::IPV6_NEXT_HEADER] != 17 {
+    if tpdu[layout::IPV6_NEXT_HEADER] != measurement::UDP_PROTOCOL {
         return error::PAYLOAD_IS_NOT_UDP;
     }
     let length = read_u16(&tpdu[..], layout::IPV6_PAYLOAD_LENGTH) as usize;
-    if length < 8 {
+    if length < layout::UDP_HEADER_BYTES {
         return error::INVALID_IPV6_PAYLOAD_LENGTH;
     }
     let end = length + layout::IPV6_HEADER_BYTES;

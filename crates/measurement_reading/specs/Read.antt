@@ -14,10 +14,10 @@ use Rattle.error.specs.Outcome.{Outcome, gives, Cause, _⇒_, firstCause}
 use Rattle.field.specs.Field.{valueOf, bytesAt, field}
 use Rattle.checksum.specs.Sum.{checksumOf}
 use Rattle.measurement.specs.Layout.{ipVersion, ipv4Ihl, ipv4TotalLength, ipv4Protocol}
-use Rattle.measurement.specs.Layout.{ipv4SourceAddress, ipv4DestinationAddress}
+use Rattle.measurement.specs.Layout.{ipv4SourceAddress, ipv4DestinationAddress, ipv4HeaderBytes}
 use Rattle.measurement.specs.Layout.{ipv6PayloadLength, ipv6NextHeader, ipv6SourceAddress, ipv6DestinationAddress}
 use Rattle.measurement.specs.Layout.{ipv6HeaderBytes, udpSourcePort, udpDestinationPort, udpLength, udpChecksum}
-use Rattle.measurement.specs.Layout.{udpHeaderBytes, probeTag, probeSequence, probeSendTime}
+use Rattle.measurement.specs.Layout.{udpHeaderBytes, probeTag, probeSequence, probeSendTime, probeBytes}
 use Rattle.measurement.specs.Pseudo.{pseudoHeader, udpProtocol}
 use Rattle.measurement.specs.Probe.{measurementMagic}
 use Rattle.measurement.specs.Flow.{padded}
@@ -31,7 +31,7 @@ payload part = take (field 2 udpLength part - udpHeaderBytes) (drop udpHeaderByt
 
 -- "UDP length under 8 or past its part"
 unfoldable pub lengthWrong : List ℕ → Bool
-lengthWrong part = ltb (field 2 udpLength part) 8 || ltb (length part) (field 2 udpLength part)
+lengthWrong part = ltb (field 2 udpLength part) udpHeaderBytes || ltb (length part) (field 2 udpLength part)
 
 -- Which bytes the UDP checksum covers: "that whole part and its length, even where the UDP length is less".
 unfoldable pub covered : List ℕ → List ℕ
@@ -45,7 +45,7 @@ sumWrong v source destination part =
 -- "probe under 24 bytes; first 8 bytes wrong"
 unfoldable pub probeCauses : List ℕ → List Cause
 probeCauses probe =
-    (ltb (length probe) 24 ⇒ truncatedMeasurementHeader)
+    (ltb (length probe) probeBytes ⇒ truncatedMeasurementHeader)
     ∷ (not (eqb (field 8 probeTag probe) (valueOf measurementMagic)) ⇒ measurementMagicMismatch)
     ∷ []
 
@@ -99,9 +99,9 @@ totalLength tpdu = field 2 ipv4TotalLength tpdu
 -- "protocol not 17; IPv4 header checksum"
 unfoldable pub ipv4Causes : List ℕ → List Cause
 ipv4Causes tpdu =
-    (ltb (length tpdu) 20 ⇒ truncatedIpv4Header)
-    ∷ (ltb (ihl tpdu) 5 || ltb (length tpdu) (ihl tpdu * 4 + 8) ⇒ invalidIpv4Ihl)
-    ∷ (ltb (totalLength tpdu) (ihl tpdu * 4 + 8) || ltb (length tpdu) (totalLength tpdu) ⇒ invalidIpv4TotalLength)
+    (ltb (length tpdu) ipv4HeaderBytes ⇒ truncatedIpv4Header)
+    ∷ (ltb (ihl tpdu) 5 || ltb (length tpdu) (ihl tpdu * 4 + udpHeaderBytes) ⇒ invalidIpv4Ihl)
+    ∷ (ltb (totalLength tpdu) (ihl tpdu * 4 + udpHeaderBytes) || ltb (length tpdu) (totalLength tpdu) ⇒ invalidIpv4TotalLength)
     ∷ (not (eqb (getD tpdu ipv4Protocol 0) udpProtocol) ⇒ payloadIsNotUdp)
     ∷ (not (eqb (checksumOf (take (ihl tpdu * 4) tpdu)) 0) ⇒ invalidIpv4HeaderChecksum)
     ∷ []
@@ -120,9 +120,9 @@ payloadLength tpdu = field 2 ipv6PayloadLength tpdu
 -- "IPv6 under 48 bytes; payload length under 8 or past the input", with 6 before 9
 unfoldable pub ipv6Causes : List ℕ → List Cause
 ipv6Causes tpdu =
-    (ltb (length tpdu) 48 ⇒ truncatedIpv6UdpPacket)
+    (ltb (length tpdu) (ipv6HeaderBytes + udpHeaderBytes) ⇒ truncatedIpv6UdpPacket)
     ∷ (not (eqb (getD tpdu ipv6NextHeader 0) udpProtocol) ⇒ payloadIsNotUdp)
-    ∷ (ltb (payloadLength tpdu) 8 || ltb (length tpdu) (payloadLength tpdu + ipv6HeaderBytes)
+    ∷ (ltb (payloadLength tpdu) udpHeaderBytes || ltb (length tpdu) (payloadLength tpdu + ipv6HeaderBytes)
     ⇒ invalidIpv6PayloadLength)
     ∷ []
 

@@ -11,7 +11,7 @@ use Rattle.error.specs.Outcome.{Outcome, refused, gives, _⇒_, firstCause}
 use Rattle.field.specs.Field.{bigEndian, bytesAt}
 use Rattle.measurement.specs.Flow.{address}
 use Rattle.measurement_damage.specs.Echo.{echoOf}
-use Rattle.gtpu.specs.Claims.{errorIndication}
+use Rattle.gtpu.specs.Element.{teidDataI, gtpuPeerAddress, errorIndication}
 use Rattle.gtpu.specs.Message.{gtpuMsgEchoRequest, gtpuMsgEchoResponse, gtpuMsgErrorIndication}
 use Rattle.gtpu.specs.Message.{gtpuMsgSupportedExtensionHeadersNotification, gtpuMsgEndMarker, gtpuMsgGpdu}
 use Rattle.reflector_sessions.specs.Session.{valueOf}
@@ -115,7 +115,8 @@ errorIndicationTo teid source = errorIndication (bigEndian 4 teid) (address (sou
 
 -- `errorIndicationTo` with all 16 bytes of the address; `counted` says how many of them count.
 abbrev pub errorIndicationBlock : ℕ → ℕ → List ℕ → List ℕ
-errorIndicationBlock teid counted bytes = 16 ∷ (bigEndian 4 teid ++ (133 ∷ 0 ∷ counted ∷ bytesAt 16 0 bytes))
+errorIndicationBlock teid counted bytes =
+    teidDataI ∷ (bigEndian 4 teid ++ (gtpuPeerAddress ∷ 0 ∷ counted ∷ bytesAt 16 0 bytes))
 
 -- "255 with unknown TEID yields an Error Indication .. as type 26 with TEID 0 and the error sequence, to the sender".
 unfoldable pub gpduUnknown : ReflectorState → SocketAddr → ℕ → Answer

@@ -223,12 +223,12 @@ fn error_indication(teid: u32, length: u8, address: [u8; 16]) -> [u8; 24]
     ensures { λ r. ⌜ r ≡ errorIndicationBlock teid length address ⌝ }
 {
     [
-        16,
+        gtpu::TEID_DATA_I,
         ((teid >> 24) % 256) as u8,
         ((teid >> 16) % 256) as u8,
         ((teid >> 8) % 256) as u8,
         (teid % 256) as u8,
-        133,
+        gtpu::GTPU_PEER_ADDRESS,
         0,
         length,
         address[0],

@@ -5,6 +5,9 @@ use Rattle.measurement.proofs.Pseudo.{pseudo-folds}
 use Rattle.measurement.proofs.pseudo_header_words.Statement.{statement}
 use Rattle.measurement.proofs.pseudo_header_words.Tie as tie
 
+cast-result : tie.Need-cast-result
+cast-result c = search needs
+
 add-result : tie.Need-add-result
 add-result c = search needs
 
@@ -31,4 +34,4 @@ returns c =
 
 pub pseudo-header-words-spec : {M : Type 1} → statement M
 pseudo-header-words-spec =
-    tie.close (tie.spec add-result address-sum-requires add-result-2 address-sum-requires-2 add-result-3 returns)
+    tie.close (tie.spec cast-result add-result address-sum-requires add-result-2 address-sum-requires-2 add-result-3 returns)

@@ -4,6 +4,9 @@ use Rattle.measurement_decode.proofs.Laws.{sum-tested}
 use Rattle.measurement_decode.proofs.sum_wrong.Statement.{statement}
 use Rattle.measurement_decode.proofs.sum_wrong.Tie as tie
 
+cast-sum : tie.Need-cast-sum
+cast-sum c = search needs
+
 add-sum : tie.Need-add-sum
 add-sum c = search needs
 
@@ -19,4 +22,4 @@ returns c =
     λ v src dst a. sum-tested v src dst (s .args .udp .now) a (s .pre .1) (c .sum .ensures)
 
 pub sum-wrong-spec : {M : Type 1} → statement M
-sum-wrong-spec = tie.close (tie.spec add-sum add-sum-2 sum-requires returns)
+sum-wrong-spec = tie.close (tie.spec cast-sum add-sum add-sum-2 sum-requires returns)
