@@ -144,7 +144,7 @@ pub enum Written {
     Refused(u8),
 }
 
-// The number that stands for UDP in either IP header: RFC 768, "Protocol Application".
+// The number that stands for UDP in either IP header: RFC 768, "Protocol Number".
 pub fn udp_protocol() -> u8
     ensures { λ r. ⌜ r ≡ udpProtocol ⌝ }
 {
