@@ -101,7 +101,8 @@ unfoldable pub ipv4Causes : List ℕ → List Cause
 ipv4Causes tpdu =
     (ltb (length tpdu) ipv4HeaderBytes ⇒ truncatedIpv4Header)
     ∷ (ltb (ihl tpdu) 5 || ltb (length tpdu) (ihl tpdu * 4 + udpHeaderBytes) ⇒ invalidIpv4Ihl)
-    ∷ (ltb (totalLength tpdu) (ihl tpdu * 4 + udpHeaderBytes) || ltb (length tpdu) (totalLength tpdu) ⇒ invalidIpv4TotalLength)
+    ∷ (ltb (totalLength tpdu) (ihl tpdu * 4 + udpHeaderBytes) || ltb (length tpdu) (totalLength tpdu)
+    ⇒ invalidIpv4TotalLength)
     ∷ (not (eqb (getD tpdu ipv4Protocol 0) udpProtocol) ⇒ payloadIsNotUdp)
     ∷ (not (eqb (checksumOf (take (ihl tpdu * 4) tpdu)) 0) ⇒ invalidIpv4HeaderChecksum)
     ∷ []
