@@ -105,11 +105,8 @@ fn sum_wrong(addresses: u64, udp: &[u8]) -> bool
         ≡ sumWrong v src dst (now (udp .entry))) ⌝ }
 {
     let length = udp.len() as u64;
-    checksum::sum(
-        addresses + (measurement::UDP_PROTOCOL as u64) + length,
-        &udp[..],
-    )
-        != 65535
+    let pseudo = addresses + (measurement::UDP_PROTOCOL as u64) + length;
+    checksum::sum(pseudo, &udp[..]) != 65535
 }
 
 // 13 and 14, for a part whose UDP length is right.

@@ -4,14 +4,14 @@ use Rattle.measurement_decode.proofs.Laws.{sum-tested}
 use Rattle.measurement_decode.proofs.sum_wrong.Statement.{statement}
 use Rattle.measurement_decode.proofs.sum_wrong.Tie as tie
 
-cast-sum : tie.Need-cast-sum
-cast-sum c = search needs
+cast-pseudo : tie.Need-cast-pseudo
+cast-pseudo c = search needs
 
-add-sum : tie.Need-add-sum
-add-sum c = search needs
+add-pseudo : tie.Need-add-pseudo
+add-pseudo c = search needs
 
-add-sum-2 : tie.Need-add-sum-2
-add-sum-2 c = search needs
+add-pseudo-2 : tie.Need-add-pseudo-2
+add-pseudo-2 c = search needs
 
 sum-requires : tie.Need-sum-requires
 sum-requires c κs = search needs
@@ -22,4 +22,4 @@ returns c =
     λ v src dst a. sum-tested v src dst (s .args .udp .now) a (s .pre .1) (c .sum .ensures)
 
 pub sum-wrong-spec : {M : Type 1} → statement M
-sum-wrong-spec = tie.close (tie.spec cast-sum add-sum add-sum-2 sum-requires returns)
+sum-wrong-spec = tie.close (tie.spec cast-pseudo add-pseudo add-pseudo-2 sum-requires returns)
