@@ -1,12 +1,12 @@
 -- Bits as numbers: the value of a list of bits, the most significant first, and of the bits of bytes.
-use Prim.Native.Nat.{ℕ, zero, suc, _+_, _-_, _*_, _/_, _%_, _^_, _<_, _≤_}
+use Prim.Native.Nat.{ℕ, zero, suc, _+_, _-_, _*_, _/_, _%_, _^_, _<_}
 use native.Mathlib.Omega.{arith}
 use native.Mathlib.Nat.{pow-suc}
 use mathlib.Core.Path.{_≡_, refl, sym, ap, ap₂, _∙_}
-use mathlib.Core.Bool.{Bool, true, false, not}
+use mathlib.Core.Bool.{Bool, true, false}
 use mathlib.Core.List.{List, [], _∷_, _++_, append-assoc}
-use lib.ListN.{length, take, drop, replicate, length-append}
-use lib.Pow.{pow-pos, pow-add}
+use lib.ListN.{length, take, drop, length-append}
+use lib.Pow.{pow-add}
 use lib.Seq.{take-at, drop-at}
 use Rattle.field.specs.Field.{Bytes}
 use Rattle.checksum.specs.Damage.{isOne, lowBits, bits}

@@ -1,20 +1,20 @@
 -- The checksum finds every burst: bits turned within one span of at most 16 neighbouring bits.
 -- The bytes are read as one number, in base 2. As 2 ^ 16 is 1 modulo 65535, the sum of the words is that number (with a zero byte behind
 -- it, if the count of bytes is odd), and as 2 has an inverse there, equal sums have equal spans.
-use Prim.Native.Nat.{ℕ, zero, suc, _+_, _-_, _*_, _/_, _%_, _^_, _<_, _≤_}
+use Prim.Native.Nat.{ℕ, zero, suc, _+_, _-_, _*_, _^_, _<_, _≤_}
 use native.Mathlib.Omega.{arith}
 use native.Mathlib.Nat.{pow-suc}
-use mathlib.Core.Path.{_≡_, refl, sym, ap, ap₂, _∙_, subst}
+use mathlib.Core.Path.{_≡_, refl, sym, ap, _∙_}
 use mathlib.Core.Bool.{Bool, true, false, not}
 use mathlib.Core.Logic.{_⊎_, inl, inr, ⊎-elim}
-use mathlib.Core.List.{List, [], _∷_, _++_, append-assoc}
-use lib.ListN.{length, take, drop, replicate, length-append, length-replicate}
-use lib.Pow.{pow-pos, pow-add, pow-mono}
+use mathlib.Core.List.{List, [], _∷_, _++_}
+use lib.ListN.{length, replicate, length-append}
+use lib.Pow.{pow-add, pow-mono}
 use Rattle.field.specs.Field.{Bytes}
-use Rattle.checksum.specs.Sum.{sumOf, foldOf, checksumOf}
-use Rattle.checksum.specs.Damage.{isOne, lowBits, bits, Turned}
-use Rattle.checksum.proofs.Carries.{Same, fold-same, fold-low, split}
-use Rattle.checksum.proofs.Bits.{bit, val, val-append, val-lt, val-low, val-inj, bits-inj, length-low, length-bits}
+use Rattle.checksum.specs.Sum.{sumOf, foldOf}
+use Rattle.checksum.specs.Damage.{lowBits, bits, Turned}
+use Rattle.checksum.proofs.Carries.{Same, fold-same, split}
+use Rattle.checksum.proofs.Bits.{val, val-append, val-lt, val-low, val-inj, bits-inj, length-low, length-bits}
 
 same-refl : (a : ℕ) → Same a a
 same-refl a = record { left = 0; right = 0; eq = refl }

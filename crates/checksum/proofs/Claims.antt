@@ -1,19 +1,19 @@
 -- The claims of specs/Claims.antt, proved.
-use Prim.Native.Nat.{ℕ, _+_, _-_, _*_, _/_, _%_, _<_, _≤_}
+use Prim.Native.Nat.{ℕ, _+_, _-_, _*_, _<_, _≤_}
 use native.Mathlib.Omega.{arith}
 use native.Mathlib.Nat.{min-le-left}
 use mathlib.Core.Path.{_≡_, refl, sym, ap, _∙_}
 use mathlib.Core.List.{List, [], _∷_, _++_}
 use mathlib.Core.Bool.{Bool, true, false, not}
 use lib.Dec.{ltb}
-use lib.ListN.{length, take, drop, getD, replicate, length-append, length-take, length-replicate}
+use lib.ListN.{length, drop, getD, replicate, length-append, length-take, length-replicate}
 use lib.Seq.{take-at, drop-append-add}
 use borrow.Author.Tests.{ltb-true, ltb-false}
 use Rattle.field.specs.Field.{Bytes}
 use Rattle.checksum.specs.Sum.{sumOf, folding, foldOf, checksumOf, onesAdd, onesSum}
 use Rattle.checksum.specs.Damage.{isOne, lowBits, bits, bitsIn, Turned, TurnedWithin}
 use Rattle.checksum.specs.Claims.{Verifies, FoldedSum, SumInParts, PlacedVerifies, DamageFound, Undamaged, Clipped, DamageIs, Sharp, Examples}
-use Rattle.checksum.proofs.Carries.{fold-add, fold-low, fold-is, fold-like, Like, like-add, like-refl}
+use Rattle.checksum.proofs.Carries.{fold-add, fold-low, fold-is, like-refl}
 use Rattle.checksum.proofs.Bits.{bit, length-bits}
 use Rattle.checksum.proofs.Sums.{sum-append, sealed}
 use Rattle.checksum.proofs.Burst.{burst}

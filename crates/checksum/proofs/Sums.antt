@@ -1,14 +1,13 @@
 -- The sum of words, from a place on; and in parts.
-use Prim.Native.Nat.{ℕ, zero, suc, _+_, _-_, _*_, _/_, _%_, _<_, _≤_}
+use Prim.Native.Nat.{ℕ, suc, _+_, _-_, _*_, _/_, _%_, _<_, _≤_}
 use native.Mathlib.Omega.{arith}
 use native.Mathlib.Numerals.{add-one, add-two}
-use mathlib.Core.Path.{_≡_, refl, sym, ap, _∙_}
+use mathlib.Core.Path.{_≡_, sym, ap, _∙_}
 use mathlib.Core.List.{List, [], _∷_, _++_}
 use lib.ListN.{length, take, drop, getD, drop-of-length-le, length-drop, take-append-drop}
 use lib.Seq.{drop-cons, drop-drop, length-take-le}
-use Rattle.field.specs.Field.{Bytes}
 use Rattle.checksum.specs.Sum.{sumOf, foldOf, checksumOf}
-use Rattle.checksum.proofs.Carries.{fold-add, fold-words, fold-is, fold-whole, like-refl}
+use Rattle.checksum.proofs.Carries.{fold-add, fold-words, fold-whole}
 
 pub sum-two : (l : List ℕ) (i : ℕ) → i + 1 < length l → sumOf (drop i l) ≡ getD l i 0 * 256 + getD l (i + 1) 0 + sumOf (drop (i + 2) l)
 unfolding sumOf

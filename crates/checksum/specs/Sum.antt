@@ -1,7 +1,7 @@
 -- The Internet checksum: RFC 1071, section 1, and document 01, leaf 2.
 use Prim.Native.Nat.{ℕ, zero, suc, _+_, _-_, _*_, _/_, _%_}
 use mathlib.Core.List.{List, [], _∷_}
-use mathlib.Core.Bool.{Bool, true, false}
+use mathlib.Core.Bool.{true, false}
 use lib.Dec.{ltb}
 
 -- RFC 1071 (1): "Adjacent octets to be checksummed are paired to form 16-bit integers".

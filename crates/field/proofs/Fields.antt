@@ -9,7 +9,7 @@ use mathlib.Core.Bool.{true}
 use borrow.Author.Tests.{eq-eqb}
 use lib.ListN.{length, take, drop, getD}
 use lib.Seq.{drop-cons, getD-take, getD-drop, take-at, take-all}
-use Rattle.field.specs.Field.{Bytes, sameBytes, bigEndian, valueOf, bytesAt, field}
+use Rattle.field.specs.Field.{Bytes, sameBytes, bigEndian, valueOf, bytesAt}
 
 -- bytes
 pub bytes-take : (n : ℕ) (l : List ℕ) → Bytes l → Bytes (take n l)

@@ -1,10 +1,10 @@
 -- The pseudo-header: its length, and the sum of its words.
 use Prim.Native.Nat.{ℕ, _+_, _*_, _/_, _%_, _<_}
 use native.Mathlib.Omega.{arith}
-use mathlib.Core.Path.{_≡_, refl, sym, ap, ap₂, _∙_}
-use mathlib.Core.List.{List, [], _∷_, _++_}
+use mathlib.Core.Path.{_≡_, sym, ap, ap₂, _∙_}
+use mathlib.Core.List.{List, _++_}
 use lib.ListN.{length, getD, length-append}
-use Rattle.field.specs.Field.{bigEndian, bytesAt}
+use Rattle.field.specs.Field.{bigEndian}
 use Rattle.field.proofs.Fields.{length-bytesAt}
 use Rattle.checksum.specs.Sum.{sumOf, foldOf}
 use Rattle.checksum.proofs.Sums.{sum-append}

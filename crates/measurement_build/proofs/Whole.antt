@@ -1,13 +1,12 @@
 -- A header and a segment in a buffer are the whole T-PDU of the definitions.
 use Prim.Native.Nat.{ℕ, _+_, _-_, _%_, _^_, _<_, _≤_}
 use native.Mathlib.Omega.{arith}
-use mathlib.Core.Path.{_≡_, refl, sym, ap, ap₂, _∙_}
-use mathlib.Core.List.{List, [], _∷_, _++_}
+use mathlib.Core.Path.{_≡_, sym, ap, ap₂, _∙_}
+use mathlib.Core.List.{List, _++_}
 use lib.ListN.{length, take, drop, length-append, length-drop}
 use borrow.Author.Tests.{lt-ltb, le-ltb}
 use Rattle.error.specs.Outcome.{Outcome, refused, gives}
 use Rattle.field.specs.Field.{bytesAt}
-use Rattle.field.proofs.Fields.{length-bytesAt}
 use Rattle.field.proofs.Parts.{laid}
 use Rattle.checksum.specs.Sum.{sumOf, foldOf, checksumOf}
 use Rattle.checksum.proofs.Sums.{sum-append}

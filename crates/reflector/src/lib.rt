@@ -7,7 +7,6 @@ use reflector_answer::MultiSessionReflectorConfig;
 use reflector_answer::ReflectorState;
 use reflector_sessions::ReflectorSession;
 use reflector_sessions::SocketAddr;
-ghost use mathlib.Core.Path.{_≡_};
 ghost use Rattle.reflector_answer.specs.Handle.{HandledAs};
 ghost use Rattle.reflector.specs.Handle.{handleDatagram};
 

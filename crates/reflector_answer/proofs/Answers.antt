@@ -4,7 +4,7 @@ use native.Mathlib.Omega.{arith}
 use mathlib.Core.Path.{_≡_, refl, sym, ap, _∙_}
 use mathlib.Core.Bool.{Bool, true, false}
 use mathlib.Core.List.{List, [], _∷_, _++_}
-use mathlib.Core.Option.{Option, some, none}
+use mathlib.Core.Option.{Option}
 use lib.Dec.{eqb, ltb}
 use lib.ListN.{length, set, drop}
 use borrow.Author.Tests.{eq-eqb, ne-eqb, lt-ltb, le-ltb}
@@ -17,19 +17,19 @@ use Rattle.measurement_reading.specs.Read.{readOf}
 use Rattle.measurement_damage.specs.Echo.{echoOfTpdu, echoOf}
 use Rattle.measurement_build.proofs.Whole.{writing-fits}
 use Rattle.measurement_echo.proofs.Block.{built-fits}
-use Rattle.measurement.specs.Answer.{Writing, wrote, writing, writingOf}
+use Rattle.measurement.specs.Answer.{Writing, wrote, writingOf}
 use Rattle.measurement.specs.declared.Written.{Written}
 use Rattle.measurement.specs.declared.Written.the-variants as written
-use Rattle.gtpu.specs.Message.{gtpuMsgEchoRequest, gtpuMsgEchoResponse, gtpuMsgErrorIndication, gtpuMsgSupportedExtensionHeadersNotification, gtpuMsgEndMarker, gtpuMsgGpdu}
+use Rattle.gtpu.specs.Message.{gtpuMsgEchoResponse, gtpuMsgErrorIndication}
 use Rattle.reflector_sessions.specs.Session.{valueOf}
 use Rattle.reflector_sessions.specs.Judge.{tableCauses, tableOutcome, sessionFound}
-use Rattle.reflector_sessions.proofs.Judging.{Sound, judged-refused, judged-sound, is-sound}
+use Rattle.reflector_sessions.proofs.Judging.{judged-refused, judged-sound, is-sound}
 use Rattle.reflector_sessions.proofs.Registering.{found-some, found-none}
 use Rattle.reflector_sessions.specs.declared.FoundSession.{FoundSession}
 use Rattle.reflector_sessions.specs.declared.ReflectorSession.{ReflectorSession}
 use Rattle.reflector_sessions.specs.declared.SocketAddr.{SocketAddr}
 use Rattle.reflector_answer.specs.State.{counted, stateCounted, nextErrorSequence}
-use Rattle.reflector_answer.specs.Answer.{Answer, Action, noop, gpduOutcome, gpduCounted, gpduKnown, gpduUnknown, echoRequestOutcome, echoRequest, otherMessage, gpduAnswer, ignored, reflected, errorIndicationTo, answer}
+use Rattle.reflector_answer.specs.Answer.{Answer, gpduOutcome, gpduCounted, gpduKnown, gpduUnknown, echoRequestOutcome, echoRequest, otherMessage, ignored, reflected, errorIndicationTo, answer}
 use Rattle.reflector_answer.specs.Handle.{handledOf, forwarded, placed, Answers, EchoFits, reflectorBytes, handleFound}
 use Rattle.gtpu.specs.declared.GtpuMessage.{GtpuMessage}
 use Rattle.reflector_answer.specs.declared.Handled.{Handled}
@@ -37,7 +37,6 @@ use Rattle.reflector_answer.specs.declared.MultiSessionReflectorConfig.{
 use Rattle.reflector_answer.specs.declared.ReflectorAction.the-variants as action
 use Rattle.reflector_answer.specs.declared.ReflectorCounter.the-variants.{GpduReceived, MalformedRejected}
 use Rattle.reflector_answer.specs.declared.ReflectorCounter.the-variants as counter
-use Rattle.reflector_answer.specs.declared.ReflectorNoopReason.{ReflectorNoopReason}
 use Rattle.reflector_answer.specs.declared.ReflectorNoopReason.the-variants.{GpduSunk, EchoResponseObserved, ErrorIndicationObserved, EndMarkerIgnored, SupportedExtensionHeadersNotificationIgnored}
 use Rattle.reflector_answer.specs.declared.ReflectorPolicy.the-variants.{Echo, SinkAndCount, Route}
 use Rattle.reflector_answer.specs.declared.ReflectorSendReason.the-variants.{ReflectedGpdu, RoutedGpdu, EchoResponse, ErrorIndication}

@@ -3,7 +3,7 @@ use Prim.Native.Nat.{ℕ}
 use mathlib.Core.Path.{_≡_, refl, sym, ap, _∙_}
 use mathlib.Core.Logic.{_⊎_, inl, inr}
 use mathlib.Core.Bool.{Bool, true, false}
-use mathlib.Core.List.{List, [], _++_, append-nil}
+use mathlib.Core.List.{List, [], append-nil}
 use mathlib.Core.Option.{Option, some, none}
 use native.Mathlib.Omega.{arith}
 use lib.Dec.{eqb}
@@ -14,14 +14,13 @@ use Rattle.error.specs.Outcome.{Outcome, refused, gives}
 use Rattle.error.proofs.Causes.{refused-gives, not-by}
 use Rattle.field.specs.Field.{bigEndian}
 use Rattle.field.proofs.Fields.{length-big-endian, length-bytesAt}
-use Rattle.measurement.specs.Flow.{addressLength, address, reversedOf, InRange}
+use Rattle.measurement.specs.Flow.{addressLength, address, reversedOf}
 use Rattle.measurement.specs.declared.IpVersion.{IpVersion}
 use Rattle.measurement.specs.declared.IpVersion.the-variants.{V4, V6}
 use Rattle.measurement_packet.specs.Packet.{buildOf}
 use Rattle.measurement_reading.specs.Read.{payload as udpPayload, probeCauses, readProbe, udpCauses, readUdp, ipv4Causes, readIpv4, ipv6Causes, readIpv6, versionOf, tpduCauses, readOf}
 use Rattle.measurement.specs.declared.DecodedTpdu.{DecodedTpdu}
 use Rattle.measurement_damage.specs.Echo.{echoOfTpdu, echoOf}
-use Rattle.measurement_damage.specs.Claims.{tpduBuilt}
 use Rattle.measurement_damage.proofs.Claims.{reads-back, echo-is-reversed, reversed-in-range}
 use Rattle.gtpu.proofs.Claims.{error-indication-accepted}
 use Rattle.reflector_sessions.specs.Session.{valueOf}
@@ -36,7 +35,7 @@ use Rattle.reflector_answer.specs.declared.ReflectorState.{ReflectorStat
 use Rattle.reflector_answer.proofs.Answers.{handling-short, handling-passed}
 use Rattle.reflector_answer.specs.declared.ReflectorSendReason.the-variants.{ReflectedGpdu, ErrorIndication}
 use Rattle.gtpu.specs.declared.SequenceNumber.the-variants.{Present, Absent}
-use Rattle.reflector_answer.specs.Claims.{Sends, IndicationAccepted, EchoReadsBack, LeastOutput}
+use Rattle.reflector_answer.specs.Claims.{IndicationAccepted, EchoReadsBack, LeastOutput}
 
 pub address-of : (v : IpVersion) (bytes : List ℕ) → (length (address v bytes) ≡ 4) ⊎ (length (address v bytes) ≡ 16)
 unfolding address addressLength

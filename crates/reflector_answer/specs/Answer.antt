@@ -26,7 +26,6 @@ use Rattle.reflector_answer.specs.declared.ReflectorNoopReason.the-varia
 use Rattle.reflector_answer.specs.declared.ReflectorNoopReason.the-variants.{ErrorIndicationObserved}
 use Rattle.reflector_answer.specs.declared.ReflectorNoopReason.the-variants.{EndMarkerIgnored}
 use Rattle.reflector_answer.specs.declared.ReflectorNoopReason.the-variants.{SupportedExtensionHeadersNotificationIgnored}
-use Rattle.reflector_answer.specs.declared.ReflectorPolicy.{ReflectorPolicy}
 use Rattle.reflector_answer.specs.declared.ReflectorPolicy.the-variants.{Echo, SinkAndCount, Route}
 use Rattle.reflector_answer.specs.declared.ReflectorSendReason.{ReflectorSendReason}
 use Rattle.reflector_answer.specs.declared.ReflectorSendReason.the-variants.{ReflectedGpdu, RoutedGpdu}

@@ -5,7 +5,7 @@ use mathlib.Core.List.{List, _++_}
 use mathlib.Core.Option.{Option, some, none}
 use lib.ListN.{length}
 use Rattle.error.specs.Number.{outputTooShort}
-use Rattle.error.specs.Outcome.{Outcome, refused, gives}
+use Rattle.error.specs.Outcome.{refused, gives}
 use Rattle.measurement.specs.Flow.{reversedOf, InRange}
 use Rattle.measurement.specs.declared.InnerIpFlow.{InnerIpFlow}
 use Rattle.measurement_packet.specs.Packet.{buildOf}
@@ -17,7 +17,7 @@ use Rattle.reflector_sessions.specs.Judge.{tableOutcome}
 use Rattle.reflector_sessions.specs.Session.{valueOf}
 use Rattle.reflector_sessions.specs.declared.ReflectorSession.{ReflectorSession}
 use Rattle.reflector_sessions.specs.declared.SocketAddr.{SocketAddr}
-use Rattle.reflector_answer.specs.Answer.{written, Outbound, Action, send, Answer, answer}
+use Rattle.reflector_answer.specs.Answer.{written, Outbound, send, Answer, answer}
 use Rattle.reflector_answer.specs.Handle.{handleFound}
 use Rattle.gtpu.specs.declared.GtpuMessage.{GtpuMessage}
 use Rattle.reflector_answer.specs.declared.MultiSessionReflectorConfig.{MultiSessionReflectorConfig}

@@ -3,7 +3,6 @@
 use Prim.Native.Nat.{ℕ, _≤_}
 use mathlib.Core.Path.{_≡_}
 use mathlib.Core.List.{List, [], _∷_, _++_}
-use mathlib.Core.Bool.{true, false}
 use mathlib.Core.Option.{Option}
 use lib.Dec.{ltb}
 use lib.ListN.{length, take, drop, replicate}
@@ -18,7 +17,7 @@ use Rattle.reflector_answer.specs.declared.ReflectorSendReason.{Reflecto
 use Rattle.reflector_answer.specs.declared.ReflectorSendReason.the-variants.{ReflectedGpdu, RoutedGpdu}
 use Rattle.reflector_answer.specs.declared.ReflectorSendReason.the-variants.{EchoResponse, ErrorIndication}
 use Rattle.reflector_sessions.specs.Judge.{tableCauses}
-use Rattle.reflector_answer.specs.Answer.{Payload, written, handedOn, Outbound, Action, noop, send, Answer}
+use Rattle.reflector_answer.specs.Answer.{Payload, written, handedOn, Action, noop, send, Answer}
 use Rattle.reflector_answer.specs.Answer.{answer}
 use Rattle.gtpu.specs.declared.GtpuMessage.{GtpuMessage}
 use Rattle.reflector_answer.specs.declared.Handled.{Handled}

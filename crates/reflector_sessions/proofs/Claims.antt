@@ -16,7 +16,7 @@ use Rattle.error.proofs.Causes.{Passes, past, refuses, refused-gives, passed}
 use Rattle.reflector_sessions.specs.Session.{noSession, sameSession}
 use Rattle.reflector_sessions.specs.Judge.{tableCauses}
 use Rattle.reflector_sessions.specs.Table.{Table, usedRows, find, placeOf, appended, swapRemoved}
-use Rattle.reflector_sessions.specs.Register.{invalidSession, sessionOutcome, registerOutcome, registeredTable, registerSession}
+use Rattle.reflector_sessions.specs.Register.{sessionOutcome, registerOutcome, registeredTable, registerSession}
 use Rattle.reflector_sessions.specs.Remove.{removeOutcome, removedTable, removeSession}
 use Rattle.reflector_sessions.specs.Claims.{teidAt, Unique, AddedIsFound, UnchangedIsFound, RemovedIsNotFound, StaysUnique, OtherRowsKept}
 use Rattle.reflector_sessions.specs.declared.ReflectorSession.{ReflectorSession}

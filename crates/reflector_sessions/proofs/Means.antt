@@ -1,5 +1,5 @@
 -- What a call's answer means fixes the answer.
-use mathlib.Core.Path.{_≡_, refl, sym, ap, ap₂, _∙_}
+use mathlib.Core.Path.{_≡_, refl, ap, ap₂, _∙_}
 use mathlib.Core.List.{List}
 use Rattle.reflector_sessions.specs.Register.{registrationMeans, registrationOf, Registering, Registers}
 use Rattle.reflector_sessions.specs.Remove.{removalMeans, removalOf, sessionOf, Removing, Removes}

@@ -1,13 +1,13 @@
 -- Registering (the Rust's `register_session`): document 01, leaf 9, with the card's numbers 30 to 34.
 use Prim.Native.Nat.{ℕ, _+_}
 use mathlib.Core.Path.{_≡_}
-use mathlib.Core.List.{List, [], _∷_, _++_}
+use mathlib.Core.List.{List, [], _∷_}
 use mathlib.Core.Bool.{Bool, true, false, not, _||_}
 use mathlib.Core.Option.{Option, some, none}
 use lib.Dec.{eqb}
 use lib.ListN.{length}
 use Rattle.error.specs.Number.{invalidReflectorSession, reflectorSessionConflict, reflectorSessionCapacityExceeded}
-use Rattle.error.specs.Outcome.{Outcome, refused, gives, Cause, _⇒_, firstCause}
+use Rattle.error.specs.Outcome.{Outcome, refused, gives, _⇒_, firstCause}
 use Rattle.reflector_sessions.specs.Judge.{tableCauses}
 use Rattle.reflector_sessions.specs.declared.ReflectorSession.{ReflectorSession}
 use Rattle.reflector_sessions.specs.Session.{sameSession}

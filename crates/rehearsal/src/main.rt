@@ -9,7 +9,6 @@ use report::Reported;
 use scenario::Scenario;
 use verdict::Verdict;
 ghost use mathlib.Core.Path.{_≡_};
-ghost use Prim.Native.Nat.{_≤_};
 ghost use lib.ListN.{length};
 
 // A column of the run sheet.

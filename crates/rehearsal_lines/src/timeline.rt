@@ -1,7 +1,5 @@
 // What became of each probe, as the proved calls answered, in marks: rows of 50, the number of the first probe in
 // front.
-ghost use Prim.Native.Nat.{_≤_};
-ghost use lib.ListN.{length};
 
 // The marks of a row.
 const WIDTH: usize = 50;

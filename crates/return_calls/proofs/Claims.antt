@@ -4,14 +4,13 @@ use native.Mathlib.Omega.{arith}
 use mathlib.Core.Path.{_≡_, refl, sym, ap, _∙_}
 use mathlib.Core.Bool.{Bool, true, false}
 use mathlib.Core.List.{List}
-use Rattle.error.specs.Number.{malformedObserver}
 use Rattle.error.specs.Outcome.{Outcome, refused, gives}
 use Rattle.observer.specs.Observer.{Observer}
 use Rattle.observer.specs.Judge.{wellFormed, judged, Step}
 use Rattle.observer.proofs.Calls.{judged-malformed, judged-well}
 use Rattle.return_calls.specs.Kinds.{messageKind}
 use Rattle.return_calls.specs.Returns.{recordReceivedTpdu, recordElements, MessageStep, asMessage}
-use Rattle.return_calls.specs.Claims.{OfType, KindIsOfType}
+use Rattle.return_calls.specs.Claims.{KindIsOfType}
 use Rattle.return_calls.specs.declared.GtpuReturnDatagramOutcome.{GtpuReturnDatagramOutcome}
 use Rattle.return_calls.specs.declared.GtpuReturnDatagramOutcome.the-variants.{MeasurementTpdu, ErrorIndication, EchoResponse, Ignored}
 use Rattle.return_calls.proofs.Laws.{kind-is, recordAs, message-as}

@@ -1,7 +1,6 @@
 -- A sequence returns; n rows of the columns are in use. Where 21 does not refuse, this is document 01's return, as
 -- observer proves (specs/Returning.antt).
 use Prim.Native.Nat.{ℕ, _+_, _-_}
-use mathlib.Core.List.{List}
 use mathlib.Core.Bool.{true, false}
 use lib.Dec.{leb, ltb, eqb}
 use lib.ListN.{getD, take, drop, set}

@@ -15,7 +15,7 @@ use Rattle.measurement_reading.specs.Read.{readOf}
 use Rattle.gtpu.specs.Element.{elementsOf}
 use Rattle.observer.specs.Claims.{sending, returning, indicating}
 use Rattle.counter.specs.Counter.{oneMore}
-use Rattle.observer.specs.Counts.{fresh, oneDuplicate, outOfOrderIf, oneErrorIndication}
+use Rattle.observer.specs.Counts.{oneDuplicate, outOfOrderIf, oneErrorIndication}
 use Rattle.observer.specs.declared.ObserverCounts.{ObserverCounts}
 use Rattle.observer.specs.Judge.{wellFormed, Step, step, refusing, afterReading}
 use Rattle.observer.specs.Observer.{Row, Observer, capacity, rows, withRows, withCounts, sentRow}

@@ -18,7 +18,7 @@ use Rattle.plan.proofs.Claims.{same-refusal, plan-numbers}
 use Rattle.observer.specs.Observer.{Observer, rows}
 use Rattle.observer.specs.Judge.{wellFormed, Step, step}
 use Rattle.sent_plan.specs.SendingPlan.{sendInTurn, rowsNeeded, freeRows, recordSentPlan}
-use Rattle.sent_plan.specs.PlanClaims.{Entered, EnteredWhole, FullOnlyIfFull, RefusedWhole, AllOrNothing, PlanBeforeRoom}
+use Rattle.sent_plan.specs.PlanClaims.{Entered, AllOrNothing, PlanBeforeRoom}
 use Rattle.sent_plan.proofs.SendingPlan.{none-refused, one-refused, entering-full, entering-whole, plan-malformed, plan-judged}
 
 module _ (o : Observer) (plan : TrafficPlan) (next : ℕ) where

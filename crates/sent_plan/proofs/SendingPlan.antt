@@ -1,6 +1,6 @@
 -- Entering a plan. The packets' sequences are consecutive, so how many of them are on the sheet is the difference of two places; and as long as
 -- the rows that are still needed are free, each single call is taken.
-use Prim.Native.Nat.{ℕ, zero, suc, _+_, _-_, _*_, _≤_, _<_}
+use Prim.Native.Nat.{ℕ, zero, suc, _+_, _-_, _≤_, _<_}
 use native.Mathlib.Omega.{arith}
 use native.Mathlib.Numerals.{add-one}
 use mathlib.Core.Path.{_≡_, refl, sym, ap, _∙_}
@@ -11,21 +11,20 @@ use lib.ListN.{length, getD, set, take, drop, replicate, length-set}
 use lib.Seq.{map-set-same}
 use borrow.Author.Tests.{lt-ltb, le-ltb, ltb-true, ltb-false, eqb-true, eqb-false}
 use Rattle.error.specs.Number.{malformedObserver, observerFull}
-use Rattle.error.specs.Outcome.{Outcome, refused, gives, outcomeNumber, firstCause}
+use Rattle.error.specs.Outcome.{Outcome, refused, gives, outcomeNumber}
 use Rattle.error.proofs.Causes.{refuses, passes, here, past, none}
 use Rattle.measurement.specs.declared.MeasurementHeader.{MeasurementHeader}
 use Rattle.plan.specs.Plan.{timeAt, packetAt, packetsFrom, packetsOf, judgePlan}
 use Rattle.plan.specs.declared.TrafficPlan.{TrafficPlan}
-use Rattle.observer.specs.Observer.{Row, Observer, capacity, rows, sequencesOf, sentRow, withRows}
+use Rattle.observer.specs.Observer.{Row, Observer, capacity, rows, sequencesOf, sentRow}
 use Rattle.columns.specs.Columns.{rising}
 use Rattle.observer.specs.Judge.{wellFormed, judged, Step, step}
 use Rattle.columns.specs.Place.{place, holds}
 use Rattle.observer.specs.Place.{placeOf, wasSent, rowOf}
 use Rattle.observer.specs.Sending.{resent, recordSent}
-use Rattle.observer.specs.InTurn.{Steps, inTurn}
 use Rattle.rows.specs.Columns.{Columns}
 use Rattle.observer.specs.Answer.{observerOf, recorded}
-use Rattle.sent_plan.specs.SendingPlan.{sendPacket, sendInTurn, rowsNeeded, freeRows, enteringCauses, entering, recordSentPlan}
+use Rattle.sent_plan.specs.SendingPlan.{sendInTurn, rowsNeeded, freeRows, enteringCauses, entering, recordSentPlan}
 use Rattle.observer.specs.Claims.{sending}
 use Rattle.observer.specs.declared.ObserverCounts.{ObserverCounts}
 use Rattle.observer.specs.declared.Recorded.{Recorded}

@@ -9,10 +9,8 @@ use lib.ListN.{take, replicate}
 use borrow.Author.Tests.{eqb-true, eqb-false, ltb-true, ltb-false}
 use Rattle.error.specs.Number.{malformedObserver, observerFull}
 use Rattle.error.specs.Outcome.{Outcome, refused, gives, outcomeNumber}
-use Rattle.measurement.specs.declared.InnerIpFlow.{InnerIpFlow}
 use Rattle.measurement.specs.declared.MeasurementHeader.{MeasurementHeader}
 use Rattle.plan.specs.Plan.{packetsOf, Judged}
-use Rattle.plan.specs.declared.TrafficPlan.{TrafficPlan}
 use Rattle.traffic.proofs.Claims.{success-is-complete}
 use Rattle.observer.specs.Observer.{Observer, capacity, rows}
 use Rattle.observer.specs.Judge.{wellFormed, judged, Step, step, afterReading}

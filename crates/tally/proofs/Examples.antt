@@ -27,7 +27,7 @@ use Rattle.measurement_damage.proofs.Claims.{reads-back-alone, echo-alone, reve
 use Rattle.plan.specs.Plan.{packetsFrom, packetsOf}
 use Rattle.counter.specs.Counter.{oneMore}
 use Rattle.observer.specs.Observer.{Observer, capacity, rows, withRows}
-use Rattle.observer.specs.Judge.{wellFormed, judged, Step, refusing, afterReading}
+use Rattle.observer.specs.Judge.{wellFormed, judged, Step, afterReading}
 use Rattle.columns.specs.Place.{holds}
 use Rattle.observer.specs.Sending as sending
 use Rattle.observer.specs.Sending.{sendingCauses, recordSent}

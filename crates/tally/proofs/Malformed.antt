@@ -1,11 +1,11 @@
 -- On a sheet that 21 refuses, every call refuses by 21.
 use Prim.Native.Nat.{ℕ}
-use mathlib.Core.Path.{_≡_, refl, sym, ap}
+use mathlib.Core.Path.{_≡_, sym, ap}
 use mathlib.Core.List.{List}
 use mathlib.Core.Bool.{false}
 use Rattle.error.specs.Number.{malformedObserver}
 use Rattle.error.specs.Outcome.{Outcome, refused, gives}
-use Rattle.observer.specs.Judge.{wellFormed, Step, step, judged, afterReading}
+use Rattle.observer.specs.Judge.{wellFormed, Step, step, afterReading}
 use Rattle.observer.specs.Observer.{Observer}
 use Rattle.observer.specs.Returning.{recordReturn, recordErrorIndication}
 use Rattle.observer.proofs.Calls.{judged-malformed, sent-malformed, return-malformed, indication-malformed, refusing-malformed}

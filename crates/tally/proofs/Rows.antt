@@ -7,7 +7,7 @@ use mathlib.Core.Bool.{Bool, true, false, _&&_, _||_}
 use mathlib.Core.List.{List, [], _∷_, _++_}
 use lib.Dec.{ltb, eqb}
 use lib.ListN.{length, set}
-use Rattle.observer.specs.Observer.{Row, rows, rowAt}
+use Rattle.observer.specs.Observer.{Row, rowAt}
 use Rattle.observer.specs.Place.{highestMarked, markedAbove}
 use Rattle.observer.proofs.Claims.{below-highest-marked}
 use Rattle.tally.specs.Tally.{higherMarked}

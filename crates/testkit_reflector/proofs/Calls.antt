@@ -22,7 +22,6 @@ use Rattle.reflector_answer.specs.declared.ReflectorAction.the-variants.{Noop, 
 use Rattle.reflector_answer.specs.declared.ReflectorNoopReason.{ReflectorNoopReason}
 use Rattle.reflector_answer.specs.declared.ReflectorSendReason.{ReflectorSendReason}
 use Rattle.testkit_reflector.specs.Interface.{noopNumber, sendNumber, actionNumbers, handledNumbers, AnswersNumbers, registeredNumbers, RegistersNumbers, removedNumbers, RemovesNumbers}
-use Rattle.testkit_reflector.specs.declared.ActionNumbers.{ActionNumbers}
 use Rattle.testkit_reflector.specs.declared.TestkitHandled.{TestkitHandled}
 use Rattle.testkit_reflector.specs.declared.TestkitRegistered.{TestkitRegistered}
 use Rattle.testkit_reflector.specs.declared.TestkitRemoved.{TestkitRemoved}

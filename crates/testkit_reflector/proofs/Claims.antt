@@ -4,7 +4,6 @@ use Rattle.gtpu.specs.declared.SequenceNumber.the-variants.{Absent, Present}
 use Rattle.measurement.specs.Flow.{versionNumber, versionNumbered}
 use Rattle.measurement.specs.declared.IpVersion.{IpVersion}
 use Rattle.measurement.specs.declared.IpVersion.the-variants.{V4, V6}
-use Rattle.reflector_sessions.specs.declared.SocketAddr.{SocketAddr}
 use Rattle.testkit_reflector.specs.Interface.{sequenceOf}
 use Rattle.testkit_reflector.specs.Claims.{SequenceReadsBack, AddressReadsBack}
 

@@ -1,5 +1,4 @@
 -- The verdict on a report for C: the report's figures against a budget that need not be its own.
-use Prim.Native.Nat.{ℕ}
 use mathlib.Core.Bool.{Bool, true, false}
 use lib.Dec.{eqb, ltb}
 use Rattle.evidence.specs.declared.Latency.{Latency}

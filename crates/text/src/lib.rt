@@ -1,5 +1,4 @@
 // Text: words that are read, and numbers that are printed, on standard output.
-ghost use mathlib.Core.Path.{_≡_};
 ghost use Prim.Native.Nat.{_≤_};
 ghost use lib.ListN.{length};
 

@@ -7,7 +7,7 @@ use lib.Dec.{ltb}
 use borrow.Author.Tests.{ltb-true, ltb-false}
 use Rattle.evidence.specs.declared.PacketContinuityReport.{PacketContinuityReport}
 use Rattle.verdict.specs.Verdict.{either, verdictOf}
-use Rattle.verdict.specs.Claims.{Judged, PassesIfKept, Exceeds, Reasons, ReasonsAreTrue}
+use Rattle.verdict.specs.Claims.{Judged, PassesIfKept, Reasons, ReasonsAreTrue}
 use Rattle.verdict.specs.declared.Verdict.{Verdict}
 use Rattle.verdict.specs.declared.Verdict.the-variants.{Pass, NothingReturned, TooManyLost, TooManyInARow, OutageTooLong, ErrorIndicated}
 

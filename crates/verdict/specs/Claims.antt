@@ -8,7 +8,6 @@ use mathlib.Core.Path.{_≡_}
 use mathlib.Core.Bool.{true, false}
 use Rattle.evidence.specs.declared.PacketContinuityReport.{PacketContinuityReport}
 use Rattle.verdict.specs.Verdict.{verdictOf}
-use Rattle.verdict.specs.declared.Verdict.{Verdict}
 use Rattle.verdict.specs.declared.Verdict.the-variants.{Pass, NothingReturned, TooManyLost, TooManyInARow}
 use Rattle.verdict.specs.declared.Verdict.the-variants.{OutageTooLong, ErrorIndicated}
 

@@ -1,12 +1,11 @@
 -- `measurement_decode::decode_into` meets its contract.
 use Prim.Native.Nat.{ℕ}
-use mathlib.Core.Path.{_≡_, refl, sym, ap, _∙_}
+use mathlib.Core.Path.{sym, ap, _∙_}
 use mathlib.Core.List.{List}
 use native.Mathlib.Omega.{arith}
 use borrow.Author.Needs.{needs}
 use Rattle.error.specs.Outcome.{Outcome, gives}
 use Rattle.field.specs.Field.{bytesAt}
-use Rattle.measurement.specs.Flow.{padded}
 use Rattle.measurement.specs.declared.DecodedTpdu.{DecodedTpdu}
 use Rattle.measurement.specs.declared.IpVersion.the-variants.{V4, V6}
 use Rattle.measurement_reading.specs.Read.{tpduOf, ihl, readOf}

@@ -1,7 +1,7 @@
 -- `measurement_decode::decoding_of` meets its contract.
 use Prim.Native.Nat.{ℕ, zero, suc}
 use mathlib.Core.Path.{_≡_, refl, sym, ap}
-use Rattle.measurement.specs.declared.Decoding.the-variants.{Accepted, Refused}
+use Rattle.measurement.specs.declared.Decoding.the-variants.{Refused}
 use Rattle.measurement_decode.specs.Numbers.{decodingNumbered}
 use Rattle.measurement_decode.proofs.decoding_of.Statement.{statement}
 use Rattle.measurement_decode.proofs.decoding_of.Tie as tie

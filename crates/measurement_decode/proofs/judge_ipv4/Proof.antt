@@ -1,9 +1,8 @@
 -- `measurement_decode::judge_ipv4` meets its contract.
-use Prim.Native.Nat.{ℕ, _-_, _*_}
-use mathlib.Core.Path.{_≡_, ap, sym, _∙_}
+use Prim.Native.Nat.{_-_, _*_}
+use mathlib.Core.Path.{ap, sym, _∙_}
 use native.Mathlib.Omega.{arith}
 use borrow.Author.Needs.{needs}
-use lib.ListN.{drop, length-take, length-drop}
 use lib.Seq.{length-take-le}
 use Rattle.error.specs.Outcome.{outcomeNumber}
 use Rattle.field.specs.Field.{bytesAt}
@@ -11,7 +10,7 @@ use Rattle.measurement.specs.Flow.{addressLength}
 use Rattle.measurement.specs.declared.IpVersion.the-variants.{V4}
 use Rattle.measurement_reading.specs.Read.{ihl}
 use Rattle.measurement_reading.proofs.Rows.{LeftIpv4, ipv4-rows, row-3, past-3, row-4-low, row-4-cut, past-4, row-5-low, row-5-past, past-5, row-6-ipv4, past-6-ipv4, row-7, past-7, rest-ipv4}
-use Rattle.measurement_decode.proofs.Laws.{part-short, addresses}
+use Rattle.measurement_decode.proofs.Laws.{addresses}
 use Rattle.measurement_decode.proofs.judge_ipv4.Statement.{statement}
 use Rattle.measurement_decode.proofs.judge_ipv4.Tie as tie
 

@@ -1,15 +1,14 @@
 -- `measurement_decode::judge_ipv6` meets its contract.
-use Prim.Native.Nat.{ℕ, _+_, _-_}
-use mathlib.Core.Path.{_≡_, ap, _∙_}
+use Prim.Native.Nat.{_-_}
+use mathlib.Core.Path.{ap, _∙_}
 use native.Mathlib.Omega.{arith}
 use borrow.Author.Needs.{needs}
-use lib.ListN.{drop, length-take, length-drop}
 use Rattle.error.specs.Outcome.{outcomeNumber}
 use Rattle.field.specs.Field.{bytesAt}
 use Rattle.measurement.specs.Flow.{addressLength}
 use Rattle.measurement.specs.declared.IpVersion.the-variants.{V6}
 use Rattle.measurement_reading.proofs.Rows.{LeftIpv6, ipv6-rows, row-8, past-8, row-6-ipv6, past-6-ipv6, row-9-low, row-9-past, past-9, rest-ipv6}
-use Rattle.measurement_decode.proofs.Laws.{part-short, addresses}
+use Rattle.measurement_decode.proofs.Laws.{addresses}
 use Rattle.measurement_decode.proofs.judge_ipv6.Statement.{statement}
 use Rattle.measurement_decode.proofs.judge_ipv6.Tie as tie
 

@@ -1,7 +1,6 @@
 -- `measurement_decode::low_half` meets its contract.
 use native.Mathlib.Omega.{arith}
 use lib.Bits.{and-mask}
-use borrow.Author.Needs.{needs}
 use Rattle.measurement_decode.proofs.low_half.Statement.{statement}
 use Rattle.measurement_decode.proofs.low_half.Tie as tie
 

@@ -1,7 +1,7 @@
 -- `received_tpdus::record_received_tpdus` meets its contract: cause 21, then the T-PDUs one after the other. The loop's
 -- invariant: the numbers that are written, with the outcome of the returns that are left, are the whole answer; the
 -- observer is well formed; what the T-PDUs read as stands in its column, and the others begin at `at`.
-use Prim.Native.Nat.{ℕ, _+_, _-_, _*_, _≤_, _<_}
+use Prim.Native.Nat.{_+_, _-_, _*_, _≤_, _<_}
 use mathlib.Core.Path.{_≡_, refl, sym, ap, _∙_}
 use mathlib.Core.Bool.{true}
 use mathlib.Core.List.{List, _∷_, _++_, map}

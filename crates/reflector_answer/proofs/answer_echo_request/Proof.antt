@@ -1,6 +1,6 @@
 -- `reflector_answer::answer_echo_request` meets its contract.
 use native.Mathlib.Omega.{arith}
-use mathlib.Core.Path.{refl, sym, ap, _∙_}
+use mathlib.Core.Path.{ap, _∙_}
 use Rattle.error.specs.Outcome.{refused}
 use Rattle.reflector_answer.specs.Handle.{handledOf}
 use Rattle.reflector_answer.specs.declared.ReflectorAction.the-variants.{Send}

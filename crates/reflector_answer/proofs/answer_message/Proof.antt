@@ -1,6 +1,5 @@
 -- `reflector_answer::answer_message` meets its contract.
 use native.Mathlib.Omega.{arith}
-use mathlib.Core.Path.{ap, _∙_}
 use Rattle.reflector_answer.proofs.Answers.{echo-fits, message-known, message-unknown, message-request, message-other, answers, other-leaves}
 use borrow.Author.Needs.{needs}
 use Rattle.reflector_answer.proofs.answer_message.Statement.{statement}

@@ -1,5 +1,5 @@
 -- `reflector_answer::answer_other` meets its contract.
-use mathlib.Core.Path.{refl, sym, ap, _∙_}
+use mathlib.Core.Path.{ap, _∙_}
 use Rattle.error.specs.Outcome.{refused}
 use Rattle.reflector_answer.specs.Handle.{handledOf}
 use Rattle.reflector_answer.specs.declared.ReflectorState.{ReflectorState}

@@ -1,6 +1,6 @@
 -- `reflector_answer::error_indication` meets its contract.
 use mathlib.Core.Path.{ap}
-use mathlib.Core.List.{List, _∷_, _++_}
+use mathlib.Core.List.{_∷_, _++_}
 use lib.ListN.{drop}
 use Rattle.field.specs.Field.{bytesAt}
 use Rattle.field.proofs.Fields.{shifted-bytes}

@@ -1,5 +1,4 @@
 -- `reflector_answer::next_error_sequence` meets its contract.
-use native.Mathlib.Omega.{arith}
 use Rattle.reflector_answer.proofs.Payload.{wrapped, moved}
 use borrow.Author.Needs.{needs}
 use Rattle.reflector_answer.proofs.next_error_sequence.Statement.{statement}

@@ -1,7 +1,6 @@
 -- `reflector_sessions::answer_removal` meets its contract.
 use mathlib.Core.Path.{sym, ap, _∙_}
 use Rattle.reflector_sessions.specs.Judge.{judgedMeans, sessionFound}
-use Rattle.reflector_sessions.specs.declared.RemovedSession.{RemovedSession}
 use Rattle.reflector_sessions.specs.declared.Removal.the-variants.{Refused, NotFound}
 use Rattle.reflector_sessions.specs.declared.ReflectorSession.{ReflectorSession}
 use Rattle.reflector_sessions.proofs.Registering.{removing-refused, removing-found, removing-none}

@@ -1,5 +1,5 @@
 -- `reflector_sessions::same_address` meets its contract.
-use mathlib.Core.Path.{refl, sym, ap, _∙_}
+use mathlib.Core.Path.{sym, ap, _∙_}
 use borrow.Author.Tests.{not-true, not-false}
 use Rattle.measurement.specs.Flow.{addressLength}
 use Rattle.reflector_sessions.proofs.Same.{version-differs, port-differs, bytes-decide}

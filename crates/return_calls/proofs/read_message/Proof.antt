@@ -1,10 +1,9 @@
 -- `return_calls::read_message` meets its contract: each arm reads what a message of its kind has.
 use borrow.Author.Needs.{needs}
 use mathlib.Core.Path.{_≡_, sym, ap, _∙_}
-use Rattle.error.specs.Outcome.{Outcome, refused, gives}
+use Rattle.error.specs.Outcome.{refused, gives}
 use Rattle.return_calls.specs.Kinds.{messageKind}
 use Rattle.return_calls.specs.Answer.{messageMeans}
-use Rattle.return_calls.specs.declared.GtpuReturnDatagramOutcome.{GtpuReturnDatagramOutcome}
 use Rattle.return_calls.specs.declared.GtpuReturnDatagramOutcome.the-variants.{MeasurementTpdu, ErrorIndication, EchoResponse, Ignored}
 use Rattle.return_calls.proofs.Laws.{returned-as}
 use Rattle.return_calls.proofs.read_message.Statement.{statement}

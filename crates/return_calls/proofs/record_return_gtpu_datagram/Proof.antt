@@ -1,5 +1,5 @@
 -- `return_calls::record_return_gtpu_datagram` meets its contract: what was read is recorded, and answered by its kind.
-use mathlib.Core.Path.{_≡_, sym, ap, _∙_}
+use mathlib.Core.Path.{ap, _∙_}
 use borrow.Author.Needs.{needs}
 use Rattle.rows.specs.Columns.{columnsOf}
 use Rattle.observer.specs.Observer.{Observer}

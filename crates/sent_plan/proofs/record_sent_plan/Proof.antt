@@ -1,10 +1,10 @@
 -- `sent_plan::record_sent_plan` meets its contract: 21, then the plan's own causes, then 22 by two searches, then the
 -- packets one after the other. The loop's invariant: what the packets that are left make of the observer so far is what
 -- all of them make of the first; and the observer is well formed.
-use Prim.Native.Nat.{ℕ, _+_, _-_, _≤_}
+use Prim.Native.Nat.{_+_, _-_, _≤_}
 use native.Mathlib.Omega.{arith}
 use mathlib.Core.Path.{_≡_, refl, sym, ap, _∙_}
-use mathlib.Core.List.{List, []}
+use mathlib.Core.List.{List}
 use mathlib.Core.Bool.{true}
 use lib.ListN.{length}
 use borrow.Author.Needs.{needs}

@@ -1,7 +1,5 @@
 -- `testkit_packets::testkit_build` meets its contract.
-use Prim.Native.Nat.{ℕ}
 use mathlib.Core.Path.{ap, _∙_}
-use mathlib.Core.List.{List}
 use Rattle.measurement.specs.Answer.{writing}
 use Rattle.measurement.specs.declared.IpVersion.{IpVersion}
 use Rattle.measurement_packet.specs.Packet.{buildOf}

@@ -1,5 +1,4 @@
 -- `testkit_packets::testkit_generate` meets its contract.
-use Prim.Native.Nat.{ℕ}
 use mathlib.Core.Path.{ap, _∙_}
 use Rattle.traffic.specs.Generate.{generateOf}
 use Rattle.measurement.specs.declared.IpVersion.{IpVersion}

@@ -1,6 +1,5 @@
 -- `text::find_from` gives a place from `at` on, within the list where `at` is.
 use Prim.Native.Nat.{_≤_, _-_}
-use mathlib.Core.Path.{_≡_}
 use lib.ListN.{length}
 use borrow.Author.Needs.{needs}
 use Rattle.text.proofs.find_from.Statement.{statement}

@@ -1,6 +1,5 @@
 -- `text::print_plainly` is safe and ends.
 use Prim.Native.Nat.{_≤_, _-_}
-use mathlib.Core.Path.{_≡_}
 use lib.ListN.{length}
 use borrow.Author.Needs.{needs}
 use Rattle.text.proofs.print_plainly.Statement.{statement}
