@@ -6,7 +6,7 @@ use mathlib.Core.Bool.{Bool, true, false, _&&_}
 use lib.Dec.{eqb, leb, ltb}
 use borrow.Author.Tests.{eqb-true, eq-eqb, leb-true, le-leb, ltb-true, lt-ltb}
 use Rattle.error.specs.Outcome.{Outcome, refused, gives}
-use Rattle.error.proofs.Tests.{true-not-false}
+use Rattle.error.proofs.Tests.{and-both, both}
 use Rattle.evidence.specs.declared.PacketContinuityBudget.{PacketContinuityBudget}
 use Rattle.evidence.specs.declared.PacketContinuityReport.{PacketContinuityReport}
 use Rattle.observer.specs.declared.ObserverCounts.{ObserverCounts}
@@ -107,17 +107,6 @@ datagrams-told = record {
 
 -- ---- PASS, and the figures
 
-both-left : (a b : Bool) → a && b ≡ true → a ≡ true
-both-left true b e = refl
-both-left false b e = e
-
-both-right : (a b : Bool) → a && b ≡ true → b ≡ true
-both-right true b e = e
-both-right false b e = absurd (true-not-false (sym e))
-
-both : (a b : Bool) → a ≡ true → b ≡ true → a && b ≡ true
-both a b p q = rw p q
-
 abbrev reasonOf : TestkitVerdict → ℕ
 reasonOf t = t .reason
 
@@ -143,9 +132,9 @@ module _ (r : TestkitContinuityReport) (budget : PacketContinuityBudget) where
       ap reasonOf (sym (with-report r budget (eq-eqb (r .number) 0 (k .a-report))))
       ∙ ap (λ (v : Verdict). verdictNumbers v .reason)
       (passes-if-kept held .kept (lt-ltb 0 (r .«received_packets») (k .some-returned))
-      (both lost (run && (outage && indicated)) (le-leb _ _ (k .lost-within))
-      (both run (outage && indicated) (le-leb _ _ (k .run-within))
-      (both outage indicated (le-leb _ _ (k .outage-within)) (eq-eqb _ 0 (k .none-indicated))))))
+      (and-both lost (run && (outage && indicated)) (le-leb _ _ (k .lost-within))
+      (and-both run (outage && indicated) (le-leb _ _ (k .run-within))
+      (and-both outage indicated (le-leb _ _ (k .outage-within)) (eq-eqb _ 0 (k .none-indicated))))))
 
   -- PASS is said of a report only, and on its figures
   verdict-passes : (b : Bool) → eqb (r .number) 0 ≡ b → judging r budget .reason ≡ 0 → (r .number ≡ 0) × (verdictOf held ≡ Pass)
@@ -168,15 +157,16 @@ module _ (r : TestkitContinuityReport) (budget : PacketContinuityBudget) where
   only-kept p =
       let v = verdict-passes (eqb (r .number) 0) refl p in
       let all = continuous (held .«packet_continuity_proven») refl (v .1) in
-      let rest = both-right lost (run && (outage && indicated)) all in
-      let last = both-right run (outage && indicated) rest in
+      let first = both lost (run && (outage && indicated)) all in
+      let second = both run (outage && indicated) (first .1) in
+      let third = both outage indicated (second .1) in
       record {
         a-report = v .0;
         some-returned = forwarded (ltb 0 (r .«received_packets»)) refl (v .1);
-        lost-within = leb-true _ _ (both-left lost (run && (outage && indicated)) all);
-        run-within = leb-true _ _ (both-left run (outage && indicated) rest);
-        outage-within = leb-true _ _ (both-left outage indicated last);
-        none-indicated = eqb-true _ 0 (both-right outage indicated last);
+        lost-within = leb-true _ _ (first .0);
+        run-within = leb-true _ _ (second .0);
+        outage-within = leb-true _ _ (third .0);
+        none-indicated = eqb-true _ 0 (third .1);
       }
 
 pub passes-by-figures : PassesByFigures
