@@ -15,7 +15,7 @@ use Rattle.measurement_packet.specs.Packet.{ipv4Header, ipv6, nonzero, udpSegme
 use Rattle.measurement.proofs.Pseudo.{Folds}
 use Rattle.measurement_build.specs.Segment.{segmentOver}
 
--- the IPv4 header: 20 stores, the two bytes of its checksum among them
+-- the IPv4 header: 20 stores, with 0 for both bytes of its checksum, and then these two
 abbrev stored : ℕ → ℕ → List ℕ → List ℕ → List ℕ
 stored h l s d =
     0x45 ∷ 0 ∷ 0 ∷ 52 ∷ 0 ∷ 0 ∷ 0 ∷ 0 ∷ 64 ∷ 17 ∷ h ∷ l
@@ -23,10 +23,10 @@ stored h l s d =
 
 pub ipv4-stored : (s d out : List ℕ) (sum f h l : ℕ) → 20 ≤ length out → f ≡ foldOf sum
     → h ≡ (65535 - f) / 256 ^ 1 % 256 → l ≡ (65535 - f) / 256 ^ 0 % 256
-    → sets out 0 (stored h l s d) ≡ ipv4Header (65535 - foldOf sum) (bytesAt 4 0 s) (bytesAt 4 0 d) ++ drop 20 out
+    → sets (sets out 0 (stored 0 0 s d)) 10 (h ∷ l ∷ []) ≡ ipv4Header (65535 - foldOf sum) (bytesAt 4 0 s) (bytesAt 4 0 d) ++ drop 20 out
 unfolding ipv4Header
 ipv4-stored s d out sum f h l fits ef eh el =
-    sets-eq (stored h l s d) out 0 fits
+    ap (λ (xs : List ℕ). sets xs 10 (h ∷ l ∷ [])) (sets-eq (stored 0 0 s d) out 0 fits)
     ∙ ap₂ (λ (h l : ℕ). stored h l s d ++ drop 20 out) eh el
     ∙ ap (λ (n : ℕ). stored ((65535 - n) / 256 ^ 1 % 256) ((65535 - n) / 256 ^ 0 % 256) s d ++ drop 20 out) ef
 

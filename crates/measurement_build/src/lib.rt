@@ -21,35 +21,44 @@ const IPV4_MORE: u64 = 0x4500 + 52 + 0x4011 - (measurement::UDP_PROTOCOL as u64)
 // The sum of the words that every UDP segment has: the length, and the probe's tag.
 const UDP_SAME: u64 = 32 + 0x4f50 + 0x4344 + 0x5054 + 0x4b31;
 
-// The IPv4 header, field by field in the order of RFC 791, section 3.1. `pseudo`, added to any sum, folds to the same
-// as the words of the pseudo-header.
+// The IPv4 header, row by row of the diagram in RFC 791, section 3.1, whose names the comments have. `pseudo`, added to
+// any sum, folds to the same as the words of the pseudo-header.
 fn write_ipv4_header(pseudo: u64, src: [u8; 16], dst: [u8; 16], out: &mut [u8])
     requires { ⌜ (20 ≤ length (now out)) × (pseudo < 2 ^ 36) ⌝ }
     ensures { λ _. ⌜ now (out .exit)
         ≡ ipv4Header (65535 - foldOf (0x8514 + pseudo)) (bytesAt 4 0 src) (bytesAt 4 0 dst)
         ++ drop 20 (now (out .entry)) ⌝ }
 {
-    let checksum = 65535 - checksum::fold_u64(IPV4_MORE + pseudo);
+    // Version, IHL, Type of Service, Total Length
     out[layout::IP_VERSION] = 0x45;
     out[layout::IPV4_TYPE_OF_SERVICE] = 0;
     out[layout::IPV4_TOTAL_LENGTH] = 0;
     out[layout::IPV4_TOTAL_LENGTH + 1] = 52;
+    // Identification, Flags, Fragment Offset
     out[layout::IPV4_IDENTIFICATION] = 0;
     out[layout::IPV4_IDENTIFICATION + 1] = 0;
     out[layout::IPV4_FLAGS_AND_FRAGMENT_OFFSET] = 0;
     out[layout::IPV4_FLAGS_AND_FRAGMENT_OFFSET + 1] = 0;
+    // Time to Live, Protocol, Header Checksum (0 until the sum is known)
     out[layout::IPV4_TIME_TO_LIVE] = 64;
     out[layout::IPV4_PROTOCOL] = measurement::UDP_PROTOCOL;
-    out[layout::IPV4_HEADER_CHECKSUM] = field::high(checksum);
-    out[layout::IPV4_HEADER_CHECKSUM + 1] = field::low(checksum);
+    out[layout::IPV4_HEADER_CHECKSUM] = 0;
+    out[layout::IPV4_HEADER_CHECKSUM + 1] = 0;
+    // Source Address
     out[layout::IPV4_SOURCE_ADDRESS] = src[0];
     out[layout::IPV4_SOURCE_ADDRESS + 1] = src[1];
     out[layout::IPV4_SOURCE_ADDRESS + 2] = src[2];
     out[layout::IPV4_SOURCE_ADDRESS + 3] = src[3];
+    // Destination Address
     out[layout::IPV4_DESTINATION_ADDRESS] = dst[0];
     out[layout::IPV4_DESTINATION_ADDRESS + 1] = dst[1];
     out[layout::IPV4_DESTINATION_ADDRESS + 2] = dst[2];
     out[layout::IPV4_DESTINATION_ADDRESS + 3] = dst[3];
+    // The sum of these fields, taken from their values; then the Header Checksum.
+    let sum = checksum::fold_u64(IPV4_MORE + pseudo);
+    let checksum = 65535 - sum;
+    out[layout::IPV4_HEADER_CHECKSUM] = field::high(checksum);
+    out[layout::IPV4_HEADER_CHECKSUM + 1] = field::low(checksum);
 }
 
 // Copies `bytes` to the place `at` of `out`.

@@ -7,15 +7,6 @@ use borrow.Author.Needs.{needs}
 use Rattle.measurement_build.proofs.write_ipv4_header.Statement.{statement}
 use Rattle.measurement_build.proofs.write_ipv4_header.Tie as tie
 
-add-fold-u64 : tie.Need-add-fold-u64
-add-fold-u64 c = search needs
-
-fold-u64-requires : tie.Need-fold-u64-requires
-fold-u64-requires c κs = search needs
-
-sub-checksum : tie.Need-sub-checksum
-sub-checksum c = search needs
-
 slice-write-out : tie.Need-slice-write-out
 slice-write-out c = search needs
 
@@ -55,14 +46,8 @@ slice-write-out-9 c = simp length-set (omega arith)
 slice-write-out-10 : tie.Need-slice-write-out-10
 slice-write-out-10 c = simp length-set (omega arith)
 
-high-requires : tie.Need-high-requires
-high-requires c κs = search needs
-
 slice-write-out-11 : tie.Need-slice-write-out-11
 slice-write-out-11 c = simp length-set (omega arith)
-
-low-requires : tie.Need-low-requires
-low-requires c κs = search needs
 
 add-out-4 : tie.Need-add-out-4
 add-out-4 c = search needs
@@ -136,6 +121,30 @@ add-out-10 c = search needs
 slice-write-out-20 : tie.Need-slice-write-out-20
 slice-write-out-20 c = simp length-set (omega arith)
 
+add-fold-u64 : tie.Need-add-fold-u64
+add-fold-u64 c = search needs
+
+fold-u64-requires : tie.Need-fold-u64-requires
+fold-u64-requires c κs = search needs
+
+sub-checksum : tie.Need-sub-checksum
+sub-checksum c = search needs
+
+high-requires : tie.Need-high-requires
+high-requires c κs = search needs
+
+slice-write-out-21 : tie.Need-slice-write-out-21
+slice-write-out-21 c = simp length-set (omega arith)
+
+low-requires : tie.Need-low-requires
+low-requires c κs = search needs
+
+add-out-11 : tie.Need-add-out-11
+add-out-11 c = search needs
+
+slice-write-out-22 : tie.Need-slice-write-out-22
+slice-write-out-22 c = simp length-set (omega arith)
+
 same-length : tie.Need-same-length
 same-length c = simp length-set
 
@@ -151,9 +160,6 @@ pub write-ipv4-header-spec : {M : Type 1} → statement M
 write-ipv4-header-spec =
     tie.close
     (tie.spec
-    add-fold-u64
-    fold-u64-requires
-    sub-checksum
     slice-write-out
     slice-write-out-2
     slice-write-out-3
@@ -167,9 +173,7 @@ write-ipv4-header-spec =
     slice-write-out-8
     slice-write-out-9
     slice-write-out-10
-    high-requires
     slice-write-out-11
-    low-requires
     add-out-4
     slice-write-out-12
     array-read-out
@@ -194,5 +198,13 @@ write-ipv4-header-spec =
     array-read-out-8
     add-out-10
     slice-write-out-20
+    add-fold-u64
+    fold-u64-requires
+    sub-checksum
+    high-requires
+    slice-write-out-21
+    low-requires
+    add-out-11
+    slice-write-out-22
     same-length
     returns)
