@@ -1,10 +1,9 @@
 -- The headers and the segment, as the code writes them, are those of the definitions.
-use Prim.Native.Nat.{ℕ, _+_, _-_, _/_, _%_, _^_, _≤_}
+use Prim.Native.Nat.{ℕ, _+_, _-_, _/_, _%_, _^_}
 use native.Mathlib.Omega.{arith}
 use mathlib.Core.Path.{_≡_, refl, ap, ap₂, _∙_}
 use mathlib.Core.List.{List, [], _∷_, _++_}
 use lib.ListN.{length, getD, take, drop}
-use lib.Seq.{sets, sets-eq}
 use borrow.Author.Tests.{eq-eqb, ne-eqb}
 use Rattle.field.specs.Field.{bytesAt}
 use Rattle.field.proofs.Fields.{whole-bytes}
@@ -15,20 +14,19 @@ use Rattle.measurement_packet.specs.Packet.{ipv4Header, ipv6, nonzero, udpSegme
 use Rattle.measurement.proofs.Pseudo.{Folds}
 use Rattle.measurement_build.specs.Segment.{segmentOver}
 
--- the IPv4 header: 20 stores, with 0 for both bytes of its checksum, and then these two
-abbrev stored : ℕ → ℕ → List ℕ → List ℕ → List ℕ
-stored h l s d =
+-- the IPv4 header byte by byte, with the two bytes of its checksum
+abbrev headerBytes : ℕ → ℕ → List ℕ → List ℕ → List ℕ
+headerBytes h l s d =
     0x45 ∷ 0 ∷ 0 ∷ 52 ∷ 0 ∷ 0 ∷ 0 ∷ 0 ∷ 64 ∷ 17 ∷ h ∷ l
     ∷ getD s 0 0 ∷ getD s 1 0 ∷ getD s 2 0 ∷ getD s 3 0 ∷ getD d 0 0 ∷ getD d 1 0 ∷ getD d 2 0 ∷ getD d 3 0 ∷ []
 
-pub ipv4-stored : (s d out : List ℕ) (sum f h l : ℕ) → 20 ≤ length out → f ≡ foldOf sum
+pub ipv4-bytes : (s d rest : List ℕ) (sum f h l : ℕ) → f ≡ foldOf sum
     → h ≡ (65535 - f) / 256 ^ 1 % 256 → l ≡ (65535 - f) / 256 ^ 0 % 256
-    → sets (sets out 0 (stored 0 0 s d)) 10 (h ∷ l ∷ []) ≡ ipv4Header (65535 - foldOf sum) (bytesAt 4 0 s) (bytesAt 4 0 d) ++ drop 20 out
+    → headerBytes h l s d ++ rest ≡ ipv4Header (65535 - foldOf sum) (bytesAt 4 0 s) (bytesAt 4 0 d) ++ rest
 unfolding ipv4Header
-ipv4-stored s d out sum f h l fits ef eh el =
-    ap (λ (xs : List ℕ). sets xs 10 (h ∷ l ∷ [])) (sets-eq (stored 0 0 s d) out 0 fits)
-    ∙ ap₂ (λ (h l : ℕ). stored h l s d ++ drop 20 out) eh el
-    ∙ ap (λ (n : ℕ). stored ((65535 - n) / 256 ^ 1 % 256) ((65535 - n) / 256 ^ 0 % 256) s d ++ drop 20 out) ef
+ipv4-bytes s d rest sum f h l ef eh el =
+    ap₂ (λ (h l : ℕ). headerBytes h l s d ++ rest) eh el
+    ∙ ap (λ (n : ℕ). headerBytes ((65535 - n) / 256 ^ 1 % 256) ((65535 - n) / 256 ^ 0 % 256) s d ++ rest) ef
 
 -- the IPv6 header: its first 8 bytes, then the addresses
 abbrev first : List ℕ

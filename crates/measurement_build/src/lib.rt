@@ -21,8 +21,8 @@ const IPV4_MORE: u64 = 0x4500 + 52 + 0x4011 - (measurement::UDP_PROTOCOL as u64)
 // The sum of the words that every UDP segment has: the length, and the probe's tag.
 const UDP_SAME: u64 = 32 + 0x4f50 + 0x4344 + 0x5054 + 0x4b31;
 
-// The IPv4 header, row by row of the diagram in RFC 791, section 3.1, whose names the comments have. `pseudo`, added to
-// any sum, folds to the same as the words of the pseudo-header.
+// The IPv4 header, row by row as in the diagram of RFC 791, section 3.1; the comments name the fields as it does. There
+// are no Options. `pseudo`, added to any sum, folds to the same as the words of the pseudo-header.
 fn write_ipv4_header(pseudo: u64, src: [u8; 16], dst: [u8; 16], out: &mut [u8])
     requires { ⌜ (20 ≤ length (now out)) × (pseudo < 2 ^ 36) ⌝ }
     ensures { λ _. ⌜ now (out .exit)
@@ -54,7 +54,7 @@ fn write_ipv4_header(pseudo: u64, src: [u8; 16], dst: [u8; 16], out: &mut [u8])
     out[layout::IPV4_DESTINATION_ADDRESS + 1] = dst[1];
     out[layout::IPV4_DESTINATION_ADDRESS + 2] = dst[2];
     out[layout::IPV4_DESTINATION_ADDRESS + 3] = dst[3];
-    // The sum of these fields, taken from their values; then the Header Checksum.
+    // The sum of these fields, from their values: `IPV4_MORE + pseudo` folds to it. Then the Header Checksum.
     let sum = checksum::fold_u64(IPV4_MORE + pseudo);
     let checksum = 65535 - sum;
     out[layout::IPV4_HEADER_CHECKSUM] = field::high(checksum);

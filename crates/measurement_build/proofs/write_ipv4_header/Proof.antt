@@ -1,8 +1,9 @@
 -- `measurement_build::write_ipv4_header` meets its contract.
 use Prim.Native.Nat.{_+_}
 use native.Mathlib.Omega.{arith}
-use lib.ListN.{length-set}
-use Rattle.measurement_build.proofs.Headers.{ipv4-stored}
+use lib.ListN.{drop, length-set}
+use Rattle.field.proofs.Fields.{split-off}
+use Rattle.measurement_build.proofs.Headers.{ipv4-bytes}
 use borrow.Author.Needs.{needs}
 use Rattle.measurement_build.proofs.write_ipv4_header.Statement.{statement}
 use Rattle.measurement_build.proofs.write_ipv4_header.Tie as tie
@@ -148,13 +149,15 @@ slice-write-out-22 c = simp length-set (omega arith)
 same-length : tie.Need-same-length
 same-length c = simp length-set
 
+-- with the first 20 bytes taken one by one, the stores compute, whatever order they stand in
 returns : tie.Need-returns
 returns c =
     let at-fold = c .before .before in
     let start = at-fold .before .before in
     let a = start .args in
-    ipv4-stored (a .t2) (a .t3) (a .out .now) (0x8514 + a .pseudo) (at-fold .fold-u64 .result) (c .before .high .result) (c .low .result) (start .pre .0)
-    (at-fold .fold-u64 .ensures) (c .before .high .ensures) (c .low .ensures)
+    rw (split-off 20 0 (a .out .now) (start .pre .0))
+    (ipv4-bytes (a .t2) (a .t3) (drop 20 (a .out .now)) (0x8514 + a .pseudo) (at-fold .fold-u64 .result) (c .before .high .result) (c .low .result)
+    (at-fold .fold-u64 .ensures) (c .before .high .ensures) (c .low .ensures))
 
 pub write-ipv4-header-spec : {M : Type 1} → statement M
 write-ipv4-header-spec =
