@@ -108,7 +108,7 @@
  * three parts alike. From one version to the next, MAJOR rises where a program may have to be changed; otherwise MINOR,
  * where something was added (a call, a number, a field) and a program need only be compiled again; otherwise PATCH.
  */
-#define TESTKIT_VERSION_MAJOR 2
+#define TESTKIT_VERSION_MAJOR 3
 #define TESTKIT_VERSION_MINOR 0
 #define TESTKIT_VERSION_PATCH 0
 #define TESTKIT_VERSION (TESTKIT_VERSION_MAJOR * 65536 + TESTKIT_VERSION_MINOR * 256 + TESTKIT_VERSION_PATCH)
@@ -177,7 +177,8 @@ enum testkit_number {
     TESTKIT_REFLECTOR_SESSION_CAPACITY_EXCEEDED = 34,
     TESTKIT_ECHO_REQUEST_TEID_NOT_ZERO = 35,
     TESTKIT_ECHO_REQUEST_MISSING_SEQUENCE = 36,
-    TESTKIT_UNSUPPORTED_MESSAGE_TYPE = 37
+    TESTKIT_UNSUPPORTED_MESSAGE_TYPE = 37,
+    TESTKIT_TRUNCATED_IPV4_UDP_PACKET = 39
 };
 
 /* The cause of a number in words, as the card has it: for a log. */
@@ -188,7 +189,7 @@ static inline const char *testkit_number_text(uint8_t number)
     case TESTKIT_TRUNCATED_IP_HEADER: return "T-PDU empty";
     case TESTKIT_UNSUPPORTED_IP_VERSION: return "version not 4 or 6";
     case TESTKIT_TRUNCATED_IPV4_HEADER: return "IPv4 under 20 bytes";
-    case TESTKIT_INVALID_IPV4_IHL: return "IHL under 5, or bytes under IHL * 4 + 8";
+    case TESTKIT_INVALID_IPV4_IHL: return "IHL under 5";
     case TESTKIT_INVALID_IPV4_TOTAL_LENGTH: return "total length under IHL * 4 + 8 or past the input";
     case TESTKIT_PAYLOAD_IS_NOT_UDP: return "protocol not 17";
     case TESTKIT_INVALID_IPV4_HEADER_CHECKSUM: return "IPv4 header checksum";
@@ -223,6 +224,7 @@ static inline const char *testkit_number_text(uint8_t number)
     case TESTKIT_ECHO_REQUEST_TEID_NOT_ZERO: return "Echo Request TEID not 0";
     case TESTKIT_ECHO_REQUEST_MISSING_SEQUENCE: return "Echo Request without sequence";
     case TESTKIT_UNSUPPORTED_MESSAGE_TYPE: return "other message type";
+    case TESTKIT_TRUNCATED_IPV4_UDP_PACKET: return "input shorter than IHL * 4 + 8 bytes";
     default: return "no number of the card";
     }
 }
@@ -328,9 +330,9 @@ struct testkit_tpdu {
  * Reads the T-PDU of a probe. `src` and `dst` get the addresses, an IPv4 address with 12 zeros behind it; on a refusal
  * they stay as they were.
  * Refuses by TESTKIT_TRUNCATED_IP_HEADER (1), TESTKIT_UNSUPPORTED_IP_VERSION (2); then, of IPv4,
- *   TESTKIT_TRUNCATED_IPV4_HEADER (3), TESTKIT_INVALID_IPV4_IHL (4), TESTKIT_INVALID_IPV4_TOTAL_LENGTH (5),
- *   TESTKIT_PAYLOAD_IS_NOT_UDP (6), TESTKIT_INVALID_IPV4_HEADER_CHECKSUM (7), TESTKIT_INVALID_UDP_LENGTH (10),
- *   TESTKIT_INVALID_UDP_CHECKSUM (12);
+ *   TESTKIT_TRUNCATED_IPV4_HEADER (3), TESTKIT_INVALID_IPV4_IHL (4), TESTKIT_TRUNCATED_IPV4_UDP_PACKET (39),
+ *   TESTKIT_INVALID_IPV4_TOTAL_LENGTH (5), TESTKIT_PAYLOAD_IS_NOT_UDP (6), TESTKIT_INVALID_IPV4_HEADER_CHECKSUM (7),
+ *   TESTKIT_INVALID_UDP_LENGTH (10), TESTKIT_INVALID_UDP_CHECKSUM (12);
  * of IPv6,
  *   TESTKIT_TRUNCATED_IPV6_UDP_PACKET (8), TESTKIT_PAYLOAD_IS_NOT_UDP (6), TESTKIT_INVALID_IPV6_PAYLOAD_LENGTH (9),
  *   TESTKIT_IPV6_UDP_CHECKSUM_IS_ZERO (11), TESTKIT_INVALID_UDP_CHECKSUM (12), TESTKIT_INVALID_UDP_LENGTH (10);

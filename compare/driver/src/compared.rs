@@ -2,17 +2,31 @@
 //! driver what crates/rust_reference/specs/Compared.antt is for the claims. A change that makes the
 //! readers differ is stated here and there, and nowhere else.
 
+use crate::numbers::{INVALID_IPV4_IHL, TRUNCATED_IPV4_UDP_PACKET};
 use crate::ours::{Values, Written};
 use crate::ours_reflector::{Handled, Registered};
 use crate::ours_traffic::Noted;
+use crate::packet::ipv4_ihl;
 use crate::part::Part;
 use crate::rust_side::measurement::decode;
 use crate::rust_side::Outcome;
 
-/// `asTheRustTells`: a number of ours, as the Rust tells refusals apart. Each is compared as itself:
-/// no two of ours are one error of the Rust.
+/// `asTheRustTells`: a number of ours, as the Rust tells refusals apart. 39 is compared as 4, since the
+/// Rust has one text for both (document 02, job 3), and every other number as itself.
 pub fn as_the_rust_tells(number: u8) -> u8 {
-    number
+    match number {
+        TRUNCATED_IPV4_UDP_PACKET => INVALID_IPV4_IHL,
+        _ => number,
+    }
+}
+
+/// The number by which ours has to refuse a T-PDU that the Rust's reader refuses by `rust`: document 02,
+/// job 3, tells apart what the Rust does not. "Number 4 keeps the IHL below 5."
+pub fn told_apart(tpdu: &[u8], rust: u8) -> u8 {
+    match rust {
+        INVALID_IPV4_IHL if ipv4_ihl(tpdu) >= 5 => TRUNCATED_IPV4_UDP_PACKET,
+        _ => rust,
+    }
 }
 
 /// `Compared`: whether a T-PDU is compared. Every one is, whatever its bytes and its length. It is

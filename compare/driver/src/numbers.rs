@@ -1,4 +1,4 @@
-//! The numbers of document 01 ("The card in the pouch"), under the names that crates/error gives them;
+//! The numbers of document 01 ("The card in the pouch") and of document 02, under the names that crates/error gives them;
 //! which of them each of our calls answers; and from the Rust's errors to these numbers. `.ci/card`
 //! holds the constants and each list to the crates.
 
@@ -45,6 +45,7 @@ pub const REFLECTOR_SESSION_CAPACITY_EXCEEDED: u8 = 34;
 pub const ECHO_REQUEST_TEID_NOT_ZERO: u8 = 35;
 pub const ECHO_REQUEST_MISSING_SEQUENCE: u8 = 36;
 pub const UNSUPPORTED_MESSAGE_TYPE: u8 = 37;
+pub const TRUNCATED_IPV4_UDP_PACKET: u8 = 39;
 
 /// The card's numbers, in its order.
 pub const CARD: &[u8] = &[
@@ -85,6 +86,7 @@ pub const CARD: &[u8] = &[
     ECHO_REQUEST_TEID_NOT_ZERO,
     ECHO_REQUEST_MISSING_SEQUENCE,
     UNSUPPORTED_MESSAGE_TYPE,
+    TRUNCATED_IPV4_UDP_PACKET,
 ];
 
 /// What a reader of T-PDUs answers.
@@ -103,6 +105,7 @@ pub const READING: &[u8] = &[
     INVALID_UDP_CHECKSUM,
     TRUNCATED_MEASUREMENT_HEADER,
     MEASUREMENT_MAGIC_MISMATCH,
+    TRUNCATED_IPV4_UDP_PACKET,
 ];
 
 /// What it judges before it knows the IP version, and for each version, in the order of judging.
@@ -110,6 +113,7 @@ pub const READING_EITHER: &[u8] = &[TRUNCATED_IP_HEADER, UNSUPPORTED_IP_VERSION]
 pub const READING_IPV4: &[u8] = &[
     TRUNCATED_IPV4_HEADER,
     INVALID_IPV4_IHL,
+    TRUNCATED_IPV4_UDP_PACKET,
     INVALID_IPV4_TOTAL_LENGTH,
     PAYLOAD_IS_NOT_UDP,
     INVALID_IPV4_HEADER_CHECKSUM,

@@ -11,10 +11,15 @@ pub fn version(tpdu: &[u8]) -> u8 {
     tpdu.first().map_or(0, |byte| byte >> 4)
 }
 
+/// The lower four bits of byte 0: in IPv4, how many words of 4 bytes the header has.
+pub fn ipv4_ihl(tpdu: &[u8]) -> usize {
+    usize::from(tpdu[0] & 0x0f)
+}
+
 /// Where the UDP part starts: after the IPv4 header and its options, or the IPv6 header.
 pub fn part_at(tpdu: &[u8]) -> usize {
     match version(tpdu) {
-        4 => 4 * usize::from(tpdu[0] & 0x0f),
+        4 => 4 * ipv4_ihl(tpdu),
         _ => 40,
     }
 }

@@ -10,6 +10,9 @@ use crate::rust_side::measurement::{build, Flow, Probe};
 const UDP_LENGTH: usize = 32;
 const UDP_HEADER: usize = 8;
 
+/// More bytes than the longest IPv4 header and a UDP header have.
+const FEW: usize = 72;
+
 /// The longest that a length field can say.
 const MOST: usize = 65_535;
 
@@ -26,13 +29,21 @@ struct Extra {
     unsummed: bool,
 }
 
-/// Calls `each` with every list of up to 2 bytes; with some packets, cut at every length and
-/// with every value of their words and lengths; and with random packets and random bytes.
+/// Calls `each` with every list of up to 2 bytes; with every first byte before every number of bytes
+/// up to `FEW`; with some packets, cut at every length and with every value of their words and
+/// lengths; and with random packets and random bytes.
 pub fn each_wild(seed: u64, rounds: u64, mut each: impl FnMut(&[u8])) {
     let all: Vec<u8> = (0..=0xff).collect();
     each_list(&all, 0..=2, &mut each);
 
     let mut random = Random::new(seed);
+    for first in 0..=0xff {
+        let mut packet = random.bytes(1 + FEW);
+        packet[0] = first;
+        for length in 1..=packet.len() {
+            each(&packet[..length]);
+        }
+    }
     for packet in some_packets(&mut random) {
         for length in 0..packet.len() {
             each(&packet[..length]);

@@ -1,8 +1,8 @@
 // The names of the card's numbers (docs/CARD.md), printed. `.ci/card` checks them against the list of the crate
 // `error`.
 
-// The names, in the order of the numbers, from 0; a space ends each.
-const NAMES: [u8; 886] =
+// The names, in the order of the numbers, from 0; a space ends each. A number that the card does not have is `-`.
+const NAMES: [u8; 914] =
     *b"ACCEPTED TRUNCATED_IP_HEADER UNSUPPORTED_IP_VERSION TRUNCATED_IPV4_HEADER INVALID_IPV4_IHL \
     INVALID_IPV4_TOTAL_LENGTH PAYLOAD_IS_NOT_UDP INVALID_IPV4_HEADER_CHECKSUM TRUNCATED_IPV6_UDP_PACKET \
     INVALID_IPV6_PAYLOAD_LENGTH INVALID_UDP_LENGTH IPV6_UDP_CHECKSUM_IS_ZERO INVALID_UDP_CHECKSUM \
@@ -12,7 +12,7 @@ const NAMES: [u8; 886] =
     UNSUPPORTED_FIXED_LENGTH_ELEMENT MISSING_TEID_DATA_I MISSING_PEER_ADDRESS INVALID_REFLECTOR_CAPACITY \
     MALFORMED_REFLECTOR_TABLE INVALID_REFLECTOR_SESSION REFLECTOR_SESSION_CONFLICT \
     REFLECTOR_SESSION_CAPACITY_EXCEEDED ECHO_REQUEST_TEID_NOT_ZERO ECHO_REQUEST_MISSING_SEQUENCE \
-    UNSUPPORTED_MESSAGE_TYPE ";
+    UNSUPPORTED_MESSAGE_TYPE - TRUNCATED_IPV4_UDP_PACKET ";
 
 pub fn print_name(number: u8) {
     text::print(text::item(&NAMES, number as usize));

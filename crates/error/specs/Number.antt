@@ -1,4 +1,4 @@
--- The causes of refusal and their numbers: document 01's card, row by row, in its words.
+-- The causes of refusal and their numbers: document 01's card, row by row, in its words; then document 02's.
 -- "Added" is the card's own mark: the Rust has no such refusal.
 use Prim.Native.Nat.{ℕ}
 use mathlib.Core.List.{List, [], _∷_}
@@ -15,7 +15,7 @@ unsupportedIpVersion = 2
 abbrev pub truncatedIpv4Header : ℕ
 truncatedIpv4Header = 3
 
--- IHL under 5, or bytes under IHL × 4 + 8
+-- IHL under 5: "Number 4 keeps the IHL below 5" (document 02, job 3)
 abbrev pub invalidIpv4Ihl : ℕ
 invalidIpv4Ihl = 4
 
@@ -151,6 +151,10 @@ echoRequestMissingSequence = 36
 abbrev pub unsupportedMessageType : ℕ
 unsupportedMessageType = 37
 
+-- input shorter than IHL × 4 + 8 bytes (document 02, job 3)
+abbrev pub truncatedIpv4UdpPacket : ℕ
+truncatedIpv4UdpPacket = 39
+
 -- all of them, in the order of the card
 abbrev pub numbersOf : List ℕ
 numbersOf =
@@ -191,4 +195,5 @@ numbersOf =
     ∷ echoRequestTeidNotZero
     ∷ echoRequestMissingSequence
     ∷ unsupportedMessageType
+    ∷ truncatedIpv4UdpPacket
     ∷ []

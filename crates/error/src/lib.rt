@@ -1,6 +1,7 @@
-// The refusal codes: document 01's card of numbers (leaf 1). Where the Rust's error.rs has an enum with texts, each
-// cause here is its number, named in the Rust's words where it has any. specs/Number.antt says what each number means,
-// and `numbers` proves that the two lists agree. Numbers up to 50 are kept for this list.
+// The refusal codes: document 01's card of numbers (leaf 1), and from 38 on the new numbers of document 02. Where the
+// Rust's error.rs has an enum with texts, each cause here is its number, named in the Rust's words where it has any.
+// specs/Number.antt says what each number means, and `numbers` proves that the two lists agree. Numbers up to 50 are
+// kept for this list.
 ghost use mathlib.Core.Path.{_≡_};
 ghost use Rattle.error.specs.Number.{numbersOf};
 
@@ -78,8 +79,10 @@ pub const ECHO_REQUEST_MISSING_SEQUENCE: u8 = 36;
 
 pub const UNSUPPORTED_MESSAGE_TYPE: u8 = 37;
 
+pub const TRUNCATED_IPV4_UDP_PACKET: u8 = 39;
+
 // Every refusal code, in the order of the card.
-pub fn numbers() -> [u8; 37]
+pub fn numbers() -> [u8; 38]
     ensures { λ r. ⌜ r ≡ numbersOf ⌝ }
 {
     [
@@ -120,5 +123,6 @@ pub fn numbers() -> [u8; 37]
         ECHO_REQUEST_TEID_NOT_ZERO,
         ECHO_REQUEST_MISSING_SEQUENCE,
         UNSUPPORTED_MESSAGE_TYPE,
+        TRUNCATED_IPV4_UDP_PACKET,
     ]
 }

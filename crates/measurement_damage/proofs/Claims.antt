@@ -67,7 +67,7 @@ reversed-in-range g = record {
 pub echo-alone : (f : InnerIpFlow) (s t : ℕ) → InRange f s t → echoOf (buildOf f s t) ≡ gives (buildOf (reversedOf f) s t)
 echo-alone f s t g = ap echoOf (sym (append-nil (buildOf f s t))) ∙ echo-is-reversed f s t g []
 
-echo-refused : (b : List ℕ) (n : ℕ) → readOf b ≡ refused n → echoOf b ≡ refused n
+pub echo-refused : (b : List ℕ) (n : ℕ) → readOf b ≡ refused n → echoOf b ≡ refused n
 unfolding echoOf
 echo-refused b n e = rw (e, echoOf)
 

@@ -22,7 +22,7 @@ use Rattle.measurement_reading.specs.Read.{payload, lengthWrong, covered, sumWr
 use Rattle.measurement.proofs.Pseudo.{pseudo-even}
 use Rattle.measurement_packet.proofs.Built.{packet, segment-length, segment-verifies, segment-checksum-not-0, ipv4-verifies}
 use Rattle.measurement_reading.proofs.Rows.{udp4-rows, udp4-past-10, udp4-past-12, udp6-rows, udp6-past-11, udp6-past-12, udp6-past-10}
-use Rattle.measurement_reading.proofs.Rows.{ipv4-rows, past-3, past-4, past-5, past-6-ipv4, past-7, rest-ipv4}
+use Rattle.measurement_reading.proofs.Rows.{ipv4-rows, past-3, past-4, past-39, past-5, past-6-ipv4, past-7, rest-ipv4}
 use Rattle.measurement_reading.proofs.Rows.{ipv6-rows, past-8, past-6-ipv6, past-9, rest-ipv6, tpdu-rows, past-1, past-2-ipv4, past-2-ipv6}
 
 -- the UDP length of a built segment
@@ -101,7 +101,8 @@ module _ (S D : List ℕ) (sport dport s t : ℕ) (hs : sport < 65536) (hd : dpo
       let p = packet V4 S D sport dport s t ++ behind in
       let sum : 0 ≡ checksumOf (ipv4 (bytesAt 4 0 S) (bytesAt 4 0 D)) = checksum-0 (ipv4 (bytesAt 4 0 S) (bytesAt 4 0 D)) (ipv4-verifies S D) in
       let left-4 = past-3 p (ipv4-rows p) (omega arith) in
-      let left-5 = past-4 p {k = 5} refl left-4 (omega arith) (omega arith) in
+      let left-39 = past-4 p {k = 5} refl left-4 (omega arith) in
+      let left-5 = past-39 p {k = 5} refl left-39 (omega arith) in
       let left-6 = past-5 p {k = 5} refl {n = 52} refl left-5 (omega arith) (omega arith) in
       let left-7 = past-6-ipv4 p left-6 refl in
       let left-0 = past-7 p {k = 5} refl {s = 0} sum left-7 refl in

@@ -182,7 +182,7 @@ fn judge_ipv4(tpdu: &[u8]) -> u8
     }
     let start = ihl * 4;
     if tpdu.len() < start + layout::UDP_HEADER_BYTES {
-        return error::INVALID_IPV4_IHL;
+        return error::TRUNCATED_IPV4_UDP_PACKET;
     }
     let end = read_u16(&tpdu[..], layout::IPV4_TOTAL_LENGTH) as usize;
     if end < start + layout::UDP_HEADER_BYTES {

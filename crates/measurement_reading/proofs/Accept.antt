@@ -8,13 +8,14 @@ use lib.Dec.{ltb, eqb}
 use lib.ListN.{length, take, drop, getD}
 use borrow.Author.Tests.{ltb-false, eqb-true, not-false}
 use Rattle.error.specs.Outcome.{Outcome, refused, gives, outcomeNumber}
-use Rattle.error.proofs.Causes.{passed, passes-from, first-false, refused-gives, not-by}
+use Rattle.error.proofs.Causes.{passed, passes-from, first-false}
 use Rattle.error.proofs.Tests.{or-neither, true-not-false}
 use Rattle.field.specs.Field.{bytesAt, field}
 use Rattle.measurement.specs.declared.DecodedTpdu.{DecodedTpdu}
 use Rattle.measurement.specs.declared.IpVersion.{IpVersion}
 use Rattle.measurement.specs.declared.IpVersion.the-variants.{V4, V6}
 use Rattle.measurement_reading.specs.Read.{payload, lengthWrong, sumWrong, probeCauses, udpCauses, tpduOf, readProbe, readUdp, ihl, ipv4Causes, readIpv4, ipv6Causes, readIpv6, tpduCauses, readOf}
+use Rattle.measurement_reading.proofs.Numbers.{read-by}
 
 -- a UDP part that was accepted
 pub record Part (v : IpVersion) (src dst u : List ℕ) (r : DecodedTpdu) : Type 0 where
@@ -62,9 +63,9 @@ module _ (p : List ℕ) (r : DecodedTpdu) where
   unfolding readIpv4 ipv4Causes
   ipv4-accepted e =
       let q = passed _ _ r e in
-      let a = or-neither (ltb (ihl p) 5) (ltb (length p) (ihl p * 4 + 8)) (first-false (passes-from 4 (q .0))) in
+      let a = first-false (passes-from 4 (q .0)) in
       let b = or-neither (ltb (field 2 2 p) (ihl p * 4 + 8)) (ltb (length p) (field 2 2 p)) (first-false (passes-from 5 (q .0))) in
-      record { low = ltb-false _ _ (a .0); fits = ltb-false _ _ (b .0); within = ltb-false _ _ (b .1); part = q .1 }
+      record { low = ltb-false _ _ a; fits = ltb-false _ _ (b .0); within = ltb-false _ _ (b .1); part = q .1 }
 
   ipv6-accepted : readIpv6 p ≡ gives r → Accepted6 p r
   unfolding readIpv6 ipv6Causes
@@ -87,18 +88,8 @@ module _ (p : List ℕ) (r : DecodedTpdu) where
       go false false ea eb n f = absurd (true-not-false n)
 
 -- no T-PDU is refused by 0, so one whose number is 0 was read
-part-by-zero : (v : IpVersion) (src dst u : List ℕ) → readUdp v src dst u ≡ refused 0 → ⊥
-unfolding readUdp udpCauses readProbe probeCauses
-part-by-zero V4 src dst u = not-by 0 (udpCauses V4 src dst u) _ refl (not-by 0 (probeCauses (payload u)) _ refl (λ e. refused-gives (sym e)))
-part-by-zero V6 src dst u = not-by 0 (udpCauses V6 src dst u) _ refl (not-by 0 (probeCauses (payload u)) _ refl (λ e. refused-gives (sym e)))
-
 pub read-by-zero : (p : List ℕ) → readOf p ≡ refused 0 → ⊥
-unfolding readOf tpduCauses readIpv4 ipv4Causes readIpv6 ipv6Causes
-read-by-zero p = not-by 0 (tpduCauses p) _ refl (either (eqb (getD p 0 0 / 16) 4))
-  where
-    either : (b : Bool) → _≡_ {A = Outcome DecodedTpdu} (elim b [ true ↦ readIpv4 p | false ↦ readIpv6 p ]) (refused 0) → ⊥
-    either true = not-by 0 (ipv4Causes p) _ refl (part-by-zero V4 _ _ _)
-    either false = not-by 0 (ipv6Causes p) _ refl (part-by-zero V6 _ _ _)
+read-by-zero p e = true-not-false (sym (read-by p 0 e))
 
 pub record Given (p : List ℕ) : Type 0 where
   pub tpdu : DecodedTpdu

@@ -1,3 +1,5 @@
 -- The laws of reading.
 pub mod Rows
+pub mod Numbers
 pub mod Accept
+pub mod Claims

@@ -133,7 +133,7 @@ module _ (src dst u : List ℕ) where
   udp6-past-10 left h = all-passed (goes-on left h)
 
 module _ (p : List ℕ) where
-  -- IPv4: 3, 4, 5, 6, 7
+  -- IPv4: 3, 4, 39, 5, 6, 7
   abbrev onward4 : Outcome DecodedTpdu
   onward4 = readUdp V4 (bytesAt 4 12 p) (bytesAt 4 16 p) (take (field 2 2 p - ihl p * 4) (drop (ihl p * 4) p))
 
@@ -154,23 +154,21 @@ module _ (p : List ℕ) where
 
   -- k is the IHL, and n the total length, as code has read them
   module _ {k : ℕ} (ek : k ≡ ihl p) where
-    abbrev low-ihl : Bool
-    low-ihl = ltb (ihl p) 5
-
-    abbrev cut-header : Bool
-    cut-header = ltb (length p) (ihl p * 4 + 8)
-
-    pub row-4-low : LeftIpv4 4 → k < 5 → refused 4 ≡ readIpv4 p
+    pub row-4 : LeftIpv4 4 → k < 5 → refused 4 ≡ readIpv4 p
     unfolding ipv4Causes
-    row-4-low left h = stops left (or-left low-ihl cut-header (lt-ltb (ihl p) 5 (omega arith)))
+    row-4 left h = stops left (lt-ltb (ihl p) 5 (omega arith))
 
-    pub row-4-cut : LeftIpv4 4 → length p < k * 4 + 8 → refused 4 ≡ readIpv4 p
+    pub past-4 : LeftIpv4 4 → 5 ≤ k → LeftIpv4 39
     unfolding ipv4Causes
-    row-4-cut left h = stops left (or-right low-ihl cut-header (lt-ltb (length p) (ihl p * 4 + 8) (omega arith)))
+    past-4 left h = goes-on left (le-ltb (ihl p) 5 (omega arith))
 
-    pub past-4 : LeftIpv4 4 → 5 ≤ k → k * 4 + 8 ≤ length p → LeftIpv4 5
+    pub row-39 : LeftIpv4 39 → length p < k * 4 + 8 → refused 39 ≡ readIpv4 p
     unfolding ipv4Causes
-    past-4 left h l = goes-on left (or-none low-ihl cut-header (le-ltb (ihl p) 5 (omega arith)) (le-ltb (length p) (ihl p * 4 + 8) (omega arith)))
+    row-39 left h = stops left (lt-ltb (length p) (ihl p * 4 + 8) (omega arith))
+
+    pub past-39 : LeftIpv4 39 → k * 4 + 8 ≤ length p → LeftIpv4 5
+    unfolding ipv4Causes
+    past-39 left h = goes-on left (le-ltb (length p) (ihl p * 4 + 8) (omega arith))
 
     module _ {n : ℕ} (en : n ≡ field 2 2 p) where
       abbrev low : Bool

@@ -1,2 +1,3 @@
 -- Reading a T-PDU.
 pub mod Read
+pub mod Claims

@@ -1,5 +1,6 @@
 -- Reading a T-PDU: document 01, leaf 4. Each cause of refusal is a row, and the rows stand in the order of that leaf:
 -- "IPv4 3, 4, 5, 6, 7, 10, 12, 13, 14; IPv6 8, 6, 9, 11, 12, 10, 13, 14. Number 1, then 2, come before both."
+-- Document 02, job 3, has 39 "directly after 4".
 use Prim.Native.Nat.{ℕ, _+_, _-_, _*_, _/_, _%_}
 use mathlib.Core.List.{List, [], _∷_, _++_}
 use mathlib.Core.Bool.{Bool, true, false, not, _||_, _&&_}
@@ -9,7 +10,7 @@ use Rattle.error.specs.Number.{truncatedIpHeader, unsupportedIpVersion, truncat
 use Rattle.error.specs.Number.{invalidIpv4TotalLength, payloadIsNotUdp, invalidIpv4HeaderChecksum}
 use Rattle.error.specs.Number.{truncatedIpv6UdpPacket, invalidIpv6PayloadLength, invalidUdpLength}
 use Rattle.error.specs.Number.{ipv6UdpChecksumIsZero, invalidUdpChecksum, truncatedMeasurementHeader}
-use Rattle.error.specs.Number.{measurementMagicMismatch}
+use Rattle.error.specs.Number.{measurementMagicMismatch, truncatedIpv4UdpPacket}
 use Rattle.error.specs.Outcome.{Outcome, gives, Cause, _⇒_, firstCause}
 use Rattle.field.specs.Field.{valueOf, bytesAt, field}
 use Rattle.checksum.specs.Sum.{checksumOf}
@@ -95,12 +96,13 @@ ihl tpdu = getD tpdu ipv4Ihl 0 % 16
 abbrev pub totalLength : List ℕ → ℕ
 totalLength tpdu = field 2 ipv4TotalLength tpdu
 
--- "IPv4 under 20 bytes; IHL under 5, or bytes under IHL × 4 + 8; total length under IHL × 4 + 8 or past the input",
--- "protocol not 17; IPv4 header checksum"
+-- "IPv4 under 20 bytes"; "IHL below 5", then "input shorter than IHL × 4 + 8 bytes" (document 02, job 3); "total length
+-- under IHL × 4 + 8 or past the input; protocol not 17; IPv4 header checksum"
 unfoldable pub ipv4Causes : List ℕ → List Cause
 ipv4Causes tpdu =
     (ltb (length tpdu) ipv4HeaderBytes ⇒ truncatedIpv4Header)
-    ∷ (ltb (ihl tpdu) 5 || ltb (length tpdu) (ihl tpdu * 4 + udpHeaderBytes) ⇒ invalidIpv4Ihl)
+    ∷ (ltb (ihl tpdu) 5 ⇒ invalidIpv4Ihl)
+    ∷ (ltb (length tpdu) (ihl tpdu * 4 + udpHeaderBytes) ⇒ truncatedIpv4UdpPacket)
     ∷ (ltb (totalLength tpdu) (ihl tpdu * 4 + udpHeaderBytes) || ltb (length tpdu) (totalLength tpdu)
     ⇒ invalidIpv4TotalLength)
     ∷ (not (eqb (getD tpdu ipv4Protocol 0) udpProtocol) ⇒ payloadIsNotUdp)

@@ -1,1 +1,13 @@
-// Reading a T-PDU (leaf 4): the definition is in specs/, and the call that reads one is in measurement_decode.
+// Reading a T-PDU (leaf 4): the definition is in specs/, and the call that reads one is in measurement_decode. What is
+// proved of its refusals (specs/Claims.antt) is on the contracts of functions that do nothing.
+ghost use Rattle.measurement_reading.specs.Claims.{ReadingNumbers, CutIsNot4, CutExamples};
+
+// Reading refuses by 1 to 14 or by 39.
+pub fn refuses_by_its_numbers()
+    ensures { λ _. ⌜ ReadingNumbers ⌝ }
+{}
+
+// A packet that is cut before its UDP header ends is told from one whose IHL is below 5.
+pub fn cut_is_not_ihl()
+    ensures { λ _. ⌜ CutIsNot4 × CutExamples ⌝ }
+{}

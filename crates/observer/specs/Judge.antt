@@ -39,7 +39,7 @@ abbrev pub refusing : Observer → ℕ → Step
 refusing o n = step o (judged o (refused n))
 
 -- A call that first reads its input; reading changes nothing. "A return is judged 21, 1 to 14, 23, 24": 21 comes before
--- the reader's refusal, and the call judges the rest.
+-- the reader's refusal, whichever it is, and the call judges the rest.
 abbrev pub afterReading : {A : Type 0} → Observer → Outcome A → (A → Step) → Step
 afterReading o (refused n) call = refusing o n
 afterReading o (gives x) call = call x

@@ -12,16 +12,18 @@ use borrow.Author.Tests.{eq-eqb}
 use Rattle.error.specs.Number.{outputTooShort, unsupportedMessageType}
 use Rattle.error.specs.Outcome.{Outcome, refused, gives}
 use Rattle.error.proofs.Causes.{refused-gives, not-by}
+use Rattle.error.proofs.Tests.{true-not-false}
 use Rattle.field.specs.Field.{bigEndian}
 use Rattle.field.proofs.Fields.{length-big-endian, length-bytesAt}
 use Rattle.measurement.specs.Flow.{addressLength, address, reversedOf}
 use Rattle.measurement.specs.declared.IpVersion.{IpVersion}
 use Rattle.measurement.specs.declared.IpVersion.the-variants.{V4, V6}
 use Rattle.measurement_packet.specs.Packet.{buildOf}
-use Rattle.measurement_reading.specs.Read.{payload as udpPayload, probeCauses, readProbe, udpCauses, readUdp, ipv4Causes, readIpv4, ipv6Causes, readIpv6, versionOf, tpduCauses, readOf}
+use Rattle.measurement_reading.specs.Read.{readOf}
+use Rattle.measurement_reading.proofs.Numbers.{read-by}
 use Rattle.measurement.specs.declared.DecodedTpdu.{DecodedTpdu}
 use Rattle.measurement_damage.specs.Echo.{echoOfTpdu, echoOf}
-use Rattle.measurement_damage.proofs.Claims.{reads-back, echo-is-reversed, reversed-in-range}
+use Rattle.measurement_damage.proofs.Claims.{reads-back, echo-is-reversed, echo-refused, reversed-in-range}
 use Rattle.gtpu.proofs.Claims.{error-indication-accepted}
 use Rattle.reflector_sessions.specs.Session.{valueOf}
 use Rattle.reflector_answer.specs.Answer.{written, Answer, Action, reflected, answer, gpduUnknown, gpduKnown, gpduOutcome, gpduAnswer, echoRequest, echoRequestOutcome, otherMessage, errorIndicationTo}
@@ -32,10 +34,11 @@ use Rattle.reflector_answer.specs.declared.MultiSessionReflectorConfig.{
 use Rattle.reflector_answer.specs.declared.ReflectorPolicy.{ReflectorPolicy}
 use Rattle.reflector_answer.specs.declared.ReflectorPolicy.the-variants.{Echo, SinkAndCount, Route}
 use Rattle.reflector_answer.specs.declared.ReflectorState.{ReflectorState}
+use Rattle.reflector_answer.specs.Handle.{placed}
 use Rattle.reflector_answer.proofs.Answers.{handling-short, handling-passed}
 use Rattle.reflector_answer.specs.declared.ReflectorSendReason.the-variants.{ReflectedGpdu, ErrorIndication}
 use Rattle.gtpu.specs.declared.SequenceNumber.the-variants.{Present, Absent}
-use Rattle.reflector_answer.specs.Claims.{IndicationAccepted, EchoReadsBack, LeastOutput}
+use Rattle.reflector_answer.specs.Claims.{oneMoreReceived, ReceivedHasRisen, IndicationAccepted, EchoReadsBack, LeastOutput}
 
 pub address-of : (v : IpVersion) (bytes : List ℕ) → (length (address v bytes) ≡ 4) ⊎ (length (address v bytes) ≡ 16)
 unfolding address addressLength
@@ -55,6 +58,13 @@ indication-accepted config state source message payload e = (
   },
   error-indication-accepted (bigEndian 4 (message .teid)) (address (source .version) (source .address)) (length-big-endian 4 (message .teid)) (address-of (source .version) (source .address)),
 )
+
+pub received-has-risen : ReceivedHasRisen
+unfolding answer gpduKnown gpduOutcome
+received-has-risen config state session source message payload output n g p e =
+    let is : answer config state (some session) source message payload ≡ record { outcome = refused n; state = oneMoreReceived state } =
+    rw (eq-eqb (message .«message_type») 255 g, p, echo-refused payload n e, answer) in
+    (is, ap (λ (a : Answer). placed (a .outcome) output) is)
 
 pub echo-reads-back : EchoReadsBack
 unfolding answer gpduKnown gpduOutcome
@@ -78,30 +88,8 @@ NotShort o = o ≡ refused outputTooShort → ⊥
 given : {A : Type 0} {x : A} → NotShort (gives x)
 given e = refused-gives (sym e)
 
-read-probe : (v : IpVersion) (source destination part : List ℕ) → NotShort (readProbe v source destination part)
-unfolding readProbe probeCauses
-read-probe v source destination part = not-by outputTooShort (probeCauses (udpPayload part)) _ refl given
-
-read-udp : (v : IpVersion) (source destination part : List ℕ) → NotShort (readUdp v source destination part)
-unfolding readUdp udpCauses
-read-udp V4 source destination part = not-by outputTooShort (udpCauses V4 source destination part) _ refl (read-probe V4 source destination part)
-read-udp V6 source destination part = not-by outputTooShort (udpCauses V6 source destination part) _ refl (read-probe V6 source destination part)
-
-read-ipv4 : (tpdu : List ℕ) → NotShort (readIpv4 tpdu)
-unfolding readIpv4 ipv4Causes
-read-ipv4 tpdu = not-by outputTooShort (ipv4Causes tpdu) _ refl (read-udp V4 _ _ _)
-
-read-ipv6 : (tpdu : List ℕ) → NotShort (readIpv6 tpdu)
-unfolding readIpv6 ipv6Causes
-read-ipv6 tpdu = not-by outputTooShort (ipv6Causes tpdu) _ refl (read-udp V6 _ _ _)
-
 read-tpdu : (tpdu : List ℕ) → NotShort (readOf tpdu)
-unfolding readOf tpduCauses
-read-tpdu tpdu = not-by outputTooShort (tpduCauses tpdu) _ refl (by (eqb (versionOf tpdu) 4))
-  where
-    by : (b : Bool) → NotShort {A = DecodedTpdu} (elim b [ true ↦ readIpv4 tpdu | false ↦ readIpv6 tpdu ])
-    by true = read-ipv4 tpdu
-    by false = read-ipv6 tpdu
+read-tpdu tpdu e = true-not-false (sym (read-by tpdu outputTooShort e))
 
 echo : (session : ReflectorSession) (tpdu : List ℕ) → NotShort (reflected session (echoOf tpdu))
 unfolding echoOf

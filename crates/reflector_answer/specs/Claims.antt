@@ -4,6 +4,7 @@ use mathlib.Core.Path.{_≡_}
 use mathlib.Core.List.{List, _++_}
 use mathlib.Core.Option.{Option, some, none}
 use lib.ListN.{length}
+use Rattle.counter.specs.Counter.{oneMore}
 use Rattle.error.specs.Number.{outputTooShort}
 use Rattle.error.specs.Outcome.{refused, gives}
 use Rattle.measurement.specs.Flow.{reversedOf, InRange}
@@ -18,7 +19,7 @@ use Rattle.reflector_sessions.specs.Session.{valueOf}
 use Rattle.reflector_sessions.specs.declared.ReflectorSession.{ReflectorSession}
 use Rattle.reflector_sessions.specs.declared.SocketAddr.{SocketAddr}
 use Rattle.reflector_answer.specs.Answer.{written, Outbound, send, Answer, answer}
-use Rattle.reflector_answer.specs.Handle.{handleFound}
+use Rattle.reflector_answer.specs.Handle.{placed, handleFound}
 use Rattle.gtpu.specs.declared.GtpuMessage.{GtpuMessage}
 use Rattle.reflector_answer.specs.declared.MultiSessionReflectorConfig.{MultiSessionReflectorConfig}
 use Rattle.reflector_answer.specs.declared.ReflectorPolicy.the-variants.{Echo}
@@ -41,6 +42,29 @@ IndicationAccepted = (config : MultiSessionReflectorConfig) (state : ReflectorSt
     → message .«message_type» ≡ gtpuMsgGpdu
     → (bytes : List ℕ) × Sends (answer config state none source message payload) ErrorIndication source bytes
     × (elementsOf bytes ≡ gives tt)
+
+-- The state with one G-PDU more received, and nothing else changed.
+abbrev pub oneMoreReceived : ReflectorState → ReflectorState
+oneMoreReceived state = record {
+  stats = record {
+    «gpdu_received» = oneMore (state .stats .«gpdu_received»);
+    «gpdu_forwarded» = state .stats .«gpdu_forwarded»;
+    «gpdu_sunk» = state .stats .«gpdu_sunk»;
+    «echo_requests_answered» = state .stats .«echo_requests_answered»;
+    «error_indications_sent» = state .stats .«error_indications_sent»;
+    «malformed_rejected» = state .stats .«malformed_rejected»;
+  };
+  «next_error_sequence» = state .«next_error_sequence»;
+}
+
+-- The card: "all (*)", "(*) In the reflector under echo, the received count has risen by 1." A T-PDU that reading
+-- refuses, by whichever number, 39 with "its state" (document 02, job 3) like the others, is refused by that number.
+abbrev pub ReceivedHasRisen : Type 0
+ReceivedHasRisen = (config : MultiSessionReflectorConfig) (state : ReflectorState) (session : ReflectorSession)
+    (source : SocketAddr) (message : GtpuMessage) (payload output : List ℕ) (n : ℕ)
+    → message .«message_type» ≡ gtpuMsgGpdu → config .policy ≡ Echo → readOf payload ≡ refused n
+    → let a : Answer = answer config state (some session) source message payload in
+    (a ≡ record { outcome = refused n; state = oneMoreReceived state }) × (placed (a .outcome) output ≡ output)
 
 -- A built T-PDU for a known session, whatever stands behind it, is echoed to the session's peer; the echo, read back,
 -- gives the reversed flow, and the sequence and time of the T-PDU.

@@ -20,7 +20,7 @@ ghost use Rattle.reflector_sessions.specs.Judge.{sessionFound};
 ghost use Rattle.reflector_answer.specs.State.{counted, nextErrorSequence, stateCounted};
 ghost use Rattle.reflector_answer.specs.Answer.{errorIndicationBlock, errorIndicationTo, ignored, gpduKnown};
 ghost use Rattle.reflector_answer.specs.Answer.{gpduUnknown, echoRequest, otherMessage, answer};
-ghost use Rattle.reflector_answer.specs.Claims.{IndicationAccepted, EchoReadsBack, LeastOutput};
+ghost use Rattle.reflector_answer.specs.Claims.{ReceivedHasRisen, IndicationAccepted, EchoReadsBack, LeastOutput};
 ghost use Rattle.reflector_answer.specs.Handle.{nothingSent, handledOf, forwarded, Answers, HandledAs, EchoFits};
 ghost use Rattle.reflector_answer.specs.Handle.{reflectorBytes, handleFound};
 
@@ -479,6 +479,11 @@ pub fn indications_accepted()
 // Carries that an echo which the reflector answers with reads back to the reversed flow, with sequence and time kept.
 pub fn echoes_read_back()
     ensures { λ _. ⌜ EchoReadsBack ⌝ }
+{}
+
+// Carries the card's (*): a T-PDU that the echo refuses has raised the received count, and nothing else.
+pub fn refused_echo_is_received()
+    ensures { λ _. ⌜ ReceivedHasRisen ⌝ }
 {}
 
 // Carries that 15 means an output under 72 bytes, and nothing else.

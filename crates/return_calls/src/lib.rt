@@ -162,7 +162,7 @@ fn record_returned(
 }
 
 // Records a T-PDU that came back. It is read first, which changes nothing. 21 is judged before a refusal of the reader;
-// if there is none, the sequence is recorded. Refuses by 21, 1 to 14, 23, 24.
+// if there is none, the sequence is recorded. Refuses by 21, as the reader, 23, 24.
 pub fn record_received_tpdu(
     sequences: &[u64],
     send_timestamps: &[u64],

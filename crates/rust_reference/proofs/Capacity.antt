@@ -1,5 +1,5 @@
 -- 30: what `new_multi` makes of a configuration, and that each call judges its maximum alike.
-use Prim.Native.Nat.{ℕ, _/_, _<_, _≤_}
+use Prim.Native.Nat.{ℕ, _<_, _≤_}
 use native.Mathlib.Omega.{arith}
 use mathlib.Core.Path.{_≡_, refl, sym, ap, _∙_}
 use mathlib.Core.Logic.{_⊎_, inl, inr}
@@ -7,14 +7,14 @@ use mathlib.Core.List.{List, [], _∷_}
 use mathlib.Core.Bool.{Bool, true, false, not, _||_}
 use mathlib.Core.Option.{Option, some, none}
 use lib.Dec.{eqb, ltb}
-use lib.ListN.{length, getD}
-use borrow.Author.Tests.{eqb-true, eqb-false, ltb-true, ltb-false}
+use lib.ListN.{length}
+use borrow.Author.Tests.{eqb-true, eqb-false, ltb-true, ltb-false, not-true}
 use Rattle.error.specs.Outcome.{Outcome, refused, gives, _⇒_, firstCause}
+use Rattle.error.proofs.Among.{of-each}
 use Rattle.error.proofs.Causes.{Refuses, refuses, passes, refused-gives}
 use Rattle.measurement.specs.declared.DecodedTpdu.{DecodedTpdu}
-use Rattle.measurement.specs.declared.IpVersion.{IpVersion}
-use Rattle.measurement.specs.declared.IpVersion.the-variants.{V4, V6}
-use Rattle.measurement_reading.specs.Read.{payload, probeCauses, udpCauses, readProbe, readUdp, tpduCauses, ipv4Causes, readIpv4, ipv6Causes, readIpv6, readOf}
+use Rattle.measurement_reading.specs.Read.{readOf}
+use Rattle.measurement_reading.proofs.Numbers.{readingNumbers, read-by}
 use Rattle.measurement_damage.specs.Echo.{echoOfTpdu, echoOf}
 use Rattle.reflector.specs.Handle.{handleDatagram}
 use Rattle.reflector_answer.specs.Answer.{handedOn, Action, noop, gpdu, reflected, gpduOutcome, gpduKnown, gpduUnknown, echoRequestOutcome, echoRequest, otherMessage, gpduAnswer, Answer, answer}
@@ -129,18 +129,9 @@ table-not-30 rows used maximum onward fits h e = by (fitting rows used maximum f
     by (inr r) = other-number (λ z. omega arith) (refuses onward r) e
 
 -- no refusal of a T-PDU is told as 30
-part-not-30 : (v : IpVersion) (src dst u : List ℕ) → Not30 (readUdp v src dst u)
-unfolding readUdp udpCauses readProbe probeCauses
-part-not-30 V4 src dst u = told-not-by 30 (udpCauses V4 src dst u) _ refl (told-not-by 30 (probeCauses (payload u)) _ refl (λ e. refused-gives (sym e)))
-part-not-30 V6 src dst u = told-not-by 30 (udpCauses V6 src dst u) _ refl (told-not-by 30 (probeCauses (payload u)) _ refl (λ e. refused-gives (sym e)))
-
-read-not-30 : (p : List ℕ) → Not30 (readOf p)
-unfolding readOf tpduCauses readIpv4 ipv4Causes readIpv6 ipv6Causes
-read-not-30 p = told-not-by 30 (tpduCauses p) _ refl (either (eqb (getD p 0 0 / 16) 4))
-  where
-    either : (b : Bool) → Not30 {A = DecodedTpdu} (elim b [ true ↦ readIpv4 p | false ↦ readIpv6 p ])
-    either true = told-not-by 30 (ipv4Causes p) _ refl (part-not-30 V4 _ _ _)
-    either false = told-not-by 30 (ipv6Causes p) _ refl (part-not-30 V6 _ _ _)
+read-not-30 : (p : List ℕ) (n : ℕ) → readOf p ≡ refused n → asTheRustTells n ≡ 30 → ⊥
+read-not-30 p n e =
+    eqb-false (asTheRustTells n) 30 (not-true (eqb (asTheRustTells n) 30) (of-each (λ m. not (eqb (asTheRustTells m) 30)) readingNumbers refl n (read-by p n e)))
 
 echo-not-30 : (session : ReflectorSession) (p : List ℕ) → Not30 (reflected session (echoOf p))
 unfolding echoOf
@@ -148,7 +139,7 @@ echo-not-30 session p = by (readOf p) refl
   where
     by : (o : Outcome DecodedTpdu) → readOf p ≡ o
         → Not30 (reflected session (elim o [ refused n ↦ refused n | gives t ↦ gives (echoOfTpdu t) ]))
-    by (refused n) e f = let same : asTheRustTells n ≡ 30 = cc in read-not-30 p (ap told e ∙ ap refused same)
+    by (refused n) e f = let same : asTheRustTells n ≡ 30 = cc in read-not-30 p n e same
     by (gives t) e f = refused-gives (sym f)
 
 -- a message

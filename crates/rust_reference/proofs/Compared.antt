@@ -1,10 +1,12 @@
--- Every T-PDU is compared, and each number as itself; and what is added is ours. No other proof rests on these.
+-- Every T-PDU is compared, 39 as 4, and each other number as itself; and what is added is ours. No other proof rests on these.
 use mathlib.Core.Path.{refl, sym, ap}
 use mathlib.Core.Logic.{inl, inr}
 use mathlib.Core.Bool.{Bool, true, false}
+use borrow.Author.Tests.{ne-eqb}
 use Rattle.error.proofs.Tests.{true-not-false}
 use Rattle.reflector_answer.specs.declared.ReflectorPolicy.{ReflectorPolicy}
 use Rattle.reflector_answer.specs.declared.ReflectorPolicy.the-variants.{Echo, SinkAndCount, Route}
+use Rattle.rust_reference.specs.Compared.{asTheRustTells}
 use Rattle.rust_reference.specs.Claims.{AddedIsOurs, WhatIsCompared}
 use Rattle.rust_reference.proofs.Told.{no-error}
 
@@ -23,7 +25,8 @@ all-compared = record {
   every-other-return = λ messageType payload other is. absurd (other is);
   every-other-message = λ policy message payload other is. absurd (other is);
   every-sunk-message = λ message payload is. (λ echoes. absurd (true-not-false (ap sunk echoes)), λ routes. absurd (true-not-false (ap sunk routes)));
-  every-refusal = λ n. refl;
+  cut-as-ihl = refl;
+  every-other-refusal = λ n other. rw (ne-eqb n 39 other, asTheRustTells);
 }
 
 pub added-is-ours : AddedIsOurs

@@ -30,7 +30,7 @@ use Rattle.rust_reference.specs.Number.{outcomeBy}
 use Rattle.rust_reference.specs.Values.{index, range, same, «u16_at»}
 use Rattle.rust_reference.specs.Answers.{tpduOf}
 use Rattle.rust_reference.specs.Measurement as rust
-use Rattle.rust_reference.proofs.Branches.{unless, row}
+use Rattle.rust_reference.proofs.Branches.{unless, row, two-rows}
 use Rattle.rust_reference.proofs.Checksums.{of-one, of-two}
 use Rattle.rust_reference.proofs.Told.{compared-bytes}
 
@@ -221,8 +221,8 @@ module _ (p : List ℕ) (b : Bytes p) where
   unfolding rust.«decode_ipv4_measurement» readIpv4 ipv4Causes rest4
   ipv4-read =
       row tpduOf (ltb (length p) 20) _ 3 _ _ _ refl refl
-      (λ c3. row tpduOf (ltb header 20 || ltb (length p) (header + 8)) _ 4 _ _ _ refl test4
-      (λ c4. row tpduOf (ltb («u16_at» p 2) (header + 8) || ltb (length p) («u16_at» p 2)) _ 5 _ _ _ refl test5
+      (λ c3. two-rows tpduOf (ltb header 20 || ltb (length p) (header + 8)) (ltb (ihl p) 5) (ltb (length p) (ihl p * 4 + 8)) _ 4 39 _ _ _ refl refl test4
+      (λ c39. row tpduOf (ltb («u16_at» p 2) (header + 8) || ltb (length p) («u16_at» p 2)) _ 5 _ _ _ refl test5
       (λ c5. row tpduOf (not (eqb (index p 9) 17)) _ 6 _ _ _ refl refl
       (λ c6. row tpduOf (not (eqb (rust.checksum (range p 0 header ∷ [])) 0)) _ 7 _ [] onward refl header-sum
       (λ c7.

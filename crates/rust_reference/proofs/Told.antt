@@ -2,11 +2,12 @@
 -- and whatever more is asked of a T-PDU that is compared.
 use Prim.Native.Nat.{ℕ}
 use mathlib.Core.Path.{_≡_, refl, sym, ap, _∙_}
-use mathlib.Core.Bool.{Bool, true, false, not, _||_, _&&_}
+use mathlib.Core.Bool.{Bool, true, false, not, _&&_}
 use mathlib.Core.List.{List, [], _∷_}
 use lib.Dec.{eqb}
 use borrow.Author.Tests.{eqb-true, eqb-false, not-true}
 use Rattle.error.specs.Outcome.{Outcome, refused, gives, Cause, _⇒_, firstCause}
+use Rattle.error.proofs.Among.{among, of-each}
 use Rattle.error.proofs.Causes.{refused-gives}
 use Rattle.error.proofs.Tests.{true-not-false, both}
 use Rattle.field.specs.Field.{Bytes}
@@ -17,23 +18,6 @@ use Rattle.rust_reference.specs.Compared.{Compared, asTheRustTells, told
 use Rattle.rust_reference.specs.Sessions.{outcomeTo}
 
 -- ---- the Rust's numbers
-
-abbrev among : ℕ → List ℕ → Bool
-among n [] = false
-among n (m ∷ list) = eqb n m || among n list
-
-abbrev holds : (ℕ → Bool) → List ℕ → Bool
-holds test [] = true
-holds test (m ∷ list) = test m && holds test list
-
--- a test that is computed of each number of a list
-of-each : (test : ℕ → Bool) (list : List ℕ) → holds test list ≡ true → (n : ℕ) → among n list ≡ true → test n ≡ true
-of-each test [] h n e = absurd (true-not-false (sym e))
-of-each test (m ∷ list) h n e = by (eqb n m) refl e (of-each test list (both (test m) (holds test list) h .1) n)
-  where
-    by : (t : Bool) → eqb n m ≡ t → t || among n list ≡ true → (among n list ≡ true → test n ≡ true) → test n ≡ true
-    by true f e rest = ap test (eqb-true n m f) ∙ both (test m) (holds test list) h .0
-    by false f e rest = rest e
 
 -- every number of the Rust's errors
 abbrev rustNumbers : List ℕ

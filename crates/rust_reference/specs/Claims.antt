@@ -9,6 +9,7 @@ use mathlib.Core.Bool.{Bool, true}
 use lib.ListN.{length}
 use Rattle.error.specs.Number.{outputTooShort, tooManyPackets, malformedObserver, observerFull}
 use Rattle.error.specs.Number.{invalidReflectorCapacity, malformedReflectorTable}
+use Rattle.error.specs.Number.{invalidIpv4Ihl, truncatedIpv4UdpPacket}
 use Rattle.error.specs.Outcome.{Outcome, refused, gives}
 use Rattle.gtpu.specs.Element.{elementsOf}
 use Rattle.gtpu.specs.Message.{gtpuMsgGpdu}
@@ -82,7 +83,7 @@ NoneAdded o = (n : ℕ) → Added n → o ≡ refused n → ⊥
 -- ---- what is compared
 
 -- Every T-PDU, alone, in a message that returns and in one that is echoed; every payload of at most 65,535 bytes in a
--- message that is routed; every other message, whatever its payload; and each of our numbers as itself.
+-- message that is routed; every other message, whatever its payload; 39 as 4, and each other of our numbers as itself.
 pub record WhatIsCompared : Type 0 where
   pub every-tpdu : (tpdu : List ℕ) → Bytes tpdu → Compared tpdu
   pub every-return : (messageType : ℕ) (payload : List ℕ) → Bytes payload → ComparedReturn messageType payload
@@ -94,7 +95,8 @@ pub record WhatIsCompared : Type 0 where
   pub every-other-message : (policy : ReflectorPolicy) (message : GtpuMessage) (payload : List ℕ)
       → (message .«message_type» ≡ gtpuMsgGpdu → ⊥) → ComparedMessage policy message payload
   pub every-sunk-message : (message : GtpuMessage) (payload : List ℕ) → ComparedMessage SinkAndCount message payload
-  pub every-refusal : (n : ℕ) → asTheRustTells n ≡ n
+  pub cut-as-ihl : asTheRustTells truncatedIpv4UdpPacket ≡ invalidIpv4Ihl
+  pub every-other-refusal : (n : ℕ) → (n ≡ truncatedIpv4UdpPacket → ⊥) → asTheRustTells n ≡ n
 
 -- ---- evidence.rs
 

@@ -2,8 +2,11 @@
 -- two readers differ must be stated here, and only here.
 use Prim.Native.Nat.{ℕ, _≤_}
 use mathlib.Core.Path.{_≡_}
+use mathlib.Core.Bool.{true, false}
 use mathlib.Core.List.{List}
+use lib.Dec.{eqb}
 use lib.ListN.{length}
+use Rattle.error.specs.Number.{invalidIpv4Ihl, truncatedIpv4UdpPacket}
 use Rattle.error.specs.Outcome.{Outcome, refused, gives}
 use Rattle.field.specs.Field.{Bytes}
 use Rattle.gtpu.specs.Message.{gtpuMsgGpdu}
@@ -28,9 +31,10 @@ ComparedGpdu policy tpdu = (policy ≡ Echo → Compared tpdu) × (policy ≡ Ro
 abbrev pub ComparedMessage : ReflectorPolicy → GtpuMessage → List ℕ → Type 0
 ComparedMessage policy message payload = message .«message_type» ≡ gtpuMsgGpdu → ComparedGpdu policy payload
 
--- Each number is compared as itself: no two of ours are one error of the Rust.
+-- Document 02, job 3: "In comparisons both match the Rust's one text." So 39 is compared as 4, and every other number
+-- as itself.
 abbrev pub asTheRustTells : ℕ → ℕ
-asTheRustTells number = number
+asTheRustTells number = elim (eqb number truncatedIpv4UdpPacket) [ true ↦ invalidIpv4Ihl | false ↦ number ]
 
 -- Our outcome, in the numbers that are compared.
 abbrev pub told : {A : Type 0} → Outcome A → Outcome A

@@ -23,7 +23,7 @@ ghost use Rattle.testkit_packets.specs.Interface.{versionOf, flowOf, wri
 
 // The version of the interface. The major version rises if a program may have to be changed, otherwise the minor if
 // something was added, otherwise the patch (include/testkit.h).
-pub const VERSION_MAJOR: u32 = 2;
+pub const VERSION_MAJOR: u32 = 3;
 
 pub const VERSION_MINOR: u32 = 0;
 
@@ -32,7 +32,7 @@ pub const VERSION_PATCH: u32 = 0;
 // The version in one number.
 #[no_mangle]
 pub extern "C" fn testkit_version() -> u32
-    ensures { λ r. ⌜ r ≡ versionOf 2 0 0 ⌝ }
+    ensures { λ r. ⌜ r ≡ versionOf 3 0 0 ⌝ }
 {
     VERSION_MAJOR * 65536 + VERSION_MINOR * 256 + VERSION_PATCH
 }

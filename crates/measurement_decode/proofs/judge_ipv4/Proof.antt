@@ -9,7 +9,7 @@ use Rattle.field.specs.Field.{bytesAt}
 use Rattle.measurement.specs.Flow.{addressLength}
 use Rattle.measurement.specs.declared.IpVersion.the-variants.{V4}
 use Rattle.measurement_reading.specs.Read.{ihl}
-use Rattle.measurement_reading.proofs.Rows.{LeftIpv4, ipv4-rows, row-3, past-3, row-4-low, row-4-cut, past-4, row-5-low, row-5-past, past-5, row-6-ipv4, past-6-ipv4, row-7, past-7, rest-ipv4}
+use Rattle.measurement_reading.proofs.Rows.{LeftIpv4, ipv4-rows, row-3, past-3, row-4, past-4, row-39, past-39, row-5-low, row-5-past, past-5, row-6-ipv4, past-6-ipv4, row-7, past-7, rest-ipv4}
 use Rattle.measurement_decode.proofs.Laws.{addresses}
 use Rattle.measurement_decode.proofs.judge_ipv4.Statement.{statement}
 use Rattle.measurement_decode.proofs.judge_ipv4.Tie as tie
@@ -33,7 +33,7 @@ unfolding ihl
 returns-2 c =
     let l = c .before in
     let e1 = l .before .before in
-    ap outcomeNumber (row-4-low (e1 .before .before .args .tpdu .now) (l .low-half .ensures .0) (left-4 e1) (c .if2 .taken))
+    ap outcomeNumber (row-4 (e1 .before .before .args .tpdu .now) (l .low-half .ensures .0) (left-4 e1) (c .if2 .taken))
 
 mul-start : tie.Need-mul-start
 mul-start c = search needs
@@ -41,20 +41,26 @@ mul-start c = search needs
 add-if3 : tie.Need-add-if3
 add-if3 c = search needs
 
+left-39 : (c : tie.Else2) → LeftIpv4 (c .before .before .before .before .before .args .tpdu .now) 39
+unfolding ihl
+left-39 c =
+    let l = c .before in
+    let e1 = l .before .before in
+    past-4 (e1 .before .before .args .tpdu .now) (l .low-half .ensures .0) (left-4 e1) (c .if2 .left)
+
 returns-3 : tie.Need-returns-3
 unfolding ihl
 returns-3 c =
-    let l = c .before .before in
-    let e1 = l .before .before in
-    ap outcomeNumber (row-4-cut (e1 .before .before .args .tpdu .now) (l .low-half .ensures .0) (left-4 e1) (c .if3 .taken))
+    let e2 = c .before in
+    let l = e2 .before in
+    ap outcomeNumber (row-39 (l .before .before .before .before .args .tpdu .now) (l .low-half .ensures .0) (left-39 e2) (c .if3 .taken))
 
 left-5 : (c : tie.Else3) → LeftIpv4 (c .before .before .before .before .before .before .args .tpdu .now) 5
 unfolding ihl
 left-5 c =
     let e2 = c .before in
     let l = e2 .before in
-    let e1 = l .before .before in
-    past-4 (e1 .before .before .args .tpdu .now) (l .low-half .ensures .0) (left-4 e1) (e2 .if2 .left) (c .if3 .left)
+    past-39 (l .before .before .before .before .args .tpdu .now) (l .low-half .ensures .0) (left-39 e2) (c .if3 .left)
 
 read-u16-requires : tie.Need-read-u16-requires
 read-u16-requires c κs = search needs
