@@ -18,7 +18,7 @@ use crate::rust_side::measurement::{build, echo, Probe};
 use crate::rust_side::traffic::{Observer, Row, Sheet};
 use crate::seen::Seen;
 use crate::sheets::{capacity, difference, fresh, holding, questions, MOST_ROWS};
-use crate::wild::any_probe;
+use crate::wild::{any_probe, set_any_ihl};
 
 const G_PDU: u8 = 255;
 
@@ -483,7 +483,7 @@ pub(crate) fn time_near(random: &mut Random, time: u64) -> u64 {
 /// Cuts a T-PDU or changes a byte or a field; then may make the checksums right.
 fn spoil_tpdu(random: &mut Random, tpdu: &mut Vec<u8>) {
     let at = part_at(tpdu);
-    match random.below(4) {
+    match random.below(5) {
         0 => tpdu.truncate(random.below(tpdu.len())),
         1 => {
             let place = random.below(tpdu.len());
@@ -493,6 +493,7 @@ fn spoil_tpdu(random: &mut Random, tpdu: &mut Vec<u8>) {
             let lengths = [0, 7, 8, 31, 32, 33, 0xffff];
             set_word(tpdu, at + 4, lengths[random.below(lengths.len())]);
         }
+        3 => set_any_ihl(random, tpdu),
         _ => set_word(tpdu, 2 * random.below(at / 2 + 8), 0),
     }
     if random.below(2) == 0 {

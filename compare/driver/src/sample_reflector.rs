@@ -3,8 +3,8 @@
 
 use testkit_open::reflector::OpenReflector;
 
-use crate::compared::compared;
-use crate::numbers::ECHO_REQUEST_TEID_NOT_ZERO;
+use crate::compared::{compared, told_apart};
+use crate::numbers::{ECHO_REQUEST_TEID_NOT_ZERO, INVALID_IPV4_IHL};
 use crate::ours_reflector::{Address, Config, Handled, Message as Header, Session, State};
 use crate::random::Random;
 use crate::records::{word, Drawn, DIRT, MOST_BYTES, ROWS};
@@ -202,7 +202,8 @@ fn handled_bytes(handled: &Handled) -> Vec<u8> {
 }
 
 /// The varieties are what is done, under which policy, and to which version's address; of Echo
-/// Requests with a TEID, which of its bytes alone is not 0, if one is.
+/// Requests with a TEID, which of its bytes alone is not 0, if one is; of T-PDUs that the Rust refuses
+/// by one text for two numbers of ours, which of them it is.
 pub fn draw_handle(random: &mut Random) -> Option<Drawn> {
     let mut table = Table::any(random);
     let message = any_message(random, table.used());
@@ -229,10 +230,11 @@ pub fn draw_handle(random: &mut Random) -> Option<Drawn> {
     rest.extend(handled_bytes(&due));
     rest.extend(word(out.len()));
     rest.extend(out);
-    rest.extend(message.payload);
+    rest.extend(&message.payload);
     let done = due.action * 8 + reason(&due);
     let variety = match due.number {
         ECHO_REQUEST_TEID_NOT_ZERO => lone_byte(message.teid),
+        INVALID_IPV4_IHL => told_apart(&message.payload, due.number),
         _ => done * 6 + table.config.policy.min(2) * 2 + u8::from(due.destination.version == 4),
     };
     Some((due.number, variety, rest))

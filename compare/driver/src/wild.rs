@@ -206,6 +206,13 @@ fn right_packet(random: &mut Random, probe: Probe, extra: &Extra) -> Vec<u8> {
     packet
 }
 
+/// Gives an IPv4 packet any IHL.
+pub(crate) fn set_any_ihl(random: &mut Random, packet: &mut [u8]) {
+    if version(packet) == 4 {
+        packet[0] = 0x40 | random.below(16) as u8;
+    }
+}
+
 /// Cuts the packet, turns bits of it or changes a field; then may make the checksums right.
 fn change(random: &mut Random, packet: &mut Vec<u8>) {
     let at = part_at(packet);
@@ -213,7 +220,7 @@ fn change(random: &mut Random, packet: &mut Vec<u8>) {
     if near == 0 {
         return;
     }
-    match random.below(6) {
+    match random.below(7) {
         0 => packet.truncate(random.length(packet.len())),
         1 => {
             for _ in 0..=random.below(3) {
@@ -234,6 +241,7 @@ fn change(random: &mut Random, packet: &mut Vec<u8>) {
             let shorter = length - random.length(length);
             set_word(packet, at + 4, shorter as u16);
         }
+        5 => set_any_ihl(random, packet),
         _ => set_word(packet, at + 6, 0),
     }
     if random.below(2) == 0 {
