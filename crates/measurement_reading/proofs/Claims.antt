@@ -81,7 +81,7 @@ module _ (k : ℕ) (behind : List ℕ) (small : k < 16) where
   }
 
 pub cut-is-not-4 : CutIsNot4
-cut-is-not-4 k behind small = two-causes k behind small
+cut-is-not-4 = two-causes
 
 pub cut-examples : CutExamples
 unfolding sumOf folding foldOf checksumOf readOf tpduCauses ihl ipv4Causes readIpv4 readUdp readProbe udpCauses probeCauses sumWrong covered lengthWrong payload firstCause

@@ -57,8 +57,9 @@ oneMoreReceived state = record {
   «next_error_sequence» = state .«next_error_sequence»;
 }
 
--- The card: "all (*)", "(*) In the reflector under echo, the received count has risen by 1." A T-PDU that reading
--- refuses, by whichever number, 39 with "its state" (document 02, job 3) like the others, is refused by that number.
+-- The card's "all (*)", for each number by which reading refuses a T-PDU: "(*) In the reflector under echo, the
+-- received count has risen by 1", and no other count and no byte of the output has changed. 39 is such a number too,
+-- with the state of 4 (document 02, job 3).
 abbrev pub ReceivedHasRisen : Type 0
 ReceivedHasRisen = (config : MultiSessionReflectorConfig) (state : ReflectorState) (session : ReflectorSession)
     (source : SocketAddr) (message : GtpuMessage) (payload output : List ℕ) (n : ℕ)
