@@ -223,6 +223,27 @@ static void packets(uint8_t version)
         written_as(TESTKIT_OUTPUT_TOO_SHORT, 0));
 }
 
+/* The number by which the first `length` bytes of `packet` are refused. */
+static uint8_t refusal(size_t length)
+{
+    return testkit_decode(copy(packet, length), length, read_src, read_dst).number;
+}
+
+/* A packet that ends before its UDP header does, and an IHL below 5, be the packet cut or not. */
+static void cut_packets(void)
+{
+    make(4, 5);
+    expect("28 bytes", refusal(28), TESTKIT_INVALID_IPV4_TOTAL_LENGTH);
+    expect("27 bytes", refusal(27), TESTKIT_TRUNCATED_IPV4_UDP_PACKET);
+    expect("20 bytes", refusal(20), TESTKIT_TRUNCATED_IPV4_UDP_PACKET);
+    expect("19 bytes", refusal(19), TESTKIT_TRUNCATED_IPV4_HEADER);
+    packet[0] = 0x4F;
+    expect("IHL 15", refusal(52), TESTKIT_TRUNCATED_IPV4_UDP_PACKET);
+    packet[0] = 0x44;
+    expect("IHL 4", refusal(52), TESTKIT_INVALID_IPV4_IHL);
+    expect("IHL 4, 20 bytes", refusal(20), TESTKIT_INVALID_IPV4_IHL);
+}
+
 static void generator(void)
 {
     uint8_t *bytes = (uint8_t *)lend(3 * TESTKIT_IPV4_TPDU_BYTES);
@@ -423,6 +444,7 @@ static void returning(void)
     received("a return of a lower sequence", 4010, length, 0, counts_of(8, 102, 203, 303));
     row("row 0", 0, 11, 4000, 10, 1);
     received("no T-PDU", 4010, 0, TESTKIT_TRUNCATED_IP_HEADER, counts_of(8, 102, 203, 303));
+    received("a T-PDU that is cut", 4010, 27, TESTKIT_TRUNCATED_IPV4_UDP_PACKET, counts_of(8, 102, 203, 303));
     length = make(4, 19);
     received("another's", 9999, length, TESTKIT_SEQUENCE_WAS_NOT_SENT, counts_of(8, 102, 203, 303));
     length = make(4, 14);
@@ -880,6 +902,10 @@ static void handling(void)
         nothing(TESTKIT_INVALID_IPV4_TOTAL_LENGTH, TESTKIT_ACTION_REFUSED, 0), s);
     s.stats.gpdu_received++;
     handle(
+        "echo, cut", message_of(255, 0x21, 0, 0), packet, 27,
+        nothing(TESTKIT_TRUNCATED_IPV4_UDP_PACKET, TESTKIT_ACTION_REFUSED, 0), s);
+    s.stats.gpdu_received++;
+    handle(
         "echo, null", message_of(255, 0x21, 0, 0), NULL, 0,
         nothing(TESTKIT_TRUNCATED_IP_HEADER, TESTKIT_ACTION_REFUSED, 0), s);
 
@@ -1009,6 +1035,7 @@ int main(int argc, char **argv)
     numbers();
     packets(4);
     packets(6);
+    cut_packets();
     generator();
     element_lists();
     open_sheet(&one);

@@ -1,7 +1,7 @@
 //! Our batch calls against single calls in a loop, the Rust's and ours: the packets of a plan, all or
 //! none, and lists of returns. The Rust has no batch calls.
 
-use crate::compared::{as_the_rust_tells, compared, Answer};
+use crate::compared::{as_the_rust_tells, compared, told_apart, Answer};
 use crate::numbers::*;
 use crate::observer::{any_call, any_contents, any_rows, malformed_sheet, time_near, Call, Pair};
 use crate::ours_traffic::RunSheet;
@@ -142,7 +142,11 @@ fn enter(part: &mut Part, seen: &mut Seen, pair: &mut Pair, plan: Plan) -> u8 {
     seen.add(answer);
     let due = pair.due();
     let differences = (difference(&ours, &due), difference(&ours, &singly));
-    part.case(&[], (answer.told(), differences), (number, (None, None)));
+    part.case(
+        &[],
+        (answer.told(), differences),
+        (number.due(&[]), (None, None)),
+    );
     pair.ours = due;
     answer
 }
@@ -250,11 +254,14 @@ impl Due {
         for number in &mut numbers[..self.returns] {
             *number = as_the_rust_tells(*number);
         }
+        let read = returns.iter().zip(&self.numbers).take(self.returns);
+        let own = read.map(|((_, tpdu), &number)| told_apart(tpdu, number));
+        let numbers = (written.clone(), numbers);
         let answer = (answer, returned, numbers, difference(&ours, due));
         let due = (
             (self.returns, self.number),
             self.returned.clone(),
-            self.numbers.clone(),
+            (own.collect(), self.numbers.clone()),
             None,
         );
         part.case(&tpdus, answer, due);

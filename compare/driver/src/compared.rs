@@ -1,6 +1,7 @@
 //! Which T-PDUs are compared with the Rust, and as which number each of ours is compared: for the
 //! driver what crates/rust_reference/specs/Compared.antt is for the claims. A change that makes the
-//! readers differ is stated here and there, and nowhere else.
+//! readers differ is stated here and there, and nowhere else. Where the Rust has one error for two
+//! numbers of ours, this file also says which of the two is due.
 
 use crate::numbers::{INVALID_IPV4_IHL, TRUNCATED_IPV4_UDP_PACKET};
 use crate::ours::{Values, Written};
@@ -58,15 +59,21 @@ pub fn leave_out(part: &mut Part, tpdu: &[u8]) -> Option<u8> {
     due_where_not_compared(tpdu, decode(tpdu).err().unwrap_or(0))
 }
 
-/// An answer of ours, which has a number.
+/// An answer, which has a number.
 pub trait Answer: Sized {
     fn number(&mut self) -> &mut u8;
 
-    /// `told`: the answer, in the numbers that are compared.
-    fn told(mut self) -> Self {
+    /// `told`: the answer, in the numbers that are compared; and in front of it its own number.
+    fn told(mut self) -> (u8, Self) {
         let number = self.number();
-        *number = as_the_rust_tells(*number);
-        self
+        let own = *number;
+        *number = as_the_rust_tells(own);
+        (own, self)
+    }
+
+    /// What `told` has to give where the Rust answers this to a call that reads a T-PDU, or none.
+    fn due(mut self, tpdu: &[u8]) -> (u8, Self) {
+        (told_apart(tpdu, *self.number()), self)
     }
 }
 

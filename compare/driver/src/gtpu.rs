@@ -21,7 +21,7 @@ pub fn elements(seed: u64, rounds: u64) -> Part {
         let due = validate_error_indication_ies(list).err().unwrap_or(0);
         let answer = validate_elements(list);
         seen.add(answer);
-        part.case(list, answer.told(), due);
+        part.case(list, answer.told(), due.due(&[]));
     };
     let all: Vec<u8> = (0..=0xff).collect();
     each_list(&all, 0..=3, &mut walk);
@@ -58,7 +58,7 @@ pub fn deep_lists() -> Part {
         let walk = move || (validate_elements(&list), list);
         let thread = std::thread::Builder::new().stack_size(STACK).spawn(walk);
         let (answer, list) = thread.expect("a thread").join().expect("an answer");
-        part.case(&list[..3], answer.told(), due);
+        part.case(&list[..3], answer.told(), due.due(&[]));
     }
     part
 }

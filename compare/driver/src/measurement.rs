@@ -5,7 +5,7 @@ use std::collections::BTreeMap;
 use std::net::SocketAddr;
 
 use crate::cases::{ipv4_probe, ipv6_probe};
-use crate::compared::{due, told_apart, Answer};
+use crate::compared::{due, Answer};
 use crate::damage::{each_damage, excluded, turn, window_starts};
 use crate::numbers::{OUTPUT_TOO_SHORT, READING_EITHER, READING_IPV4, READING_IPV6};
 use crate::ours::{self, Values, Written};
@@ -51,8 +51,7 @@ pub fn building(seed: u64, rounds: u64) -> Part {
     part
 }
 
-/// Wild packets, read by both; and where the Rust has one text for two numbers of ours, the right one of
-/// them. Each cause of a refusal must have been met, in both versions.
+/// Wild packets, read by both. Each cause of a refusal must have been met, in both versions.
 pub fn reading(seed: u64, rounds: u64) -> Part {
     let mut part = Part::new("packets");
     let mut seen = BTreeMap::new();
@@ -60,9 +59,7 @@ pub fn reading(seed: u64, rounds: u64) -> Part {
         let answer = ours::decode(tpdu);
         *seen.entry(cause(tpdu, answer.0)).or_insert(0) += 1;
         if let Some(due) = due(&mut part, tpdu, decode) {
-            let due = as_ours(due);
-            let number = told_apart(tpdu, due.0);
-            part.case(tpdu, (answer.0, answer.told()), (number, due));
+            part.case(tpdu, answer.told(), as_ours(due).due(tpdu));
         }
     });
 
@@ -203,7 +200,8 @@ fn writes(
             number: answer.err().unwrap_or(0),
             bytes: answer.unwrap_or(0),
         };
-        part.case(input, (written.told(), Bytes(out)), (due, Bytes(expected)));
+        let due = (due.due(input), Bytes(expected));
+        part.case(input, (written.told(), Bytes(out)), due);
     }
 }
 
@@ -221,7 +219,10 @@ fn survives(part: &mut Part, sent: Probe, damaged: &[u8]) {
     let is_read = answer.0 == 0;
     let harmless = !is_read || answer.1 == sent.into();
     match due(part, damaged, decode) {
-        Some(due) => part.case(damaged, (answer.told(), harmless), (as_ours(due), true)),
+        Some(due) => {
+            let due = as_ours(due).due(damaged);
+            part.case(damaged, (answer.told(), harmless), (due, true));
+        }
         None => part.case(damaged, harmless, true),
     }
     if is_read || part.cases().is_multiple_of(ECHO_SAMPLE) {

@@ -1,6 +1,6 @@
-//! The numbers of document 01 ("The card in the pouch") and of document 02, under the names that crates/error gives them;
-//! which of them each of our calls answers; and from the Rust's errors to these numbers. `.ci/card`
-//! holds the constants and each list to the crates.
+//! The numbers of document 01 ("The card in the pouch") and of document 02, under the names that
+//! crates/error gives them; which of them each of our calls answers; and from the Rust's errors to
+//! these numbers. `.ci/card` holds the constants and each list to the crates.
 
 use std::collections::BTreeSet;
 
@@ -47,7 +47,7 @@ pub const ECHO_REQUEST_MISSING_SEQUENCE: u8 = 36;
 pub const UNSUPPORTED_MESSAGE_TYPE: u8 = 37;
 pub const TRUNCATED_IPV4_UDP_PACKET: u8 = 39;
 
-/// The card's numbers, in its order.
+/// The card's numbers, in their order.
 pub const CARD: &[u8] = &[
     TRUNCATED_IP_HEADER,
     UNSUPPORTED_IP_VERSION,
@@ -202,13 +202,17 @@ const NOT_IN_THE_RUST: &[u8] = &[
     MALFORMED_REFLECTOR_TABLE,
 ];
 
-/// The numbers of the Rust's refusals.
-pub fn of_the_rust() -> BTreeSet<u8> {
+/// Our numbers for causes at which the Rust refuses too.
+pub fn in_the_rust() -> BTreeSet<u8> {
     let numbers = CARD.iter().copied();
     numbers
         .filter(|number| !NOT_IN_THE_RUST.contains(number))
-        .map(as_the_rust_tells)
         .collect()
+}
+
+/// The numbers of the Rust's refusals.
+pub fn of_the_rust() -> BTreeSet<u8> {
+    in_the_rust().into_iter().map(as_the_rust_tells).collect()
 }
 
 /// The number of an error: one for each, though several errors may share it.

@@ -306,6 +306,7 @@ impl Pair {
         let due_answer = self.due_answer(call);
         let due = self.due();
         let answer = (answer.told(), difference(&ours, &due));
+        let due_answer = due_answer.due(call.tpdu().unwrap_or(&[]));
         part.case(call.input(), answer, (due_answer, None));
         self.ours = due;
     }
@@ -319,7 +320,7 @@ impl Pair {
                 number,
                 ..Noted::default()
             };
-            part.case(tpdu, answer, (due, None));
+            part.case(tpdu, answer, (due.due(tpdu), None));
         }
     }
 

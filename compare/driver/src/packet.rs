@@ -11,9 +11,9 @@ pub fn version(tpdu: &[u8]) -> u8 {
     tpdu.first().map_or(0, |byte| byte >> 4)
 }
 
-/// The lower four bits of byte 0: in IPv4, how many words of 4 bytes the header has.
+/// The lower four bits of byte 0: in IPv4, how many words of 4 bytes the header has. Of no bytes, 0.
 pub fn ipv4_ihl(tpdu: &[u8]) -> usize {
-    usize::from(tpdu[0] & 0x0f)
+    tpdu.first().map_or(0, |byte| usize::from(byte & 0x0f))
 }
 
 /// Where the UDP part starts: after the IPv4 header and its options, or the IPv6 header.

@@ -397,7 +397,8 @@ impl Pair {
         let answer = self.ours.register_session(session);
         run.seen.add(answer.number);
         let answer = (answer.told(), self.difference(&rows));
-        run.part.case(&session.to_bytes(), answer, (due, None));
+        run.part
+            .case(&session.to_bytes(), answer, (due.due(&[]), None));
         self.go_on(rows, due.used);
     }
 
@@ -464,8 +465,8 @@ impl Pair {
         run.seen.add(answer.number);
         answer.destination = plain(answer.destination);
         let answer = (answer.told(), out, self.difference(&rows));
-        run.part
-            .case(&message.payload, answer, (due, expected, None));
+        let due = (due.due(&message.payload), expected, None);
+        run.part.case(&message.payload, answer, due);
         self.go_on(rows, self.ours.used);
     }
 
@@ -483,7 +484,7 @@ impl Pair {
             let received = &mut due.state.stats.gpdu_received;
             *received = received.saturating_add(1);
             let answer = (answer.told(), out, &self.ours);
-            let refused = not_sent(number, 0, 0, due.state);
+            let refused = not_sent(number, 0, 0, due.state).due(&message.payload);
             let untouched = vec![DIRT; LEAST_OUTPUT];
             run.part
                 .case(&message.payload, answer, (refused, untouched, &due));

@@ -1,5 +1,5 @@
 //! A sample of the Rust's answers, as the records that `crates/replay` reads: its README says what
-//! is in them. Nothing here, or in `sample_reflector.rs`, calls our library.
+//! is in them. A refusal is told by the number that is due of ours (`told_apart`). Nothing here, or in `sample_reflector.rs`, calls our library.
 
 use std::collections::{BTreeMap, BTreeSet};
 
@@ -7,7 +7,7 @@ use testkit_open::traffic::TrafficPlan;
 
 use crate::compared::{compared, told_apart};
 use crate::gtpu::any_elements;
-use crate::numbers::{of_the_rust, INVALID_IPV4_IHL, TRUNCATED_IPV4_UDP_PACKET};
+use crate::numbers::in_the_rust;
 use crate::observer::{any_call, any_contents, Call};
 use crate::ours::{Values, DIRTY_ADDRESS};
 use crate::ours_traffic::{Counts, Noted, Report, RunSheet};
@@ -35,15 +35,6 @@ const REGISTER_SESSION: u8 = 10;
 const REMOVE_SESSION: u8 = 11;
 const HANDLE_DATAGRAM: u8 = 12;
 
-/// The kinds in which T-PDUs are read.
-const READERS: [u8; 5] = [
-    DECODE,
-    ECHO,
-    RECORD_RECEIVED_TPDU,
-    RECORD_RETURN_GTPU_DATAGRAM,
-    HANDLE_DATAGRAM,
-];
-
 /// How many inputs are drawn, at most, to find what a kind of record is to have.
 const DRAWS: usize = 100_000;
 
@@ -61,9 +52,7 @@ pub struct Sample {
 ///
 /// # Panics
 ///
-/// If a number that the Rust can give is not among the answers of all of it; or if some kind in which
-/// T-PDUs are read has not both an IHL below 5 and a packet that is cut, which the Rust does not tell
-/// apart.
+/// If a number for a cause at which the Rust refuses is not among the answers of all of it.
 pub fn sample(seed: u64, first: u8) -> Sample {
     let mut sample = Sample {
         seed,
@@ -88,16 +77,10 @@ pub fn sample(seed: u64, first: u8) -> Sample {
     sample.draw(REMOVE_SESSION, 10, 10, draw_remove);
     sample.draw(HANDLE_DATAGRAM, 4, 6, draw_handle);
     if first == 0 {
-        let mut due = of_the_rust();
+        let mut due = in_the_rust();
         due.insert(0);
         let numbers: BTreeSet<u8> = sample.seen.keys().map(|&(_, number, _)| number).collect();
         assert_eq!(numbers, due, "the numbers of the sample");
-        for kind in READERS {
-            for ours in [INVALID_IPV4_IHL, TRUNCATED_IPV4_UDP_PACKET] {
-                let key = (kind, INVALID_IPV4_IHL, ours);
-                assert!(sample.seen.contains_key(&key), "no {ours} in kind {kind}");
-            }
-        }
     }
     sample
 }
@@ -199,24 +182,15 @@ fn short_packet(random: &mut Random) -> Option<Vec<u8>> {
     (packet.len() <= MOST_BYTES && compared(&packet)).then_some(packet)
 }
 
-/// The variety of an outcome on a T-PDU: of a refusal, which of our numbers it is.
-fn variety(tpdu: &[u8], number: u8, accepted: u8) -> u8 {
-    match number {
-        0 => accepted,
-        _ => told_apart(tpdu, number),
-    }
-}
-
 fn draw_decode(random: &mut Random) -> Option<Drawn> {
     let packet = short_packet(random)?;
     let (number, values) = match decode(&packet) {
         Ok(probe) => (0, Values::from(probe)),
-        Err(number) => (number, no_values()),
+        Err(number) => (told_apart(&packet, number), no_values()),
     };
-    let variety = variety(&packet, number, values.version);
     let mut rest = probe_bytes(&values);
     rest.extend(packet);
-    Some((number, variety, rest))
+    Some((number, values.version, rest))
 }
 
 /// What stands beside a refusal: version 4, the addresses as they were lent, and zeros.
@@ -236,15 +210,14 @@ fn draw_echo(random: &mut Random) -> Option<Drawn> {
     let packet = short_packet(random)?;
     let (number, written) = match echo(&packet) {
         Ok(written) => (0, written),
-        Err(number) => (number, vec![]),
+        Err(number) => (told_apart(&packet, number), vec![]),
     };
-    let variety = variety(&packet, number, written.len() as u8);
     let out = output(random, &written);
     let mut rest = word(written.len()).to_vec();
     rest.extend(word(out.len()));
     rest.extend(out);
     rest.extend(packet);
-    Some((number, variety, rest))
+    Some((number, written.len() as u8, rest))
 }
 
 fn draw_generate(random: &mut Random) -> Option<Drawn> {
@@ -363,9 +336,8 @@ fn draw_call(random: &mut Random, kind: u8) -> Option<Drawn> {
     rest.extend([outcome, message_type]);
     rest.extend(numbers.into_iter().flat_map(u64::to_be_bytes));
     rest.extend(payload);
-    let tpdu = call.tpdu();
-    let variety = tpdu.map_or(outcome, |tpdu| variety(tpdu, number, outcome));
-    Some((number, variety, rest))
+    let number = told_apart(call.tpdu().unwrap_or(&[]), number);
+    Some((number, outcome, rest))
 }
 
 fn report_bytes(report: &Report) -> Vec<u8> {

@@ -4,7 +4,7 @@
 use testkit_open::reflector::OpenReflector;
 
 use crate::compared::{compared, told_apart};
-use crate::numbers::{ECHO_REQUEST_TEID_NOT_ZERO, INVALID_IPV4_IHL};
+use crate::numbers::ECHO_REQUEST_TEID_NOT_ZERO;
 use crate::ours_reflector::{Address, Config, Handled, Message as Header, Session, State};
 use crate::random::Random;
 use crate::records::{word, Drawn, DIRT, MOST_BYTES, ROWS};
@@ -202,8 +202,7 @@ fn handled_bytes(handled: &Handled) -> Vec<u8> {
 }
 
 /// The varieties are what is done, under which policy, and to which version's address; of Echo
-/// Requests with a TEID, which of its bytes alone is not 0, if one is; of T-PDUs that the Rust refuses
-/// by one text for two numbers of ours, which of them it is.
+/// Requests with a TEID, which of its bytes alone is not 0, if one is.
 pub fn draw_handle(random: &mut Random) -> Option<Drawn> {
     let mut table = Table::any(random);
     let message = any_message(random, table.used());
@@ -234,10 +233,9 @@ pub fn draw_handle(random: &mut Random) -> Option<Drawn> {
     let done = due.action * 8 + reason(&due);
     let variety = match due.number {
         ECHO_REQUEST_TEID_NOT_ZERO => lone_byte(message.teid),
-        INVALID_IPV4_IHL => told_apart(&message.payload, due.number),
         _ => done * 6 + table.config.policy.min(2) * 2 + u8::from(due.destination.version == 4),
     };
-    Some((due.number, variety, rest))
+    Some((told_apart(&message.payload, due.number), variety, rest))
 }
 
 /// The byte of a TEID that alone is not 0, counted from 1; or 0.

@@ -233,7 +233,7 @@ fn generates_on(
     part.case(
         plan.as_flattened(),
         (written.told(), ours.next_sequence, wrong_packet),
-        (Written { number, bytes }, next_sequence, None),
+        (Written { number, bytes }.due(&[]), next_sequence, None),
     );
 }
 

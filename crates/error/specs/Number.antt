@@ -155,7 +155,7 @@ unsupportedMessageType = 37
 abbrev pub truncatedIpv4UdpPacket : ℕ
 truncatedIpv4UdpPacket = 39
 
--- all of them, in the order of the card
+-- all of them, in the order of the numbers
 abbrev pub numbersOf : List ℕ
 numbersOf =
     truncatedIpHeader

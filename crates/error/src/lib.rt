@@ -1,4 +1,4 @@
-// The refusal codes: document 01's card of numbers (leaf 1), and from 38 on the new numbers of document 02. Where the
+// The refusal codes: document 01's card of numbers (leaf 1), and above 37 the new numbers of document 02. Where the
 // Rust's error.rs has an enum with texts, each cause here is its number, named in the Rust's words where it has any.
 // specs/Number.antt says what each number means, and `numbers` proves that the two lists agree. Numbers up to 50 are
 // kept for this list.
@@ -81,7 +81,7 @@ pub const UNSUPPORTED_MESSAGE_TYPE: u8 = 37;
 
 pub const TRUNCATED_IPV4_UDP_PACKET: u8 = 39;
 
-// Every refusal code, in the order of the card.
+// Every refusal code, in the order of the numbers.
 pub fn numbers() -> [u8; 38]
     ensures { λ r. ⌜ r ≡ numbersOf ⌝ }
 {

@@ -61,10 +61,11 @@ indication-accepted config state source message payload e = (
 
 pub received-has-risen : ReceivedHasRisen
 unfolding answer gpduKnown gpduOutcome
-received-has-risen config state session source message payload output n g p e =
+received-has-risen rows used k config e p state session source message payload output n l g r =
     let is : answer config state (some session) source message payload ≡ record { outcome = refused n; state = oneMoreReceived state } =
-    rw (eq-eqb (message .«message_type») 255 g, p, echo-refused payload n e, answer) in
-    (is, ap (λ (a : Answer). placed (a .outcome) output) is)
+    rw (eq-eqb (message .«message_type») 255 g, p, echo-refused payload n r, answer) in
+    let whole = sym (handling-passed rows used config state (some session) source message payload output (sym e) l) ∙ is in
+    (whole, ap (λ (a : Answer). placed (a .outcome) output) whole)
 
 pub echo-reads-back : EchoReadsBack
 unfolding answer gpduKnown gpduOutcome

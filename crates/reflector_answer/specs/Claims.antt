@@ -59,12 +59,14 @@ oneMoreReceived state = record {
 
 -- The card's "all (*)", for each number by which reading refuses a T-PDU: "(*) In the reflector under echo, the
 -- received count has risen by 1", and no other count and no byte of the output has changed. 39 is such a number too,
--- with the state of 4 (document 02, job 3).
+-- with the state of 4 (document 02, job 3). It is asked that 30, 31 and 15, which come first, are not due.
 abbrev pub ReceivedHasRisen : Type 0
-ReceivedHasRisen = (config : MultiSessionReflectorConfig) (state : ReflectorState) (session : ReflectorSession)
-    (source : SocketAddr) (message : GtpuMessage) (payload output : List ℕ) (n : ℕ)
-    → message .«message_type» ≡ gtpuMsgGpdu → config .policy ≡ Echo → readOf payload ≡ refused n
-    → let a : Answer = answer config state (some session) source message payload in
+ReceivedHasRisen = (rows used k : ℕ) (config : MultiSessionReflectorConfig)
+    → tableOutcome rows used (config .«max_sessions») ≡ gives k → config .policy ≡ Echo
+    → (state : ReflectorState) (session : ReflectorSession) (source : SocketAddr) (message : GtpuMessage)
+    (payload output : List ℕ) (n : ℕ)
+    → 72 ≤ length output → message .«message_type» ≡ gtpuMsgGpdu → readOf payload ≡ refused n
+    → let a : Answer = handleFound rows used config state (some session) source message payload output in
     (a ≡ record { outcome = refused n; state = oneMoreReceived state }) × (placed (a .outcome) output ≡ output)
 
 -- A built T-PDU for a known session, whatever stands behind it, is echoed to the session's peer; the echo, read back,

@@ -49,18 +49,9 @@ pub fn number(s: &[u8], at: usize) -> u64 {
     double_word(s, at) * 4294967296 + double_word(s, after(at, 4))
 }
 
-// A number of ours, as the Rust tells refusals apart: it has one error for 4 and 39 (document 02, job 3). This is
-// `asTheRustTells` of rust_reference: a change that is stated there is made here too.
-fn as_the_rust_tells(number: u8) -> u8 {
-    if number == 39 {
-        return 4;
-    }
-    number
-}
-
 // Whether a call refused by the number of a record, or by none where that is 0.
 pub fn same_number(ours: u8, rust: u8) -> bool {
-    as_the_rust_tells(ours) == rust
+    ours == rust
 }
 
 // Whether the data begins with these numbers, 8 bytes each.

@@ -1,4 +1,4 @@
--- The claim of specs/Claims.antt, proved.
+-- The claims of specs/Claims.antt.
 use Prim.Native.Nat.{ℕ}
 use native.Mathlib.Omega.{arith}
 use mathlib.Core.Path.{_≡_, refl, sym, ap, _∙_}
@@ -6,11 +6,12 @@ use mathlib.Core.Bool.{Bool, true, false}
 use mathlib.Core.List.{List}
 use Rattle.error.specs.Outcome.{Outcome, refused, gives}
 use Rattle.observer.specs.Observer.{Observer}
-use Rattle.observer.specs.Judge.{wellFormed, judged, Step}
-use Rattle.observer.proofs.Calls.{judged-malformed, judged-well}
+use Rattle.observer.specs.Judge.{wellFormed, judged, Step, afterReading}
+use Rattle.observer.specs.Returning.{recordReturn}
+use Rattle.observer.proofs.Calls.{judged-malformed, judged-well, refusing-well}
 use Rattle.return_calls.specs.Kinds.{messageKind}
-use Rattle.return_calls.specs.Returns.{recordReceivedTpdu, recordElements, MessageStep, asMessage}
-use Rattle.return_calls.specs.Claims.{KindIsOfType}
+use Rattle.return_calls.specs.Returns.{sequenceRead, recordReceivedTpdu, recordElements, MessageStep, asMessage, recordReturnMessage}
+use Rattle.return_calls.specs.Claims.{KindIsOfType, RefusedAsRead}
 use Rattle.return_calls.specs.declared.GtpuReturnDatagramOutcome.{GtpuReturnDatagramOutcome}
 use Rattle.return_calls.specs.declared.GtpuReturnDatagramOutcome.the-variants.{MeasurementTpdu, ErrorIndication, EchoResponse, Ignored}
 use Rattle.return_calls.proofs.Laws.{kind-is, recordAs, message-as}
@@ -49,3 +50,11 @@ kind-is-of-type o time t payload kind e =
       type = kind-is t kind is .0;
       ignored = λ m f. kind-is t (Ignored m) (is ∙ ap gives f) .1;
     }
+
+pub refused-as-read : RefusedAsRead
+unfolding recordReceivedTpdu sequenceRead recordReturnMessage messageKind
+refused-as-read o time n tpdu w e =
+    let read : sequenceRead tpdu ≡ refused n = rw (e, sequenceRead) in
+    let is : recordReceivedTpdu o time tpdu ≡ record { outcome = refused n; observer = o } =
+    ap (λ (x : Outcome ℕ). afterReading o x (recordReturn o time)) read ∙ sym (refusing-well o n w) in
+    (is, ap (asMessage MeasurementTpdu) is)

@@ -1,13 +1,16 @@
--- What is claimed of the return calls. proofs/Claims.antt proves it.
+-- What is claimed of the return calls. proofs/Claims.antt proves each claim.
 use Prim.Native.Nat.{ℕ}
 use mathlib.Core.Path.{_≡_}
 use mathlib.Core.Logic.{_⊎_}
 use mathlib.Core.List.{List}
-use Rattle.error.specs.Outcome.{gives}
-use Rattle.gtpu.specs.Message.{gtpuMsgSupportedExtensionHeadersNotification, gtpuMsgEndMarker}
+use mathlib.Core.Bool.{true}
+use Rattle.error.specs.Outcome.{refused, gives}
+use Rattle.measurement_reading.specs.Read.{readOf}
+use Rattle.gtpu.specs.Message.{gtpuMsgSupportedExtensionHeadersNotification, gtpuMsgEndMarker, gtpuMsgGpdu}
 use Rattle.observer.specs.Observer.{Observer}
+use Rattle.observer.specs.Judge.{wellFormed}
 use Rattle.return_calls.specs.Kinds.{messageTypeOf}
-use Rattle.return_calls.specs.Returns.{recordReturnMessage}
+use Rattle.return_calls.specs.Returns.{recordReceivedTpdu, recordReturnMessage}
 use Rattle.return_calls.specs.declared.GtpuReturnDatagramOutcome.{GtpuReturnDatagramOutcome}
 use Rattle.return_calls.specs.declared.GtpuReturnDatagramOutcome.the-variants.{Ignored}
 
@@ -20,3 +23,11 @@ pub record OfType (messageType : ℕ) (kind : GtpuReturnDatagramOutcome) : Type 
 abbrev pub KindIsOfType : Type 0
 KindIsOfType = (o : Observer) (time messageType : ℕ) (payload : List ℕ) (kind : GtpuReturnDatagramOutcome)
     → recordReturnMessage o time messageType payload .outcome ≡ gives kind → OfType messageType kind
+
+-- Where 21 is not due, a T-PDU that reading refuses, by whichever number, is refused by that number, alone and in a
+-- message of type 255, and the sheet is left as it was: the card's "all". 39 is such a number too, with the state of 4
+-- (document 02, job 3).
+abbrev pub RefusedAsRead : Type 0
+RefusedAsRead = (o : Observer) (time n : ℕ) (tpdu : List ℕ) → wellFormed o ≡ true → readOf tpdu ≡ refused n
+    → (recordReceivedTpdu o time tpdu ≡ record { outcome = refused n; observer = o })
+    × (recordReturnMessage o time gtpuMsgGpdu tpdu ≡ record { outcome = refused n; observer = o })

@@ -15,7 +15,7 @@ ghost use Rattle.return_calls.specs.Returns.{sequenceRead, recordReceive
 ghost use Rattle.return_calls.specs.Answer.{messageMeans, sequenceNumbers, recordsMessage};
 ghost use Rattle.return_calls.specs.Reading.{tpduReturned, elementsReturned, messageReturned, recordReturned};
 ghost use Rattle.return_calls.specs.Reading.{kindIf};
-ghost use Rattle.return_calls.specs.Claims.{KindIsOfType};
+ghost use Rattle.return_calls.specs.Claims.{KindIsOfType, RefusedAsRead};
 
 // What a returned message was.
 pub enum GtpuReturnDatagramOutcome {
@@ -162,7 +162,7 @@ fn record_returned(
 }
 
 // Records a T-PDU that came back. It is read first, which changes nothing. 21 is judged before a refusal of the reader;
-// if there is none, the sequence is recorded. Refuses by 21, as the reader, 23, 24.
+// if there is none, the sequence is recorded. Refuses by 21; then as the reader; then by 23, 24.
 pub fn record_received_tpdu(
     sequences: &[u64],
     send_timestamps: &[u64],
@@ -235,6 +235,11 @@ pub fn record_return_gtpu_datagram(
     );
     message_answer(message_type, recorded)
 }
+
+// Carries the claim that a T-PDU which reading refuses is refused by the same number, and leaves the sheet as it was.
+pub fn refused_as_read()
+    ensures { λ _. ⌜ RefusedAsRead ⌝ }
+{}
 
 // Carries the claim that an accepted message is of a kind that has its type.
 pub fn kind_is_of_type()
