@@ -1,5 +1,6 @@
 //! A sample of the Rust's answers, as the records that `crates/replay` reads: its README says what
-//! is in them. A refusal is told by the number that is due of ours (`told_apart`). Nothing here, or in `sample_reflector.rs`, calls our library.
+//! is in them. A refusal is told by the number that is due of ours (`told_apart`). Nothing here, or in
+//! `sample_reflector.rs`, calls our library.
 
 use std::collections::{BTreeMap, BTreeSet};
 
