@@ -244,6 +244,39 @@ static void cut_packets(void)
     expect("IHL 4, 20 bytes", refusal(20), TESTKIT_INVALID_IPV4_IHL);
 }
 
+/* Gives the IPv4 T-PDU in `packet` these flags and this fragment offset, 16 bits in all, and a right header checksum. */
+static void set_flags(uint16_t flags)
+{
+    packet[6] = (uint8_t)(flags >> 8);
+    packet[7] = (uint8_t)flags;
+    packet[10] = packet[11] = 0;
+    uint16_t sum = testkit_checksum(copy(packet, 20), 20);
+    packet[10] = (uint8_t)(sum >> 8);
+    packet[11] = (uint8_t)sum;
+}
+
+/* Fragments: by the flag, by the offset, or by both. The reserved bit and Don't Fragment make none. */
+static void fragments(void)
+{
+    static const uint16_t whole[] = {0x8000, 0x4000, 0xC000};
+    static const uint16_t parts[] = {0x2000, 0x0001, 0x0100, 0x1FFF, 0x3FFF, 0xE000};
+    make(4, 5);
+    for (size_t k = 0; k < sizeof whole / sizeof *whole; k++) {
+        set_flags(whole[k]);
+        expect("no fragment", refusal(52), TESTKIT_ACCEPTED);
+    }
+    for (size_t k = 0; k < sizeof parts / sizeof *parts; k++) {
+        set_flags(parts[k]);
+        expect("a fragment", refusal(52), TESTKIT_IPV4_FRAGMENT);
+        compare_testkit_written(
+            "echo, a fragment", testkit_echo(copy(packet, 52), 52, out, PACKET), written_as(TESTKIT_IPV4_FRAGMENT, 0));
+    }
+    packet[25] = 0;
+    expect("a fragment with a UDP length of 0", refusal(52), TESTKIT_IPV4_FRAGMENT);
+    packet[10] ^= 1;
+    expect("a fragment with a wrong header checksum", refusal(52), TESTKIT_INVALID_IPV4_HEADER_CHECKSUM);
+}
+
 static void generator(void)
 {
     uint8_t *bytes = (uint8_t *)lend(3 * TESTKIT_IPV4_TPDU_BYTES);
@@ -445,6 +478,9 @@ static void returning(void)
     row("row 0", 0, 11, 4000, 10, 1);
     received("no T-PDU", 4010, 0, TESTKIT_TRUNCATED_IP_HEADER, counts_of(8, 102, 203, 303));
     received("a T-PDU that is cut", 4010, 27, TESTKIT_TRUNCATED_IPV4_UDP_PACKET, counts_of(8, 102, 203, 303));
+    set_flags(0x2000);
+    received("a fragment", 4010, length, TESTKIT_IPV4_FRAGMENT, counts_of(8, 102, 203, 303));
+    row("row 0", 0, 11, 4000, 10, 1);
     length = make(4, 19);
     received("another's", 9999, length, TESTKIT_SEQUENCE_WAS_NOT_SENT, counts_of(8, 102, 203, 303));
     length = make(4, 14);
@@ -905,6 +941,12 @@ static void handling(void)
         "echo, cut", message_of(255, 0x21, 0, 0), packet, 27,
         nothing(TESTKIT_TRUNCATED_IPV4_UDP_PACKET, TESTKIT_ACTION_REFUSED, 0), s);
     s.stats.gpdu_received++;
+    set_flags(0x2000);
+    handle(
+        "echo, a fragment", message_of(255, 0x21, 0, 0), packet, length,
+        nothing(TESTKIT_IPV4_FRAGMENT, TESTKIT_ACTION_REFUSED, 0), s);
+    set_flags(0);
+    s.stats.gpdu_received++;
     handle(
         "echo, null", message_of(255, 0x21, 0, 0), NULL, 0,
         nothing(TESTKIT_TRUNCATED_IP_HEADER, TESTKIT_ACTION_REFUSED, 0), s);
@@ -1036,6 +1078,7 @@ int main(int argc, char **argv)
     packets(4);
     packets(6);
     cut_packets();
+    fragments();
     generator();
     element_lists();
     open_sheet(&one);

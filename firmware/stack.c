@@ -372,11 +372,12 @@ static void measure_options(void)
 }
 
 /* Packets with a cause that single bits do not show, since the checksum is judged before it. The UDP checksum covers
- * the whole part behind the IP header, so what one field loses another gets. */
+ * the whole part behind the IP header, so what one field loses another gets. Of an IPv4 header, two words that were 0
+ * and add up to 0xFFFF leave the checksum right. */
 static void measure_hidden_causes(uint64_t probe)
 {
     size_t udp = version == 4 ? 20 : 40;
-    for (int cause = 0; cause < 4; cause++) {
+    for (int cause = 0; cause < (version == 4 ? 5 : 4); cause++) {
         in_length = testkit_build(version, src, dst, 1, 2, probe, 4, in, sizeof in).bytes;
         if (cause == 0) { /* no probe: two words of its first 8 bytes exchanged */
             uint8_t word[2];
@@ -389,8 +390,12 @@ static void measure_hidden_causes(uint64_t probe)
         } else if (cause == 2) { /* a UDP length of 7 */
             in[udp + 5] -= 25;
             in[udp + 1] += 25;
-        } else { /* a UDP checksum of 0: not verified in IPv4 */
+        } else if (cause == 3) { /* a UDP checksum of 0: not verified in IPv4 */
             in[udp + 6] = in[udp + 7] = 0;
+        } else { /* a fragment: More Fragments, and the rest of 0xFFFF as identification */
+            in[4] = 0xDF;
+            in[5] = 0xFF;
+            in[6] = 0x20;
         }
         measure_packet();
     }

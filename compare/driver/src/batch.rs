@@ -1,7 +1,7 @@
 //! Our batch calls against single calls in a loop, the Rust's and ours: the packets of a plan, all or
 //! none, and lists of returns. The Rust has no batch calls.
 
-use crate::compared::{as_the_rust_tells, compared, told_apart, Answer};
+use crate::compared::{as_the_rust_tells, compared, leave_out, told_apart, Answer};
 use crate::numbers::*;
 use crate::observer::{any_call, any_contents, any_rows, malformed_sheet, time_near, Call, Pair};
 use crate::ours_traffic::RunSheet;
@@ -230,8 +230,11 @@ impl Due {
         due.returns = returns.len().min(columns);
         due.number = 0;
         for (k, (_, tpdu)) in returns.iter().take(due.returns).enumerate() {
-            due.returned[k] = decode(tpdu).map_or(0, |probe| probe.sequence);
             due.numbers[k] = number(k);
+            due.returned[k] = match compared(tpdu) {
+                true => decode(tpdu).map_or(0, |probe| probe.sequence),
+                false => 0,
+            };
         }
         due
     }
@@ -269,19 +272,16 @@ impl Due {
     }
 }
 
-/// Takes a list of returns on both sides.
+/// Takes a list of returns on both sides. The Rust is not given those that are not compared: ours has
+/// to refuse them, and to go on with the sheet as it was.
 fn take(part: &mut Part, seen: &mut Seen, random: &mut Random, pair: &mut Pair, rows: usize) {
-    let mut returns = any_returns(random, &pair.contents, rows);
-    returns.retain(|(_, tpdu)| {
-        let compared = compared(tpdu);
-        if !compared {
-            part.leave_out();
-        }
-        compared
-    });
+    let returns = any_returns(random, &pair.contents, rows);
     let due = Due::of(random, &returns, |k| {
         let (time, tpdu) = returns[k].clone();
-        pair.due_answer(&Call::Tpdu { time, tpdu }).number
+        match compared(&tpdu) {
+            true => pair.due_answer(&Call::Tpdu { time, tpdu }).number,
+            false => leave_out(part, &tpdu),
+        }
     });
     let sheet = pair.due();
     for number in due.compare(part, pair.ours.clone(), &sheet, &returns) {

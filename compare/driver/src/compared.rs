@@ -3,11 +3,14 @@
 //! readers differ is stated here and there, and nowhere else. Where the Rust has one error for two
 //! numbers of ours, this file also says which of the two is due.
 
-use crate::numbers::{INVALID_IPV4_IHL, TRUNCATED_IPV4_UDP_PACKET};
+use crate::numbers::{
+    INVALID_IPV4_HEADER_CHECKSUM, INVALID_IPV4_IHL, IPV4_FRAGMENT, TRUNCATED_IPV4_UDP_PACKET,
+    TRUNCATED_IP_HEADER,
+};
 use crate::ours::{Values, Written};
 use crate::ours_reflector::{Handled, Registered};
 use crate::ours_traffic::Noted;
-use crate::packet::ipv4_ihl;
+use crate::packet::{ipv4_ihl, is_ipv4_fragment};
 use crate::part::Part;
 use crate::rust_side::measurement::decode;
 use crate::rust_side::Outcome;
@@ -30,33 +33,34 @@ pub fn told_apart(tpdu: &[u8], rust: u8) -> u8 {
     }
 }
 
-/// `Compared`: whether a T-PDU is compared. Every one is, whatever its bytes and its length. It is
-/// asked where a T-PDU is read: by the reader and the echo, in a return, and in a G-PDU that is echoed.
-pub fn compared(_tpdu: &[u8]) -> bool {
-    true
+/// `Compared`: whether a T-PDU is compared. Every one is, whatever its bytes and its length, but for
+/// IPv4 fragments (document 02, job 1). It is asked where a T-PDU is read: by the reader and the echo,
+/// in a return, and in a G-PDU that is echoed.
+pub fn compared(tpdu: &[u8]) -> bool {
+    !is_ipv4_fragment(tpdu)
 }
 
-/// The number by which ours has to refuse a T-PDU that is not compared, where the Rust's reader
-/// answers `rust`, 0 if it reads it. None: nothing is due, and ours is only called.
-///
-/// A change that narrows `compared` says here what can still be checked. For a new cause that is
-/// judged after some others: the Rust's number where it is one of those, else the new one.
-fn due_where_not_compared(_tpdu: &[u8], _rust: u8) -> Option<u8> {
-    None
-}
-
-/// What is due of ours where the Rust answers a T-PDU by this call, if anything is.
-pub fn due<T>(part: &mut Part, tpdu: &[u8], rust: fn(&[u8]) -> Outcome<T>) -> Option<Outcome<T>> {
-    match compared(tpdu) {
-        true => Some(rust(tpdu)),
-        false => leave_out(part, tpdu).map(Err),
+/// `refusedAsFragment`: the number by which ours has to refuse a fragment, where the Rust's reader
+/// answers `rust`, 0 if it reads it. 1 to 7 are judged before 38, and everything else after it.
+fn due_of_a_fragment(rust: u8) -> u8 {
+    match rust {
+        TRUNCATED_IP_HEADER..=INVALID_IPV4_HEADER_CHECKSUM => rust,
+        _ => IPV4_FRAGMENT,
     }
 }
 
-/// Counts a T-PDU that is not compared: the number by which ours has to refuse it, if one is due.
-pub fn leave_out(part: &mut Part, tpdu: &[u8]) -> Option<u8> {
+/// What is due of ours where the Rust answers a T-PDU by this call.
+pub fn due<T>(part: &mut Part, tpdu: &[u8], rust: fn(&[u8]) -> Outcome<T>) -> Outcome<T> {
+    match compared(tpdu) {
+        true => rust(tpdu),
+        false => Err(leave_out(part, tpdu)),
+    }
+}
+
+/// Counts a T-PDU that is not compared: the number by which ours has to refuse it.
+pub fn leave_out(part: &mut Part, tpdu: &[u8]) -> u8 {
     part.leave_out();
-    due_where_not_compared(tpdu, decode(tpdu).err().unwrap_or(0))
+    due_of_a_fragment(decode(tpdu).err().unwrap_or(0))
 }
 
 /// An answer, which has a number.

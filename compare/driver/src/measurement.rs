@@ -58,9 +58,8 @@ pub fn reading(seed: u64, rounds: u64) -> Part {
     each_wild(seed, rounds, |tpdu| {
         let answer = ours::decode(tpdu);
         *seen.entry(cause(tpdu, answer.0)).or_insert(0) += 1;
-        if let Some(due) = due(&mut part, tpdu, decode) {
-            part.case(tpdu, answer.told(), as_ours(due).due(tpdu));
-        }
+        let due = as_ours(due(&mut part, tpdu, decode)).due(tpdu);
+        part.case(tpdu, answer.told(), due);
     });
 
     let mut causes = vec![(4, 0), (6, 0)];
@@ -206,25 +205,19 @@ fn writes(
 }
 
 fn echoes(part: &mut Part, tpdu: &[u8]) {
-    if let Some(due) = due(part, tpdu, echo) {
-        let due = due.as_deref().map_err(|number| *number);
-        writes(part, tpdu, due, |out| ours::echo(tpdu, out));
-    }
+    let due = due(part, tpdu, echo);
+    let due = due.as_deref().map_err(|number| *number);
+    writes(part, tpdu, due, |out| ours::echo(tpdu, out));
 }
 
-/// Both sides must read the damaged packet alike, and ours must refuse it or read the probe that was
-/// sent, whether it is compared or not.
+/// Both sides must read the damaged packet alike, if it is compared, and ours must refuse it or read
+/// the probe that was sent, whether it is compared or not.
 fn survives(part: &mut Part, sent: Probe, damaged: &[u8]) {
     let answer = ours::decode(damaged);
     let is_read = answer.0 == 0;
     let harmless = !is_read || answer.1 == sent.into();
-    match due(part, damaged, decode) {
-        Some(due) => {
-            let due = as_ours(due).due(damaged);
-            part.case(damaged, (answer.told(), harmless), (due, true));
-        }
-        None => part.case(damaged, harmless, true),
-    }
+    let due = as_ours(due(part, damaged, decode)).due(damaged);
+    part.case(damaged, (answer.told(), harmless), (due, true));
     if is_read || part.cases().is_multiple_of(ECHO_SAMPLE) {
         echoes(part, damaged);
     }

@@ -45,6 +45,7 @@ pub const REFLECTOR_SESSION_CAPACITY_EXCEEDED: u8 = 34;
 pub const ECHO_REQUEST_TEID_NOT_ZERO: u8 = 35;
 pub const ECHO_REQUEST_MISSING_SEQUENCE: u8 = 36;
 pub const UNSUPPORTED_MESSAGE_TYPE: u8 = 37;
+pub const IPV4_FRAGMENT: u8 = 38;
 pub const TRUNCATED_IPV4_UDP_PACKET: u8 = 39;
 
 /// The card's numbers, in their order.
@@ -86,6 +87,7 @@ pub const CARD: &[u8] = &[
     ECHO_REQUEST_TEID_NOT_ZERO,
     ECHO_REQUEST_MISSING_SEQUENCE,
     UNSUPPORTED_MESSAGE_TYPE,
+    IPV4_FRAGMENT,
     TRUNCATED_IPV4_UDP_PACKET,
 ];
 
@@ -105,6 +107,7 @@ pub const READING: &[u8] = &[
     INVALID_UDP_CHECKSUM,
     TRUNCATED_MEASUREMENT_HEADER,
     MEASUREMENT_MAGIC_MISMATCH,
+    IPV4_FRAGMENT,
     TRUNCATED_IPV4_UDP_PACKET,
 ];
 
@@ -117,6 +120,7 @@ pub const READING_IPV4: &[u8] = &[
     INVALID_IPV4_TOTAL_LENGTH,
     PAYLOAD_IS_NOT_UDP,
     INVALID_IPV4_HEADER_CHECKSUM,
+    IPV4_FRAGMENT,
     INVALID_UDP_LENGTH,
     INVALID_UDP_CHECKSUM,
     TRUNCATED_MEASUREMENT_HEADER,
@@ -202,11 +206,15 @@ const NOT_IN_THE_RUST: &[u8] = &[
     MALFORMED_REFLECTOR_TABLE,
 ];
 
+/// The numbers for causes at which the Rust refuses nothing either, but that the card does not mark as
+/// added: T-PDUs that have such a cause are not compared (compared.rs).
+const NOT_COMPARED: &[u8] = &[IPV4_FRAGMENT];
+
 /// Our numbers for causes at which the Rust refuses too.
 pub fn in_the_rust() -> BTreeSet<u8> {
     let numbers = CARD.iter().copied();
     numbers
-        .filter(|number| !NOT_IN_THE_RUST.contains(number))
+        .filter(|number| !NOT_IN_THE_RUST.contains(number) && !NOT_COMPARED.contains(number))
         .collect()
 }
 

@@ -18,7 +18,7 @@ use crate::rust_side::measurement::{build, echo, Probe};
 use crate::rust_side::traffic::{Observer, Row, Sheet};
 use crate::seen::Seen;
 use crate::sheets::{capacity, difference, fresh, holding, questions, MOST_ROWS};
-use crate::wild::{any_probe, set_any_ihl};
+use crate::wild::{any_probe, set_any_flags, set_any_ihl};
 
 const G_PDU: u8 = 255;
 
@@ -314,14 +314,12 @@ impl Pair {
     /// A T-PDU that is not compared, which left our sheet like this: the Rust is not given it, and
     /// both go on from where they were.
     fn leaves_out(&self, part: &mut Part, tpdu: &[u8], answer: Noted, ours: &RunSheet) {
-        if let Some(number) = leave_out(part, tpdu) {
-            let answer = (answer.told(), difference(ours, &self.ours));
-            let due = Noted {
-                number,
-                ..Noted::default()
-            };
-            part.case(tpdu, answer, (due.due(tpdu), None));
-        }
+        let answer = (answer.told(), difference(ours, &self.ours));
+        let due = Noted {
+            number: leave_out(part, tpdu),
+            ..Noted::default()
+        };
+        part.case(tpdu, answer, (due.due(tpdu), None));
     }
 
     /// Reports, and the verdict on each: judged by the figures of a report that was made for another
@@ -484,7 +482,7 @@ pub(crate) fn time_near(random: &mut Random, time: u64) -> u64 {
 /// Cuts a T-PDU or changes a byte or a field; then may make the checksums right.
 fn spoil_tpdu(random: &mut Random, tpdu: &mut Vec<u8>) {
     let at = part_at(tpdu);
-    match random.below(5) {
+    match random.below(6) {
         0 => tpdu.truncate(random.below(tpdu.len())),
         1 => {
             let place = random.below(tpdu.len());
@@ -495,6 +493,7 @@ fn spoil_tpdu(random: &mut Random, tpdu: &mut Vec<u8>) {
             set_word(tpdu, at + 4, lengths[random.below(lengths.len())]);
         }
         3 => set_any_ihl(random, tpdu),
+        4 => set_any_flags(random, tpdu),
         _ => set_word(tpdu, 2 * random.below(at / 2 + 8), 0),
     }
     if random.below(2) == 0 {

@@ -16,6 +16,23 @@ pub fn ipv4_ihl(tpdu: &[u8]) -> usize {
     tpdu.first().map_or(0, |byte| usize::from(byte & 0x0f))
 }
 
+/// Where an IPv4 header has its three flags and the fragment offset, 16 bits in all.
+pub const IPV4_FLAGS_AT: usize = 6;
+
+/// Of these 16 bits: the flags, of which the first is reserved (RFC 791, section 3.1).
+pub const RESERVED: u16 = 0x8000;
+pub const DONT_FRAGMENT: u16 = 0x4000;
+pub const MORE_FRAGMENTS: u16 = 0x2000;
+
+/// Whether it is an IPv4 packet with More Fragments set or a fragment offset other than 0. A byte that
+/// is not there counts as 0.
+pub fn is_ipv4_fragment(tpdu: &[u8]) -> bool {
+    let byte = |at: usize| tpdu.get(at).copied().unwrap_or(0);
+    let flags = u16::from_be_bytes([byte(IPV4_FLAGS_AT), byte(IPV4_FLAGS_AT + 1)]);
+    let offset = flags & !(RESERVED | DONT_FRAGMENT | MORE_FRAGMENTS);
+    version(tpdu) == 4 && (flags & MORE_FRAGMENTS != 0 || offset != 0)
+}
+
 /// Where the UDP part starts: after the IPv4 header and its options, or the IPv6 header.
 pub fn part_at(tpdu: &[u8]) -> usize {
     match version(tpdu) {

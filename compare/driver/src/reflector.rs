@@ -479,16 +479,15 @@ impl Pair {
         let ours = &mut self.ours;
         let answer = ours.handle_datagram(source, header, &message.payload, &mut out);
         run.seen.add(answer.number);
-        if let Some(number) = leave_out(&mut run.part, &message.payload) {
-            let mut due = before.clone();
-            let received = &mut due.state.stats.gpdu_received;
-            *received = received.saturating_add(1);
-            let answer = (answer.told(), out, &self.ours);
-            let refused = not_sent(number, 0, 0, due.state).due(&message.payload);
-            let untouched = vec![DIRT; LEAST_OUTPUT];
-            run.part
-                .case(&message.payload, answer, (refused, untouched, &due));
-        }
+        let number = leave_out(&mut run.part, &message.payload);
+        let mut due = before.clone();
+        let received = &mut due.state.stats.gpdu_received;
+        *received = received.saturating_add(1);
+        let answer = (answer.told(), out, &self.ours);
+        let refused = not_sent(number, 0, 0, due.state).due(&message.payload);
+        let untouched = vec![DIRT; LEAST_OUTPUT];
+        run.part
+            .case(&message.payload, answer, (refused, untouched, &due));
         self.ours = before;
     }
 

@@ -271,12 +271,9 @@ fn list(part: &mut Part, random: &mut Random, met: &mut Met, packets: &[(u64, u6
     }
 }
 
-/// Whether the Rust's reader refuses these bytes; ours, where they are not compared.
+/// Whether the reader has to refuse these bytes: the Rust's does, or they are a fragment.
 fn is_refused(part: &mut Part, arrived: &[u8]) -> bool {
-    match due(part, arrived, decode) {
-        Some(due) => due.is_err(),
-        None => ours::decode(arrived).0 != 0,
-    }
+    due(part, arrived, decode).is_err()
 }
 
 /// A fresh sheet of ours with all packets entered as sent, none refused.

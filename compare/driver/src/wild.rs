@@ -2,7 +2,10 @@
 //! each of its causes, and each just missed.
 
 use crate::lists::each_list;
-use crate::packet::{length_at, part_at, set_word, sum_again, version};
+use crate::packet::{
+    length_at, part_at, set_word, sum_again, version, DONT_FRAGMENT, IPV4_FLAGS_AT, MORE_FRAGMENTS,
+    RESERVED,
+};
 use crate::random::Random;
 use crate::rust_side::measurement::{build, Flow, Probe};
 
@@ -186,6 +189,8 @@ fn right_packet(random: &mut Random, probe: Probe, extra: &Extra) -> Vec<u8> {
             packet[0] += extra.options as u8;
             packet[1] = random.number() as u8;
             packet[4..9].copy_from_slice(&random.bytes(5));
+            let flags = random.any_u16() & (RESERVED | DONT_FRAGMENT);
+            set_word(&mut packet, IPV4_FLAGS_AT, flags);
             packet.len()
         }
         _ => {
@@ -213,6 +218,18 @@ pub(crate) fn set_any_ihl(random: &mut Random, packet: &mut [u8]) {
     }
 }
 
+/// Gives an IPv4 packet any flags and any fragment offset: one alone, at an end of its range, or any.
+pub(crate) fn set_any_flags(random: &mut Random, packet: &mut [u8]) {
+    if version(packet) == 4 {
+        let one = [RESERVED, DONT_FRAGMENT, MORE_FRAGMENTS, 1, 0x00ff, 0x0100, 0x1fff];
+        let flags = match random.below(2) {
+            0 => one[random.below(one.len())],
+            _ => random.any_u16(),
+        };
+        set_word(packet, IPV4_FLAGS_AT, flags);
+    }
+}
+
 /// Cuts the packet, turns bits of it or changes a field; then may make the checksums right.
 fn change(random: &mut Random, packet: &mut Vec<u8>) {
     let at = part_at(packet);
@@ -220,7 +237,7 @@ fn change(random: &mut Random, packet: &mut Vec<u8>) {
     if near == 0 {
         return;
     }
-    match random.below(7) {
+    match random.below(8) {
         0 => packet.truncate(random.length(packet.len())),
         1 => {
             for _ in 0..=random.below(3) {
@@ -242,6 +259,7 @@ fn change(random: &mut Random, packet: &mut Vec<u8>) {
             set_word(packet, at + 4, shorter as u16);
         }
         5 => set_any_ihl(random, packet),
+        6 => set_any_flags(random, packet),
         _ => set_word(packet, at + 6, 0),
     }
     if random.below(2) == 0 {

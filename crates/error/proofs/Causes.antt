@@ -100,3 +100,29 @@ passes-from n (past {t = t} {m = m} {rows = rows} e p) = by (eqb m n) (passes-fr
 
 pub first-false : {t : Bool} {n : ℕ} {rows : List Cause} → Passes ((t ⇒ n) ∷ rows) → t ≡ false
 first-false (past e p) = e
+
+-- backwards from a refusal: the rows before the first with its number were passed, and those from it on refuse by it
+abbrev pub before : ℕ → List Cause → List Cause
+before n [] = []
+before n ((test ⇒ m) ∷ rows) = elim (eqb m n) [ true ↦ [] | false ↦ (test ⇒ m) ∷ before n rows ]
+
+pub passed-before : {A : Type 0} (n : ℕ) (rows : List Cause) (o : Outcome A) → firstCause rows o ≡ refused n → Passes (before n rows) × (firstCause (from n rows) o ≡ refused n)
+unfolding firstCause
+passed-before n [] o e = (none, e)
+passed-before n ((test ⇒ m) ∷ rows) o e = by (eqb m n) refl test e (passed-before n rows o)
+  where
+    by : (same : Bool) → eqb m n ≡ same → (t : Bool) → firstCause ((t ⇒ m) ∷ rows) o ≡ refused n
+        → (firstCause rows o ≡ refused n → Passes (before n rows) × (firstCause (from n rows) o ≡ refused n))
+        → Passes (elim same [ true ↦ [] | false ↦ (t ⇒ m) ∷ before n rows ]) × (firstCause (elim same [ true ↦ (t ⇒ m) ∷ rows | false ↦ from n rows ]) o ≡ refused n)
+    by true same t e rest = (none, e)
+    by false same true e rest = let is : m ≡ n = cc in absurd (eqb-false m n same is)
+    by false same false e rest = let p = rest e in (past refl (p .0), p .1)
+
+-- rows that were all passed were passed up to any of them
+pub passes-before : {rows : List Cause} (n : ℕ) → Passes rows → Passes (before n rows)
+passes-before n none = none
+passes-before n (past {t = t} {m = m} {rows = rows} e p) = by (eqb m n) (passes-before n p)
+  where
+    by : (b : Bool) → Passes (before n rows) → Passes (elim b [ true ↦ [] | false ↦ (t ⇒ m) ∷ before n rows ])
+    by true q = none
+    by false q = past e q

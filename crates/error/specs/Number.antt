@@ -151,6 +151,10 @@ echoRequestMissingSequence = 36
 abbrev pub unsupportedMessageType : ℕ
 unsupportedMessageType = 37
 
+-- fragment: more-fragments flag set, or fragment offset not 0 (document 02, job 1)
+abbrev pub ipv4Fragment : ℕ
+ipv4Fragment = 38
+
 -- input shorter than IHL × 4 + 8 bytes (document 02, job 3)
 abbrev pub truncatedIpv4UdpPacket : ℕ
 truncatedIpv4UdpPacket = 39
@@ -195,5 +199,6 @@ numbersOf =
     ∷ echoRequestTeidNotZero
     ∷ echoRequestMissingSequence
     ∷ unsupportedMessageType
+    ∷ ipv4Fragment
     ∷ truncatedIpv4UdpPacket
     ∷ []

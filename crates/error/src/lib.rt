@@ -79,10 +79,12 @@ pub const ECHO_REQUEST_MISSING_SEQUENCE: u8 = 36;
 
 pub const UNSUPPORTED_MESSAGE_TYPE: u8 = 37;
 
+pub const IPV4_FRAGMENT: u8 = 38;
+
 pub const TRUNCATED_IPV4_UDP_PACKET: u8 = 39;
 
 // Every refusal code, in the order of the numbers.
-pub fn numbers() -> [u8; 38]
+pub fn numbers() -> [u8; 39]
     ensures { λ r. ⌜ r ≡ numbersOf ⌝ }
 {
     [
@@ -123,6 +125,7 @@ pub fn numbers() -> [u8; 38]
         ECHO_REQUEST_TEID_NOT_ZERO,
         ECHO_REQUEST_MISSING_SEQUENCE,
         UNSUPPORTED_MESSAGE_TYPE,
+        IPV4_FRAGMENT,
         TRUNCATED_IPV4_UDP_PACKET,
     ]
 }

@@ -3,3 +3,4 @@ pub mod ReadBack
 pub mod Damaged
 pub mod Leg
 pub mod Claims
+pub mod Fragments

@@ -1,16 +1,19 @@
--- A built T-PDU is read back.
-use Prim.Native.Nat.{ℕ, _+_, _-_, _%_, _^_, _<_}
+-- A built T-PDU is read back, and an IPv4 one also with other flags, unless they make it a fragment.
+use Prim.Native.Nat.{ℕ, _+_, _-_, _/_, _%_, _^_, _<_}
 use native.Mathlib.Omega.{arith}
 use mathlib.Core.Path.{_≡_, refl, sym, ap, ap₂, _∙_}
-use mathlib.Core.List.{List, _++_}
-use mathlib.Core.Bool.{false}
+use mathlib.Core.List.{List, [], _∷_, _++_}
+use mathlib.Core.Bool.{false, not}
+use lib.Dec.{eqb}
 use lib.ListN.{length}
-use Rattle.error.specs.Outcome.{gives}
+use Rattle.error.specs.Outcome.{refused, gives}
 use Rattle.error.proofs.Causes.{none, past, passes}
-use Rattle.error.proofs.Tests.{equals}
+use Rattle.error.proofs.Tests.{differs, equals}
 use Rattle.field.specs.Field.{bigEndian, valueOf, bytesAt, field}
 use Rattle.field.proofs.Fields.{value-big-endian, length-bytesAt}
 use Rattle.checksum.specs.Sum.{sumOf, foldOf, checksumOf}
+use Rattle.checksum.specs.Claims.{Verifies}
+use Rattle.checksum.proofs.Sums.{sealed}
 use Rattle.measurement.specs.Flow.{addressLength}
 use Rattle.measurement.specs.Pseudo.{pseudoHeader}
 use Rattle.measurement.specs.Probe.{probe, measurementMagic}
@@ -18,11 +21,13 @@ use Rattle.measurement.specs.declared.DecodedTpdu.{DecodedTpdu}
 use Rattle.measurement.specs.declared.IpVersion.{IpVersion}
 use Rattle.measurement.specs.declared.IpVersion.the-variants.{V4, V6}
 use Rattle.measurement_packet.specs.Packet.{ipv4, ipv4Header, ipv6, ipHeader, udp, udpSegment}
-use Rattle.measurement_reading.specs.Read.{payload, lengthWrong, covered, sumWrong, probeCauses, tpduWith, tpduOf, readProbe, readUdp, ihl, readOf}
+use Rattle.measurement_damage.specs.Fragments.{packetWith}
+use Rattle.measurement_reading.specs.Read.{payload, lengthWrong, covered, sumWrong, probeCauses, tpduWith, tpduOf, readProbe, readUdp, ihl, isFragment, readIpv4, readOf}
 use Rattle.measurement.proofs.Pseudo.{pseudo-even}
-use Rattle.measurement_packet.proofs.Built.{packet, segment-length, segment-verifies, segment-checksum-not-0, ipv4-verifies}
+use Rattle.measurement_packet.proofs.Built.{packet, segment-length, segment-verifies, segment-checksum-not-0}
 use Rattle.measurement_reading.proofs.Rows.{udp4-rows, udp4-past-10, udp4-past-12, udp6-rows, udp6-past-11, udp6-past-12, udp6-past-10}
-use Rattle.measurement_reading.proofs.Rows.{ipv4-rows, past-3, past-4, past-39, past-5, past-6-ipv4, past-7, rest-ipv4}
+use Rattle.measurement_reading.proofs.Rows.{LeftIpv4, fragmentBits, fragment-tested, row-38, past-38, rest-ipv4}
+use Rattle.measurement_reading.proofs.Fragments.{left-38}
 use Rattle.measurement_reading.proofs.Rows.{ipv6-rows, past-8, past-6-ipv6, past-9, rest-ipv6, tpdu-rows, past-1, past-2-ipv4, past-2-ipv6}
 
 -- the UDP length of a built segment
@@ -89,26 +94,57 @@ module _ (v : IpVersion) (S D : List ℕ) (sport dport s t : ℕ) where
       ap gives (sym (tpdu-is hs hd ss st))
       ∙ part-gives v source destination sport dport s t (length-bytesAt (addressLength v) 0 S) (length-bytesAt (addressLength v) 0 D)
 
-checksum-0 : (l : List ℕ) → foldOf (sumOf l) ≡ 65535 → 0 ≡ checksumOf l
-unfolding checksumOf
-checksum-0 l e = omega arith
+-- a header whose checksum was made right verifies
+placed : (p s : List ℕ) → length p % 2 ≡ 0 → let c : ℕ = checksumOf (p ++ (0 ∷ 0 ∷ s)) in Verifies (p ++ (c / 256 % 256 ∷ c / 1 % 256 ∷ s))
+placed p s h =
+    let c = checksumOf (p ++ (0 ∷ 0 ∷ s)) in
+    let low : c < 65536 = unfold checksumOf in omega arith in
+    let high-is : c / 256 % 256 ≡ c / 256 = omega arith in
+    let low-is : c / 1 % 256 ≡ c % 256 = omega arith in
+    ap₂ (λ (a b : ℕ). foldOf (sumOf (p ++ (a ∷ b ∷ s)))) high-is low-is ∙ sealed p s h
 
--- it is read back, with anything behind it
-module _ (S D : List ℕ) (sport dport s t : ℕ) (hs : sport < 65536) (hd : dport < 65536) (ss : s < 2 ^ 64) (st : t < 2 ^ 64) (behind : List ℕ) where
-  reads-back-4 : readOf (packet V4 S D sport dport s t ++ behind) ≡ gives (tpdu V4 S D sport dport s t)
+-- an IPv4 packet with any word for its flags and fragment offset, and with anything behind it: 38 decides
+module _ (S D : List ℕ) (sport dport s t word : ℕ) (behind : List ℕ) where
+  abbrev flagged : List ℕ
+  flagged = packetWith word (packet V4 S D sport dport s t) ++ behind
+
+  flagged-left : LeftIpv4 flagged 38
   unfolding ipHeader ipv4 ipv4Header udp udpSegment probe measurementMagic addressLength ihl
-  reads-back-4 =
-      let p = packet V4 S D sport dport s t ++ behind in
-      let sum : 0 ≡ checksumOf (ipv4 (bytesAt 4 0 S) (bytesAt 4 0 D)) = checksum-0 (ipv4 (bytesAt 4 0 S) (bytesAt 4 0 D)) (ipv4-verifies S D) in
-      let left-4 = past-3 p (ipv4-rows p) (omega arith) in
-      let left-39 = past-4 p {k = 5} refl left-4 (omega arith) in
-      let left-5 = past-39 p {k = 5} refl left-39 (omega arith) in
-      let left-6 = past-5 p {k = 5} refl {n = 52} refl left-5 (omega arith) (omega arith) in
-      let left-7 = past-6-ipv4 p left-6 refl in
-      let left-0 = past-7 p {k = 5} refl {s = 0} sum left-7 refl in
+  flagged-left =
+      left-38 flagged {k = 5} refl {n = 52} refl
+      (record {
+        not-3 = omega arith;
+        not-4 = omega arith;
+        not-39 = omega arith;
+        not-5 = (omega arith, omega arith);
+        not-6 = refl;
+        not-7 = placed (69 ∷ 0 ∷ 0 ∷ 52 ∷ 0 ∷ 0 ∷ word / 256 % 256 ∷ word / 1 % 256 ∷ 64 ∷ 17 ∷ []) (bytesAt 4 0 S ++ bytesAt 4 0 D) refl;
+      })
+
+  flagged-is-ipv4 : readIpv4 flagged ≡ readOf flagged
+  unfolding ipHeader ipv4 ipv4Header
+  flagged-is-ipv4 = past-2-ipv4 flagged {v = 4} refl (past-1 flagged (tpdu-rows flagged) (λ e. omega arith)) refl
+
+  flags-tested : word < 65536 → not (eqb (fragmentBits word) 0) ≡ isFragment flagged
+  unfolding ipHeader ipv4 ipv4Header
+  flags-tested fits = fragment-tested flagged (sym (value-big-endian 2 word fits)) (λ z. z) (λ z. z)
+
+  pub fragment-refused : word < 65536 → (fragmentBits word ≡ 0 → ⊥) → readOf flagged ≡ refused 38
+  fragment-refused fits h = sym (row-38 flagged flagged-left (sym (flags-tested fits) ∙ differs (fragmentBits word) 0 h) ∙ flagged-is-ipv4)
+
+  pub whole-read : sport < 65536 → dport < 65536 → s < 2 ^ 64 → t < 2 ^ 64 → word < 65536 → fragmentBits word ≡ 0 → readOf flagged ≡ gives (tpdu V4 S D sport dport s t)
+  unfolding ipHeader ipv4 ipv4Header udp udpSegment probe measurementMagic addressLength ihl
+  whole-read hs hd ss st fits h =
       sym (part-of-packet V4 S D sport dport s t hs hd ss st
-      ∙ rest-ipv4 p {k = 5} refl {n = 52} refl left-0
-      ∙ past-2-ipv4 p {v = 4} refl (past-1 p (tpdu-rows p) (λ e. omega arith)) refl)
+      ∙ rest-ipv4 flagged {k = 5} refl {n = 52} refl (past-38 flagged flagged-left (sym (flags-tested fits) ∙ equals (fragmentBits word) 0 h))
+      ∙ flagged-is-ipv4)
+
+-- a built packet is read back, with anything behind it
+module _ (S D : List ℕ) (sport dport s t : ℕ) (hs : sport < 65536) (hd : dport < 65536) (ss : s < 2 ^ 64) (st : t < 2 ^ 64) (behind : List ℕ) where
+  -- its flags and fragment offset are 0
+  reads-back-4 : readOf (packet V4 S D sport dport s t ++ behind) ≡ gives (tpdu V4 S D sport dport s t)
+  unfolding ipHeader ipv4 ipv4Header udp addressLength
+  reads-back-4 = whole-read S D sport dport s t 0 behind hs hd ss st (omega arith) refl
 
   reads-back-6 : readOf (packet V6 S D sport dport s t ++ behind) ≡ gives (tpdu V6 S D sport dport s t)
   unfolding ipHeader ipv6 udp udpSegment probe measurementMagic addressLength

@@ -1,7 +1,8 @@
-// What is proved of building, reading and echoing together (specs/Claims.antt), on the contracts of functions that do
-// nothing. The echo is defined here; the call that echoes is in measurement_echo.
+// What is proved of building, reading and echoing together (specs/Claims.antt, specs/Fragments.antt), on the contracts of
+// functions that do nothing. The echo is defined here; the call that echoes is in measurement_echo.
 ghost use Rattle.measurement_damage.specs.Claims.{ReadsBack, EchoIsReversed, EchoOfEcho};
 ghost use Rattle.measurement_damage.specs.Claims.{DamageFound, SentIsRead, LegsChained};
+ghost use Rattle.measurement_damage.specs.Fragments.{BuiltWithFlags, FragmentsNotEchoed};
 
 // A built packet reads back to its flow, sequence and time.
 pub fn built_packet_reads_back()
@@ -22,4 +23,14 @@ pub fn damage_is_found()
 // often, with at most one span turned.
 pub fn legs_are_chained()
     ensures { λ _. ⌜ LegsChained ⌝ }
+{}
+
+// A built IPv4 packet with other flags is read, unless they make it a fragment, which is refused by 38.
+pub fn flags_decide()
+    ensures { λ _. ⌜ BuiltWithFlags ⌝ }
+{}
+
+// No fragment is echoed.
+pub fn fragments_are_not_echoed()
+    ensures { λ _. ⌜ FragmentsNotEchoed ⌝ }
 {}

@@ -22,7 +22,7 @@ ghost use Rattle.measurement.specs.Answer.{decodingMeans, decodeResult};
 ghost use Rattle.measurement.specs.declared.IpVersion.{IpVersion};
 ghost use Rattle.measurement.specs.declared.IpVersion.the-variants.{V4, V6};
 ghost use Rattle.measurement_reading.specs.Read.{lengthWrong, sumWrong, tpduOf, readProbe, readUdp};
-ghost use Rattle.measurement_reading.specs.Read.{readIpv4, readIpv6, readOf};
+ghost use Rattle.measurement_reading.specs.Read.{isFragment, readIpv4, readIpv6, readOf};
 ghost use Rattle.measurement_decode.specs.Part.{Part, Addresses, HasProbe};
 ghost use Rattle.measurement_decode.specs.Numbers.{decodingNumbered, tpduNumbers, sourceLeft, destinationLeft};
 
@@ -169,6 +169,15 @@ fn low_half(byte: u8) -> usize
     (byte & 0x0f) as usize
 }
 
+// Whether a packet is a fragment (RFC 791, section 3.1). What the remainder leaves out of the 16 bits is the reserved bit
+// and Don't Fragment; More Fragments and the fragment offset are tested as one number.
+fn is_fragment(tpdu: &[u8]) -> bool
+    requires { ⌜ 20 ≤ length (now tpdu) ⌝ }
+    ensures { λ r. ⌜ r ≡ isFragment (now (tpdu .entry)) ⌝ }
+{
+    read_u16(&tpdu[..], layout::IPV4_FLAGS_AND_FRAGMENT_OFFSET) % 0x4000 != 0
+}
+
 // IPv4: options are stepped over, and what lies past the total length is ignored.
 fn judge_ipv4(tpdu: &[u8]) -> u8
     ensures { λ r. ⌜ r ≡ outcomeNumber (readIpv4 (now (tpdu .entry))) ⌝ }
@@ -196,6 +205,9 @@ fn judge_ipv4(tpdu: &[u8]) -> u8
     }
     if checksum::checksum(&tpdu[..start]) != 0 {
         return error::INVALID_IPV4_HEADER_CHECKSUM;
+    }
+    if is_fragment(&tpdu[..]) {
+        return error::IPV4_FRAGMENT;
     }
     let addresses = ipv4_address_sum(
         &tpdu[layout::IPV4_SOURCE_ADDRESS..layout::IPV4_DESTINATION_ADDRESS],

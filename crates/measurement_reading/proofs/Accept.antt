@@ -1,5 +1,6 @@
--- What is known of a T-PDU that is not refused.
+-- What is known of a T-PDU that is not refused, and of an IPv4 header that no row before 38 refuses.
 use Prim.Native.Nat.{ℕ, _+_, _-_, _*_, _/_, _≤_}
+use native.Mathlib.Omega.{arith}
 use mathlib.Core.Path.{_≡_, refl, sym, ap, _∙_}
 use mathlib.Core.List.{List}
 use mathlib.Core.Bool.{Bool, true, false, not, _&&_}
@@ -8,13 +9,17 @@ use lib.Dec.{ltb, eqb}
 use lib.ListN.{length, take, drop, getD}
 use borrow.Author.Tests.{ltb-false, eqb-true, not-false}
 use Rattle.error.specs.Outcome.{Outcome, refused, gives, outcomeNumber}
-use Rattle.error.proofs.Causes.{passed, passes-from, first-false}
+use Rattle.error.proofs.Causes.{Passes, passed, passes-from, before, passes-before, first-false}
 use Rattle.error.proofs.Tests.{or-neither, true-not-false}
 use Rattle.field.specs.Field.{bytesAt, field}
+use Rattle.checksum.specs.Sum.{sumOf, checksumOf}
+use Rattle.checksum.specs.Claims.{Verifies}
+use Rattle.checksum.proofs.Carries.{fold-low}
 use Rattle.measurement.specs.declared.DecodedTpdu.{DecodedTpdu}
 use Rattle.measurement.specs.declared.IpVersion.{IpVersion}
 use Rattle.measurement.specs.declared.IpVersion.the-variants.{V4, V6}
-use Rattle.measurement_reading.specs.Read.{payload, lengthWrong, sumWrong, probeCauses, udpCauses, tpduOf, readProbe, readUdp, ihl, ipv4Causes, readIpv4, ipv6Causes, readIpv6, tpduCauses, readOf}
+use Rattle.measurement_reading.specs.Read.{payload, lengthWrong, sumWrong, probeCauses, udpCauses, tpduOf, readProbe, readUdp, ihl, isFragment, ipv4Causes, readIpv4, ipv6Causes, readIpv6, tpduCauses, readOf}
+use Rattle.measurement_reading.specs.Fragments.{HeaderRight}
 use Rattle.measurement_reading.proofs.Numbers.{read-by}
 
 -- a UDP part that was accepted
@@ -51,6 +56,7 @@ pub record Accepted4 (p : List ℕ) (r : DecodedTpdu) : Type 0 where
   pub low : 5 ≤ ihl p
   pub fits : ihl p * 4 + 8 ≤ field 2 2 p
   pub within : field 2 2 p ≤ length p
+  pub whole : isFragment p ≡ false
   pub part : readUdp V4 (bytesAt 4 12 p) (bytesAt 4 16 p) (take (field 2 2 p - ihl p * 4) (drop (ihl p * 4) p)) ≡ gives r
 
 pub record Accepted6 (p : List ℕ) (r : DecodedTpdu) : Type 0 where
@@ -58,14 +64,35 @@ pub record Accepted6 (p : List ℕ) (r : DecodedTpdu) : Type 0 where
   pub within : field 2 4 p + 40 ≤ length p
   pub part : readUdp V6 (bytesAt 16 8 p) (bytesAt 16 24 p) (take (field 2 4 p) (drop 40 p)) ≡ gives r
 
+-- a list whose checksum is 0 verifies, and no other does
+pub verifies : (l : List ℕ) → checksumOf l ≡ 0 → Verifies l
+unfolding checksumOf
+verifies l e = omega (arith, fold-low (sumOf l))
+
+pub checksum-0 : (l : List ℕ) → Verifies l → 0 ≡ checksumOf l
+unfolding checksumOf
+checksum-0 l e = omega arith
+
+pub header-right : (p : List ℕ) → Passes (before 38 (ipv4Causes p)) → HeaderRight (ihl p) (field 2 2 p) p
+unfolding ipv4Causes
+header-right p q =
+    let length-5 = or-neither (ltb (field 2 2 p) (ihl p * 4 + 8)) (ltb (length p) (field 2 2 p)) (first-false (passes-from 5 q)) in
+    record {
+      not-3 = ltb-false _ _ (first-false (passes-from 3 q));
+      not-4 = ltb-false _ _ (first-false (passes-from 4 q));
+      not-39 = ltb-false _ _ (first-false (passes-from 39 q));
+      not-5 = (ltb-false _ _ (length-5 .0), ltb-false _ _ (length-5 .1));
+      not-6 = eqb-true _ _ (not-false (eqb (getD p 9 0) 17) (first-false (passes-from 6 q)));
+      not-7 = verifies (take (ihl p * 4) p) (eqb-true _ _ (not-false (eqb (checksumOf (take (ihl p * 4) p)) 0) (first-false (passes-from 7 q))));
+    }
+
 module _ (p : List ℕ) (r : DecodedTpdu) where
   ipv4-accepted : readIpv4 p ≡ gives r → Accepted4 p r
   unfolding readIpv4 ipv4Causes
   ipv4-accepted e =
       let q = passed _ _ r e in
-      let a = first-false (passes-from 4 (q .0)) in
-      let b = or-neither (ltb (field 2 2 p) (ihl p * 4 + 8)) (ltb (length p) (field 2 2 p)) (first-false (passes-from 5 (q .0))) in
-      record { low = ltb-false _ _ a; fits = ltb-false _ _ (b .0); within = ltb-false _ _ (b .1); part = q .1 }
+      let h = header-right p (passes-before 38 (q .0)) in
+      record { low = h .not-4; fits = h .not-5 .0; within = h .not-5 .1; whole = first-false (passes-from 38 (q .0)); part = q .1 }
 
   ipv6-accepted : readIpv6 p ≡ gives r → Accepted6 p r
   unfolding readIpv6 ipv6Causes

@@ -13,17 +13,19 @@ use Rattle.error.proofs.Among.{of-each}
 use Rattle.error.proofs.Tests.{true-not-false, both}
 use Rattle.checksum.specs.Sum.{sumOf, folding, foldOf, checksumOf}
 use Rattle.checksum.proofs.Carries.{split}
-use Rattle.measurement_reading.specs.Read.{payload, lengthWrong, covered, sumWrong, probeCauses, udpCauses, readProbe, readUdp, ihl, ipv4Causes, readIpv4, tpduCauses, readOf}
+use Rattle.measurement_reading.specs.Read.{payload, lengthWrong, covered, sumWrong, probeCauses, udpCauses, readProbe, readUdp, ihl, isFragment, ipv4Causes, readIpv4, tpduCauses, readOf}
 use Rattle.measurement_reading.specs.Claims.{ReadingNumbers, ipv4Packet, TwoCauses, CutIsNot4, CutExamples}
 use Rattle.measurement_reading.proofs.Rows.{LeftIpv4, ipv4-rows, row-3, past-3, row-4, past-4, row-39, past-39, tpdu-rows, past-1, past-2-ipv4}
 use Rattle.measurement_reading.proofs.Numbers.{partNumbers, readingNumbers, left-by, read-by}
 
 pub reading-numbers : ReadingNumbers
-reading-numbers p n e = by (eqb n 39) refl (of-each (λ m. eqb m 39 || (ltb 0 m && ltb m 15)) readingNumbers refl n (read-by p n e))
+reading-numbers p n e =
+    by (eqb n 38) refl (eqb n 39) refl (of-each (λ m. eqb m 38 || (eqb m 39 || (ltb 0 m && ltb m 15))) readingNumbers refl n (read-by p n e))
   where
-    by : (t : Bool) → eqb n 39 ≡ t → t || (ltb 0 n && ltb n 15) ≡ true → ((1 ≤ n) × (n ≤ 14)) ⊎ (n ≡ 39)
-    by true f e = inr (eqb-true n 39 f)
-    by false f e =
+    by : (s : Bool) → eqb n 38 ≡ s → (t : Bool) → eqb n 39 ≡ t → s || (t || (ltb 0 n && ltb n 15)) ≡ true → ((1 ≤ n) × (n ≤ 14)) ⊎ (n ≡ 38) ⊎ (n ≡ 39)
+    by true f t g e = inr (inl (eqb-true n 38 f))
+    by false f true g e = inr (inr (eqb-true n 39 g))
+    by false f false g e =
         let p = both (ltb 0 n) (ltb n 15) e in
         let low = ltb-true 0 n (p .0) in
         let high = ltb-true n 15 (p .1) in
@@ -58,11 +60,11 @@ module _ (k : ℕ) (behind : List ℕ) (small : k < 16) where
   -- behind 4, and behind 39, the other rows have other numbers
   not-4 : 20 ≤ length p → 5 ≤ k → readOf p ≡ refused 4 → ⊥
   unfolding ipv4Causes
-  not-4 h l e = true-not-false (sym (left-by p (39 ∷ 5 ∷ 6 ∷ 7 ∷ partNumbers) 39 (left-39 h l) refl refl 4 (is-ipv4 ∙ e)))
+  not-4 h l e = true-not-false (sym (left-by p (39 ∷ 5 ∷ 6 ∷ 7 ∷ 38 ∷ partNumbers) 39 (left-39 h l) refl refl 4 (is-ipv4 ∙ e)))
 
   not-39 : 20 ≤ length p → 5 ≤ k → k * 4 + 8 ≤ length p → readOf p ≡ refused 39 → ⊥
   unfolding ipv4Causes
-  not-39 h l s e = true-not-false (sym (left-by p (5 ∷ 6 ∷ 7 ∷ partNumbers) 5 (past-39 p k-is (left-39 h l) s) refl refl 39 (is-ipv4 ∙ e)))
+  not-39 h l s e = true-not-false (sym (left-by p (5 ∷ 6 ∷ 7 ∷ 38 ∷ partNumbers) 5 (past-39 p k-is (left-39 h l) s) refl refl 39 (is-ipv4 ∙ e)))
 
   differ : {n m : ℕ} → refused n ≡ readOf p → readOf p ≡ refused m → n ≡ m
   differ e f = ap outcomeNumber (e ∙ f)
@@ -84,7 +86,7 @@ pub cut-is-not-4 : CutIsNot4
 cut-is-not-4 = two-causes
 
 pub cut-examples : CutExamples
-unfolding sumOf folding foldOf checksumOf readOf tpduCauses ihl ipv4Causes readIpv4 readUdp readProbe udpCauses probeCauses sumWrong covered lengthWrong payload firstCause
+unfolding sumOf folding foldOf checksumOf readOf tpduCauses ihl isFragment ipv4Causes readIpv4 readUdp readProbe udpCauses probeCauses sumWrong covered lengthWrong payload firstCause
 cut-examples = record {
   of-28-bytes = refl;
   of-27-bytes = refl;

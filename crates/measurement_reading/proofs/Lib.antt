@@ -3,3 +3,4 @@ pub mod Rows
 pub mod Numbers
 pub mod Accept
 pub mod Claims
+pub mod Fragments

@@ -1,24 +1,25 @@
 -- The reader's rows: which facts lead to which answer. Each law is of one row of a table in specs/Read.antt and says nothing of the rows before it:
 -- that they were passed is `Left`, of the rows from this one's number on. A row that is passed leaves those from the next one's number on.
-use Prim.Native.Nat.{ℕ, _+_, _-_, _*_, _/_, _<_, _≤_}
+use Prim.Native.Nat.{ℕ, _+_, _-_, _*_, _/_, _%_, _<_, _≤_}
 use native.Mathlib.Omega.{arith}
 use mathlib.Core.Path.{_≡_, refl, sym, ap, ap₂, _∙_}
 use mathlib.Core.List.{List}
-use mathlib.Core.Bool.{Bool, true, false, not}
+use mathlib.Core.Bool.{Bool, true, false, not, _||_}
 use lib.Dec.{ltb, eqb}
 use lib.ListN.{length, take, drop, getD}
-use borrow.Author.Tests.{lt-ltb, le-ltb, ltb-false, eq-eqb, ne-eqb}
+use borrow.Author.Tests.{lt-ltb, le-ltb, ltb-false, eq-eqb, ne-eqb, eqb-true, eqb-false}
 use Rattle.error.specs.Outcome.{Outcome, refused, gives}
 use Rattle.error.proofs.Causes.{from, Left, stops, goes-on, all-passed}
 use Rattle.error.proofs.Tests.{or-left, or-right, or-none, or-neither, and-left, and-right, and-both, differs, equals}
 use Rattle.field.specs.Field.{bytesAt, field}
 use Rattle.checksum.specs.Sum.{checksumOf}
+use Rattle.checksum.proofs.Carries.{split}
 use Rattle.measurement.specs.Probe.{measurementMagic}
 use Rattle.measurement.specs.declared.DecodedTpdu.{DecodedTpdu}
 use Rattle.measurement.specs.declared.IpVersion.{IpVersion}
 use Rattle.measurement.specs.declared.IpVersion.the-variants.{V4, V6}
 use Rattle.measurement_reading.specs.Read.{payload, lengthWrong, sumWrong, probeCauses, udpCauses, tpduOf, readProbe, readUdp}
-use Rattle.measurement_reading.specs.Read.{ihl, ipv4Causes, readIpv4, ipv6Causes, readIpv6, tpduCauses, readOf}
+use Rattle.measurement_reading.specs.Read.{ihl, moreFragments, fragmentOffset, isFragment, ipv4Causes, readIpv4, ipv6Causes, readIpv6, tpduCauses, readOf}
 
 -- the UDP length
 pub length-right : (u : List ℕ) → lengthWrong u ≡ false → (8 ≤ field 2 4 u) × (field 2 4 u ≤ length u)
@@ -34,6 +35,22 @@ length-short u e h = sym (or-left (ltb (field 2 4 u) 8) (ltb (length u) (field 2
 pub length-past : (u : List ℕ) {n : ℕ} → n ≡ field 2 4 u → 8 ≤ n → ltb (length u) n ≡ lengthWrong u
 unfolding lengthWrong
 length-past u e h = rw (e, le-ltb (field 2 4 u) 8 (omega arith))
+
+-- the more-fragments flag and the fragment offset, as one number of the 16 bits n
+abbrev pub fragmentBits : ℕ → ℕ
+fragmentBits n = n % 16384
+
+-- code tests a number t that is 0 where these are, and nowhere else
+pub fragment-tested : (p : List ℕ) {n t : ℕ} → n ≡ field 2 6 p → (t ≡ 0 → fragmentBits n ≡ 0) → (fragmentBits n ≡ 0 → t ≡ 0) → not (eqb t 0) ≡ isFragment p
+unfolding isFragment
+fragment-tested p {n} {t} e only where-0 = by (eqb (moreFragments p) 1) refl (eqb (fragmentOffset p) 0) refl
+  where
+    by : (a : Bool) → eqb (moreFragments p) 1 ≡ a → (b : Bool) → eqb (fragmentOffset p) 0 ≡ b → not (eqb t 0) ≡ a || not b
+    by true more b offset = let is = eqb-true (moreFragments p) 1 more in differs t 0 (λ z. let bits = rw e at (only z) in omega arith)
+    by false more true offset =
+        let is = eqb-true (fragmentOffset p) 0 offset in
+        split (moreFragments p) 1 (λ h. equals t 0 (where-0 (rw e (omega arith)))) (λ h. absurd (eqb-false (moreFragments p) 1 more (omega arith)))
+    by false more false offset = differs t 0 (λ z. let bits = rw e at (only z) in eqb-false (fragmentOffset p) 0 offset (omega arith))
 
 -- the probe: 13, 14, or what it gives
 module _ (v : IpVersion) (src dst u : List ℕ) where
@@ -133,7 +150,7 @@ module _ (src dst u : List ℕ) where
   udp6-past-10 left h = all-passed (goes-on left h)
 
 module _ (p : List ℕ) where
-  -- IPv4: 3, 4, 39, 5, 6, 7
+  -- IPv4: 3, 4, 39, 5, 6, 7, 38
   abbrev onward4 : Outcome DecodedTpdu
   onward4 = readUdp V4 (bytesAt 4 12 p) (bytesAt 4 16 p) (take (field 2 2 p - ihl p * 4) (drop (ihl p * 4) p))
 
@@ -202,7 +219,7 @@ module _ (p : List ℕ) where
       unfolding ipv4Causes
       row-7 left h = stops left (differs (checksumOf (take (ihl p * 4) p)) 0 (λ e. h (sum-at ∙ e)))
 
-      pub past-7 : LeftIpv4 7 → s ≡ 0 → LeftIpv4 0
+      pub past-7 : LeftIpv4 7 → s ≡ 0 → LeftIpv4 38
       unfolding ipv4Causes
       past-7 left h = goes-on left (equals (checksumOf (take (ihl p * 4) p)) 0 (sym sum-at ∙ h))
 
@@ -213,6 +230,14 @@ module _ (p : List ℕ) where
   pub past-6-ipv4 : LeftIpv4 6 → getD p 9 0 ≡ 17 → LeftIpv4 7
   unfolding ipv4Causes
   past-6-ipv4 left h = goes-on left (equals (getD p 9 0) 17 h)
+
+  pub row-38 : LeftIpv4 38 → isFragment p ≡ true → refused 38 ≡ readIpv4 p
+  unfolding ipv4Causes
+  row-38 left h = stops left h
+
+  pub past-38 : LeftIpv4 38 → isFragment p ≡ false → LeftIpv4 0
+  unfolding ipv4Causes
+  past-38 left h = goes-on left h
 
   -- IPv6: 8, 6, 9
   abbrev onward6 : Outcome DecodedTpdu

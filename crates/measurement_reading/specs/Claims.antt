@@ -7,9 +7,10 @@ use lib.ListN.{length, take, replicate}
 use Rattle.error.specs.Outcome.{refused}
 use Rattle.measurement_reading.specs.Read.{readOf}
 
--- A T-PDU is refused by 1 to 14 or by 39, and by no other number.
+-- A T-PDU is refused by 1 to 14, 38 or 39, and by no other number.
 abbrev pub ReadingNumbers : Type 0
-ReadingNumbers = (tpdu : List ℕ) (n : ℕ) → readOf tpdu ≡ refused n → ((1 ≤ n) × (n ≤ 14)) ⊎ (n ≡ 39)
+ReadingNumbers = (tpdu : List ℕ) (n : ℕ) → readOf tpdu ≡ refused n
+    → ((1 ≤ n) × (n ≤ 14)) ⊎ (n ≡ 38) ⊎ (n ≡ 39)
 
 -- RFC 791, section 3.1: a packet begins with a byte whose upper four bits are the version, here 4, and whose lower four
 -- are the IHL. So these, of an IHL under 16, are all the packets of version 4.

@@ -1,3 +1,4 @@
 -- Reading a T-PDU.
 pub mod Read
 pub mod Claims
+pub mod Fragments

@@ -1,7 +1,7 @@
 -- Reading a T-PDU: document 01, leaf 4. Each cause of refusal is a row, and the rows stand in the order of that leaf:
 -- "IPv4 3, 4, 5, 6, 7, 10, 12, 13, 14; IPv6 8, 6, 9, 11, 12, 10, 13, 14. Number 1, then 2, come before both."
--- Document 02, job 3, has 39 "directly after 4".
-use Prim.Native.Nat.{ℕ, _+_, _-_, _*_, _/_, _%_}
+-- Document 02 has 39 "directly after 4" (job 3) and 38 "directly after 7" (job 1).
+use Prim.Native.Nat.{ℕ, _+_, _-_, _*_, _/_, _%_, _^_}
 use mathlib.Core.List.{List, [], _∷_, _++_}
 use mathlib.Core.Bool.{Bool, true, false, not, _||_, _&&_}
 use lib.Dec.{eqb, ltb}
@@ -10,11 +10,11 @@ use Rattle.error.specs.Number.{truncatedIpHeader, unsupportedIpVersion, truncat
 use Rattle.error.specs.Number.{invalidIpv4TotalLength, payloadIsNotUdp, invalidIpv4HeaderChecksum}
 use Rattle.error.specs.Number.{truncatedIpv6UdpPacket, invalidIpv6PayloadLength, invalidUdpLength}
 use Rattle.error.specs.Number.{ipv6UdpChecksumIsZero, invalidUdpChecksum, truncatedMeasurementHeader}
-use Rattle.error.specs.Number.{measurementMagicMismatch, truncatedIpv4UdpPacket}
+use Rattle.error.specs.Number.{measurementMagicMismatch, truncatedIpv4UdpPacket, ipv4Fragment}
 use Rattle.error.specs.Outcome.{Outcome, gives, Cause, _⇒_, firstCause}
 use Rattle.field.specs.Field.{valueOf, bytesAt, field}
 use Rattle.checksum.specs.Sum.{checksumOf}
-use Rattle.measurement.specs.Layout.{ipVersion, ipv4Ihl, ipv4TotalLength, ipv4Protocol}
+use Rattle.measurement.specs.Layout.{ipVersion, ipv4Ihl, ipv4TotalLength, ipv4FlagsAndFragmentOffset, ipv4Protocol}
 use Rattle.measurement.specs.Layout.{ipv4SourceAddress, ipv4DestinationAddress, ipv4HeaderBytes}
 use Rattle.measurement.specs.Layout.{ipv6PayloadLength, ipv6NextHeader, ipv6SourceAddress, ipv6DestinationAddress}
 use Rattle.measurement.specs.Layout.{ipv6HeaderBytes, udpSourcePort, udpDestinationPort, udpLength, udpChecksum}
@@ -96,8 +96,20 @@ ihl tpdu = getD tpdu ipv4Ihl 0 % 16
 abbrev pub totalLength : List ℕ → ℕ
 totalLength tpdu = field 2 ipv4TotalLength tpdu
 
+-- RFC 791, section 3.1: 16 bits are three flags, of which the first is reserved, the second is Don't Fragment and the
+-- third More Fragments, and then the Fragment Offset.
+abbrev pub moreFragments : List ℕ → ℕ
+moreFragments tpdu = field 2 ipv4FlagsAndFragmentOffset tpdu / 2 ^ 13 % 2
+
+abbrev pub fragmentOffset : List ℕ → ℕ
+fragmentOffset tpdu = field 2 ipv4FlagsAndFragmentOffset tpdu % 2 ^ 13
+
+-- "a packet with the more-fragments flag set or a fragment offset other than 0 (RFC 791)" (document 02, job 1)
+unfoldable pub isFragment : List ℕ → Bool
+isFragment tpdu = eqb (moreFragments tpdu) 1 || not (eqb (fragmentOffset tpdu) 0)
+
 -- "IPv4 under 20 bytes"; "IHL below 5", then "input shorter than IHL × 4 + 8 bytes" (document 02, job 3); "total length
--- under IHL × 4 + 8 or past the input; protocol not 17; IPv4 header checksum"
+-- under IHL × 4 + 8 or past the input; protocol not 17; IPv4 header checksum"; "fragment" (document 02, job 1)
 unfoldable pub ipv4Causes : List ℕ → List Cause
 ipv4Causes tpdu =
     (ltb (length tpdu) ipv4HeaderBytes ⇒ truncatedIpv4Header)
@@ -107,6 +119,7 @@ ipv4Causes tpdu =
     ⇒ invalidIpv4TotalLength)
     ∷ (not (eqb (getD tpdu ipv4Protocol 0) udpProtocol) ⇒ payloadIsNotUdp)
     ∷ (not (eqb (checksumOf (take (ihl tpdu * 4) tpdu)) 0) ⇒ invalidIpv4HeaderChecksum)
+    ∷ (isFragment tpdu ⇒ ipv4Fragment)
     ∷ []
 
 -- "IPv4 options are stepped over: the part from IHL × 4 to total length is handed to the UDP reader. Bytes past the

@@ -1,8 +1,9 @@
 // Reading a T-PDU (leaf 4): the definition is in specs/, and the call that reads one is in measurement_decode. What is
-// proved of its refusals (specs/Claims.antt) is on the contracts of functions that do nothing.
+// proved of its refusals (specs/Claims.antt, specs/Fragments.antt) is on the contracts of functions that do nothing.
 ghost use Rattle.measurement_reading.specs.Claims.{ReadingNumbers, CutIsNot4, CutExamples};
+ghost use Rattle.measurement_reading.specs.Fragments.{FragmentsNotRead, RefusedAsFragment};
 
-// Reading refuses by 1 to 14 or by 39.
+// Reading refuses by 1 to 14, 38 or 39.
 pub fn refuses_by_its_numbers()
     ensures { λ _. ⌜ ReadingNumbers ⌝ }
 {}
@@ -10,4 +11,9 @@ pub fn refuses_by_its_numbers()
 // A packet that is cut before its UDP header ends is told from one whose IHL is below 5.
 pub fn cut_is_not_ihl()
     ensures { λ _. ⌜ CutIsNot4 × CutExamples ⌝ }
+{}
+
+// No fragment is read; 38 is given exactly where a packet is a fragment and no earlier cause holds.
+pub fn fragments_are_refused()
+    ensures { λ _. ⌜ FragmentsNotRead × RefusedAsFragment ⌝ }
 {}

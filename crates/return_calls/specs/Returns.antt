@@ -17,8 +17,8 @@ use Rattle.return_calls.specs.declared.GtpuReturnDatagramOutcome.the-var
 unfoldable pub sequenceRead : List ℕ → Outcome ℕ
 sequenceRead tpdu = elim (readOf tpdu) [ refused n ↦ refused n | gives t ↦ gives (t .measurement .sequence) ]
 
--- A T-PDU returns at this time. "A return is judged 21, 1 to 14, 23, 24, then duplicate, then out of order"; 39 is
--- one of the reader's numbers too (document 02, job 3).
+-- A T-PDU returns at this time. "A return is judged 21, 1 to 14, 23, 24, then duplicate, then out of order"; 38
+-- and 39 are numbers of the reader's too (document 02, jobs 1 and 3).
 unfoldable pub recordReceivedTpdu : Observer → ℕ → List ℕ → Step
 recordReceivedTpdu o time tpdu = afterReading o (sequenceRead tpdu) (recordReturn o time)
 

@@ -16,22 +16,26 @@ unless value true error rest o f g = f refl
 unless value false error rest o f g = g refl
 
 -- the same beside a row of causes: the Rust's test is the row's, the row's number is told as the Rust's, and what follows
--- the test is what follows the row
-pub row : {A B : Type 0} (value : A → B) (test : Bool) {c : Bool} (error : DataplaneTestkitError) (n : ℕ) (rest : Result A) (rows : List Cause) (onward : Outcome B)
-    → asTheRustTells n ≡ errorNumber error → test ≡ c → (c ≡ false → outcomeBy value rest ≡ told (firstCause rows onward))
-    → outcomeBy value (_>>_ (returnIf test error) rest) ≡ told (firstCause ((c ⇒ n) ∷ rows) onward)
+-- the test is what follows the row. `due` is what ours has to say where the Rust has this outcome.
+pub row : {A B : Type 0} (due : Outcome B → Outcome B) (value : A → B) (test : Bool) {c : Bool} (error : DataplaneTestkitError) (n : ℕ) (rest : Result A) (rows : List Cause) (onward : Outcome B)
+    → due (refused (errorNumber error)) ≡ refused (asTheRustTells n) → test ≡ c → (c ≡ false → due (outcomeBy value rest) ≡ told (firstCause rows onward))
+    → due (outcomeBy value (_>>_ (returnIf test error) rest)) ≡ told (firstCause ((c ⇒ n) ∷ rows) onward)
 unfolding firstCause
-row value test {c = true} error n rest rows onward number e g = rw (e, number)
-row value test {c = false} error n rest rows onward number e g = rw e (g refl)
+row due value test {c = true} error n rest rows onward number e g = rw e number
+row due value test {c = false} error n rest rows onward number e g = rw e (g refl)
 
 -- and beside two rows, where the Rust has one test for both
-pub two-rows : {A B : Type 0} (value : A → B) (test c d : Bool) (error : DataplaneTestkitError) (n m : ℕ) (rest : Result A) (rows : List Cause) (onward : Outcome B)
-    → asTheRustTells n ≡ errorNumber error → asTheRustTells m ≡ errorNumber error → test ≡ c || d
-    → (d ≡ false → outcomeBy value rest ≡ told (firstCause rows onward))
-    → outcomeBy value (_>>_ (returnIf test error) rest) ≡ told (firstCause ((c ⇒ n) ∷ (d ⇒ m) ∷ rows) onward)
+pub two-rows : {A B : Type 0} (due : Outcome B → Outcome B) (value : A → B) (test c d : Bool) (error : DataplaneTestkitError) (n m : ℕ) (rest : Result A) (rows : List Cause) (onward : Outcome B)
+    → due (refused (errorNumber error)) ≡ refused (asTheRustTells n) → due (refused (errorNumber error)) ≡ refused (asTheRustTells m) → test ≡ c || d
+    → (d ≡ false → due (outcomeBy value rest) ≡ told (firstCause rows onward))
+    → due (outcomeBy value (_>>_ (returnIf test error) rest)) ≡ told (firstCause ((c ⇒ n) ∷ (d ⇒ m) ∷ rows) onward)
 unfolding firstCause
-two-rows value test true d error n m rest rows onward first second e g = rw (e, first)
-two-rows value test false d error n m rest rows onward first second e g = row value test error m rest rows onward second e g
+two-rows due value test true d error n m rest rows onward first second e g = rw e first
+two-rows due value test false d error n m rest rows onward first second e g = row due value test error m rest rows onward second e g
+
+-- what is compared is due as it is
+abbrev pub as-it-is : {B : Type 0} → Outcome B → Outcome B
+as-it-is o = o
 
 -- what holds of a value, if there is one
 pub data AllOk {A : Type 0} (P : A → Type 0) : Result A → Type 0 where

@@ -7,8 +7,9 @@ use mathlib.Core.List.{List, [], _∷_, _++_, append-assoc}
 use mathlib.Core.Bool.{Bool, true, false, not, _||_, _&&_}
 use lib.Dec.{eqb, ltb}
 use lib.ListN.{length, take, drop, getD, length-append, length-take, length-drop}
-use borrow.Author.Tests.{ltb-false, eqb-true, eqb-false, lt-ltb, le-ltb}
-use Rattle.error.specs.Outcome.{Outcome, Cause, _⇒_, firstCause}
+use borrow.Author.Tests.{ltb-false, eqb-true, eqb-false, eq-eqb, ne-eqb, lt-ltb, le-ltb, not-true}
+use Rattle.error.specs.Outcome.{Outcome, refused, gives, Cause, _⇒_, firstCause}
+use Rattle.error.proofs.Among.{among, of-each}
 use Rattle.error.proofs.Causes.{none, passes}
 use Rattle.error.proofs.Tests.{true-not-false, or-neither}
 use Rattle.field.specs.Field.{Bytes, bigEndian, valueOf, bytesAt, field}
@@ -20,19 +21,21 @@ use Rattle.measurement.specs.Probe.{measurementMagic}
 use Rattle.measurement.specs.declared.DecodedTpdu.{DecodedTpdu}
 use Rattle.measurement.specs.declared.MeasurementHeader.{MeasurementHeader}
 use Rattle.measurement.specs.declared.IpVersion.the-variants.{V4, V6}
-use Rattle.measurement_reading.specs.Read.{payload, lengthWrong, covered, sumWrong, probeCauses, udpCauses, readProbe, readUdp, ihl, ipv4Causes, readIpv4, ipv6Causes, readIpv6, readOf}
+use Rattle.measurement_reading.specs.Read.{payload, lengthWrong, covered, sumWrong, probeCauses, udpCauses, readProbe, readUdp, ihl, isFragment, ipv4Causes, readIpv4, ipv6Causes, readIpv6, readOf}
 use Rattle.measurement_reading.proofs.Rows.{tpdu-rows, row-1, past-1, row-2, past-2-ipv4, past-2-ipv6}
-use Rattle.rust_reference.specs.Claims.{DecodeMeasurementTpdu}
-use Rattle.rust_reference.specs.Compared.{told}
+use Rattle.measurement_reading.proofs.Numbers.{partNumbers, part-by}
+use Rattle.measurement_reading.proofs.Fragments.{is-fragment, not-empty, is-ipv4}
+use Rattle.rust_reference.specs.Claims.{DecodeMeasurementTpdu, refusedAsFragment, DecodeFragment}
+use Rattle.rust_reference.specs.Compared.{asTheRustTells, told}
 use Rattle.rust_reference.specs.Error as error
 use Rattle.rust_reference.specs.Error.{Result, Ok, Err, UnsupportedIpVersion, InvalidPacket, returnIf, _>>=_, _>>_}
 use Rattle.rust_reference.specs.Number.{outcomeBy}
 use Rattle.rust_reference.specs.Values.{index, range, same, «u16_at»}
 use Rattle.rust_reference.specs.Answers.{tpduOf}
 use Rattle.rust_reference.specs.Measurement as rust
-use Rattle.rust_reference.proofs.Branches.{unless, row, two-rows}
+use Rattle.rust_reference.proofs.Branches.{unless, row, two-rows, as-it-is}
 use Rattle.rust_reference.proofs.Checksums.{of-one, of-two}
-use Rattle.rust_reference.proofs.Told.{compared-bytes}
+use Rattle.rust_reference.proofs.Told.{compared-bytes, compared-whole}
 
 -- a u16 is the field of two bytes
 u16-is : (l : List ℕ) (at : ℕ) → «u16_at» l at ≡ field 2 at l
@@ -171,15 +174,15 @@ module _ (src dst u : List ℕ) (p : Bytes src) (q : Bytes dst) (b : Bytes u) (s
   unfolding rest4 readUdp udpCauses readProbe
   udp4 h k =
       parsed tpduOf _ u _ _ long
-      (λ right. row tpduOf (not (eqb («u16_at» u 6) 0) && not (eqb (rust.«checksum_udp_ipv4_including_checksum» src dst u) 0)) _ 12 _ [] (readProbe V4 src dst u) refl
+      (λ right. row as-it-is tpduOf (not (eqb («u16_at» u 6) 0) && not (eqb (rust.«checksum_udp_ipv4_including_checksum» src dst u) 0)) _ 12 _ [] (readProbe V4 src dst u) refl
       (ap₂ (λ (x : ℕ) (y : Bool). not (eqb x 0) && y) (u16-is u 6) (sum4-is src dst u p q b short h k))
       (λ c. probed tpduOf _ (payload u) (payload-bytes u b) _ (λ w. refl) ∙ ap told (passes (readProbe V4 src dst u) none)))
 
   udp6 : length src ≡ 16 → length dst ≡ 16 → outcomeBy tpduOf (rest6 src dst u) ≡ told (readUdp V6 src dst u)
   unfolding rest6 readUdp udpCauses readProbe
   udp6 h k =
-      row tpduOf (eqb («u16_at» u 6) 0) _ 11 _ _ _ refl (ap (λ (x : ℕ). eqb x 0) (u16-is u 6))
-      (λ z. row tpduOf (not (eqb (rust.«checksum_udp_ipv6_including_checksum» src dst u) 0)) _ 12 _ _ _ refl (sum6-is src dst u p q b short h k)
+      row as-it-is tpduOf (eqb («u16_at» u 6) 0) _ 11 _ _ _ refl (ap (λ (x : ℕ). eqb x 0) (u16-is u 6))
+      (λ z. row as-it-is tpduOf (not (eqb (rust.«checksum_udp_ipv6_including_checksum» src dst u) 0)) _ 12 _ _ _ refl (sum6-is src dst u p q b short h k)
       (λ c. parsed tpduOf _ u [] (readProbe V6 src dst u) long
       (λ right. probed tpduOf _ (payload u) (payload-bytes u b) _ (λ w. refl) ∙ ap told (passes (readProbe V6 src dst u) none))))
 
@@ -217,27 +220,45 @@ module _ (p : List ℕ) (b : Bytes p) where
       (bytes-take («u16_at» p 2 - header) (drop header p) (bytes-drop header p b)) (omega (arith, u16-below p 2 b)) (omega arith) refl refl
       ∙ ap (λ (n : ℕ). told (readUdp V4 (bytesAt 4 12 p) (bytesAt 4 16 p) (take (n - header) (drop header p)))) (u16-is p 2)
 
-  ipv4-read : outcomeBy tpduOf (rust.«decode_ipv4_measurement» p) ≡ told (readIpv4 p)
+  abbrev onward4 : Outcome DecodedTpdu
+  onward4 = readUdp V4 (bytesAt 4 12 p) (bytesAt 4 16 p) (take (field 2 2 p - ihl p * 4) (drop (ihl p * 4) p))
+
+  -- 3 to 7 beside the rows of these numbers, and then 38 and the UDP part beside the Rust's UDP part
+  ipv4-read : (due : Outcome DecodedTpdu → Outcome DecodedTpdu) → ((n : ℕ) → ltb n 8 ≡ true → due (refused n) ≡ refused n)
+      → due (told onward4) ≡ told (firstCause ((isFragment p ⇒ 38) ∷ []) onward4)
+      → due (outcomeBy tpduOf (rust.«decode_ipv4_measurement» p)) ≡ told (readIpv4 p)
   unfolding rust.«decode_ipv4_measurement» readIpv4 ipv4Causes rest4
-  ipv4-read =
-      row tpduOf (ltb (length p) 20) _ 3 _ _ _ refl refl
-      (λ c3. two-rows tpduOf (ltb header 20 || ltb (length p) (header + 8)) (ltb (ihl p) 5) (ltb (length p) (ihl p * 4 + 8)) _ 4 39 _ _ _ refl refl test4
-      (λ c39. row tpduOf (ltb («u16_at» p 2) (header + 8) || ltb (length p) («u16_at» p 2)) _ 5 _ _ _ refl test5
-      (λ c5. row tpduOf (not (eqb (index p 9) 17)) _ 6 _ _ _ refl refl
-      (λ c6. row tpduOf (not (eqb (rust.checksum (range p 0 header ∷ [])) 0)) _ 7 _ [] onward refl header-sum
+  ipv4-read due early late =
+      row due tpduOf (ltb (length p) 20) _ 3 _ _ _ (early 3 refl) refl
+      (λ c3. two-rows due tpduOf (ltb header 20 || ltb (length p) (header + 8)) (ltb (ihl p) 5) (ltb (length p) (ihl p * 4 + 8)) _ 4 39 _ _ _ (early 4 refl) (early 4 refl) test4
+      (λ c39. row due tpduOf (ltb («u16_at» p 2) (header + 8) || ltb (length p) («u16_at» p 2)) _ 5 _ _ _ (early 5 refl) test5
+      (λ c5. row due tpduOf (not (eqb (index p 9) 17)) _ 6 _ _ _ (early 6 refl) refl
+      (λ c6. row due tpduOf (not (eqb (rust.checksum (range p 0 header ∷ [])) 0)) _ 7 _ ((isFragment p ⇒ 38) ∷ []) onward4 (early 7 refl) header-sum
       (λ c7.
       let low = or-neither (ltb («u16_at» p 2) (header + 8)) (ltb (length p) («u16_at» p 2)) (test5 ∙ c5) in
-      read4 (ltb-false (length p) 20 c3) (ltb-false («u16_at» p 2) (header + 8) (low .0)) (ltb-false (length p) («u16_at» p 2) (low .1))
-      ∙ ap told (passes onward none))))))
+      ap due (read4 (ltb-false (length p) 20 c3) (ltb-false («u16_at» p 2) (header + 8) (low .0)) (ltb-false (length p) («u16_at» p 2) (low .1)))
+      ∙ late)))))
     where
-      onward : Outcome DecodedTpdu
-      onward = readUdp V4 (bytesAt 4 12 p) (bytesAt 4 16 p) (take (field 2 2 p - ihl p * 4) (drop (ihl p * 4) p))
-
       test4 : ltb header 20 || ltb (length p) (header + 8) ≡ ltb (ihl p) 5 || ltb (length p) (ihl p * 4 + 8)
       test4 = unfold ihl in rw (quarter (index p 0 % 16))
 
       test5 : ltb («u16_at» p 2) (header + 8) || ltb (length p) («u16_at» p 2) ≡ ltb (field 2 2 p) (ihl p * 4 + 8) || ltb (length p) (field 2 2 p)
       test5 = unfold ihl in rw (u16-is p 2)
+
+  whole-read : isFragment p ≡ false → outcomeBy tpduOf (rust.«decode_ipv4_measurement» p) ≡ told (readIpv4 p)
+  unfolding firstCause
+  whole-read h = ipv4-read as-it-is (λ n l. refl) (rw (h, firstCause))
+
+  -- of a fragment, whatever the UDP part is, 38 comes before it
+  fragment-read : isFragment p ≡ true → refusedAsFragment (outcomeBy tpduOf (rust.«decode_ipv4_measurement» p)) ≡ told (readIpv4 p)
+  unfolding firstCause
+  fragment-read h = ipv4-read refusedAsFragment (λ n l. rw (l, refusedAsFragment)) (after onward4 (part-by V4 _ _ _) ∙ rw (h, firstCause))
+    where
+      after : (o : Outcome DecodedTpdu) → ((n : ℕ) → o ≡ refused n → among n partNumbers ≡ true) → refusedAsFragment (told o) ≡ refused 38
+      after (refused n) by =
+          let late : ltb (asTheRustTells n) 8 ≡ false = not-true (ltb (asTheRustTells n) 8) (of-each (λ m. not (ltb (asTheRustTells m) 8)) partNumbers refl n (by n refl)) in
+          rw (late, refusedAsFragment)
+      after (gives x) by = refl
 
   abbrev part6 : List ℕ
   part6 = range p 40 (40 + «u16_at» p 4)
@@ -256,9 +277,9 @@ module _ (p : List ℕ) (b : Bytes p) where
   ipv6-read : outcomeBy tpduOf (rust.«decode_ipv6_measurement» p) ≡ told (readIpv6 p)
   unfolding rust.«decode_ipv6_measurement» readIpv6 ipv6Causes rest6
   ipv6-read =
-      row tpduOf (ltb (length p) 48) _ 8 _ _ _ refl refl
-      (λ c8. row tpduOf (not (eqb (index p 6) 17)) _ 6 _ _ _ refl refl
-      (λ c6. row tpduOf (ltb (length p) (40 + «u16_at» p 4) || ltb («u16_at» p 4) 8) _ 9 _ [] onward refl test9
+      row as-it-is tpduOf (ltb (length p) 48) _ 8 _ _ _ refl refl
+      (λ c8. row as-it-is tpduOf (not (eqb (index p 6) 17)) _ 6 _ _ _ refl refl
+      (λ c6. row as-it-is tpduOf (ltb (length p) (40 + «u16_at» p 4) || ltb («u16_at» p 4) 8) _ 9 _ [] onward refl test9
       (λ c9.
       let low = or-neither (ltb (length p) (40 + «u16_at» p 4)) (ltb («u16_at» p 4) 8) (test9 ∙ c9) in
       read6 (ltb-false (length p) 48 c8) (ltb-false («u16_at» p 4) 8 (low .1)) (ltb-false (length p) (40 + «u16_at» p 4) (low .0))
@@ -284,6 +305,14 @@ decoded p c =
           | true ↦ rust.«decode_ipv4_measurement» p
           | false ↦ elim u [ true ↦ rust.«decode_ipv6_measurement» p | false ↦ Err (UnsupportedIpVersion (index p 0 / 16)) ]
         ]) ≡ told (readOf p)
-    by h true e u f = ipv4-read p (compared-bytes p c) ∙ ap told (past-2-ipv4 p refl (past-1 p (tpdu-rows p) h) (eqb-true (index p 0 / 16) 4 e))
+    by h true e u f =
+        let four = eqb-true (index p 0 / 16) 4 e in
+        whole-read p (compared-bytes p c) (compared-whole p c four) ∙ ap told (past-2-ipv4 p refl (past-1 p (tpdu-rows p) h) four)
     by h false e true f = ipv6-read p (compared-bytes p c) ∙ ap told (past-2-ipv6 p refl (past-1 p (tpdu-rows p) h) (eqb-true (index p 0 / 16) 6 f))
     by h false e false f = ap told (row-2 p refl (past-1 p (tpdu-rows p) h) (eqb-false (index p 0 / 16) 4 e) (eqb-false (index p 0 / 16) 6 f))
+
+pub decoded-fragment : DecodeFragment
+unfolding rust.«decode_measurement_tpdu»
+decoded-fragment p b v f =
+    rw (ne-eqb (length p) 0 (not-empty p v), eq-eqb (index p 0 / 16) 4 v, rust.«decode_measurement_tpdu»)
+    (fragment-read p b (is-fragment p b f) ∙ ap told (is-ipv4 p v))

@@ -11,6 +11,7 @@ use Rattle.error.proofs.Among.{among, of-each}
 use Rattle.error.proofs.Causes.{refused-gives}
 use Rattle.error.proofs.Tests.{true-not-false, both}
 use Rattle.field.specs.Field.{Bytes}
+use Rattle.measurement_reading.specs.Read.{versionOf, isFragment}
 use Rattle.rust_reference.specs.Error as error
 use Rattle.rust_reference.specs.Error.{Context, Reason, Field, DataplaneTestkitError, Result, Ok, Err, Truncated, UnsupportedIpVersion, InvalidPacket, Overflow, TimestampReversed, GtpuEncode, InvalidReflectorCapacity, InvalidReflectorSession, ReflectorSessionConflict, ReflectorSessionCapacityExceeded}
 use Rattle.rust_reference.specs.Number.{truncatedNumber, invalidNumber, overflowNumber, errorNumber, outcomeBy}
@@ -132,3 +133,8 @@ told-to value (gives x) = refl
 
 pub compared-bytes : (tpdu : List ℕ) → Compared tpdu → Bytes tpdu
 compared-bytes tpdu c = search
+
+-- and no fragment of version 4
+
+pub compared-whole : (tpdu : List ℕ) → Compared tpdu → versionOf tpdu ≡ 4 → isFragment tpdu ≡ false
+compared-whole tpdu c = search

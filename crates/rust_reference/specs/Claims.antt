@@ -5,11 +5,12 @@ use Prim.Native.Nat.{ℕ, _%_, _≤_}
 use mathlib.Core.Path.{_≡_}
 use mathlib.Core.List.{List, [], _∷_, flatten, map}
 use mathlib.Core.Logic.{_⊎_}
-use mathlib.Core.Bool.{Bool, true}
+use mathlib.Core.Bool.{Bool, true, false}
+use lib.Dec.{ltb}
 use lib.ListN.{length}
 use Rattle.error.specs.Number.{outputTooShort, tooManyPackets, malformedObserver, observerFull}
 use Rattle.error.specs.Number.{invalidReflectorCapacity, malformedReflectorTable}
-use Rattle.error.specs.Number.{invalidIpv4Ihl, truncatedIpv4UdpPacket}
+use Rattle.error.specs.Number.{invalidIpv4Ihl, ipv4Fragment, truncatedIpv4UdpPacket}
 use Rattle.error.specs.Outcome.{Outcome, refused, gives}
 use Rattle.gtpu.specs.Element.{elementsOf}
 use Rattle.gtpu.specs.Message.{gtpuMsgGpdu}
@@ -21,6 +22,7 @@ use Rattle.measurement.specs.Answer.{writing, writingOf}
 use Rattle.measurement.specs.declared.InnerIpFlow.{InnerIpFlow}
 use Rattle.measurement.specs.declared.MeasurementHeader.{MeasurementHeader}
 use Rattle.measurement_packet.specs.Packet.{buildOf}
+use Rattle.measurement_reading.specs.Fragments.{IsIpv4, Fragment}
 use Rattle.measurement_reading.specs.Read.{readOf}
 use Rattle.measurement_damage.specs.Echo.{echoOf}
 use Rattle.plan.specs.Plan.{intervalOf, judgePlan}
@@ -82,12 +84,19 @@ NoneAdded o = (n : ℕ) → Added n → o ≡ refused n → ⊥
 
 -- ---- what is compared
 
--- Every T-PDU, alone, in a message that returns and in one that is echoed; every payload of at most 65,535 bytes in a
--- message that is routed; every other message, whatever its payload; 39 as 4, and each other of our numbers as itself.
+abbrev pub NoFragment : List ℕ → Type 0
+NoFragment tpdu = IsIpv4 tpdu → Fragment tpdu → ⊥
+
+-- Every T-PDU that is not a fragment, and no fragment, alone, in a message that returns and in one that is echoed; every
+-- payload of at most 65,535 bytes in a message that is routed; every other message, whatever its payload; 39 as 4, and
+-- each other of our numbers as itself.
 pub record WhatIsCompared : Type 0 where
-  pub every-tpdu : (tpdu : List ℕ) → Bytes tpdu → Compared tpdu
-  pub every-return : (messageType : ℕ) (payload : List ℕ) → Bytes payload → ComparedReturn messageType payload
-  pub every-echoed : (message : GtpuMessage) (payload : List ℕ) → Bytes payload → ComparedMessage Echo message payload
+  pub every-tpdu : (tpdu : List ℕ) → Bytes tpdu → NoFragment tpdu → Compared tpdu
+  pub no-fragment : (tpdu : List ℕ) → Compared tpdu → NoFragment tpdu
+  pub every-return : (messageType : ℕ) (payload : List ℕ) → Bytes payload → NoFragment payload
+      → ComparedReturn messageType payload
+  pub every-echoed : (message : GtpuMessage) (payload : List ℕ) → Bytes payload → NoFragment payload
+      → ComparedMessage Echo message payload
   pub every-routed : (message : GtpuMessage) (payload : List ℕ) → length payload ≤ 65535
       → ComparedMessage Route message payload
   pub every-other-return : (messageType : ℕ) (payload : List ℕ) → (messageType ≡ gtpuMsgGpdu → ⊥)
@@ -135,6 +144,16 @@ BuildMeasurementTpdu = (flow : InnerIpFlow) (sequence time : ℕ) → InRange fl
 abbrev pub DecodeMeasurementTpdu : Type 0
 DecodeMeasurementTpdu = (tpdu : List ℕ) → Compared tpdu
     → outcomeBy tpduOf (measurement.«decode_measurement_tpdu» tpdu) ≡ told (readOf tpdu)
+
+-- What ours has to say of a fragment, where the Rust says this: 1 to 7 come before 38, and everything else after it.
+abbrev pub refusedAsFragment : {A : Type 0} → Outcome A → Outcome A
+refusedAsFragment (refused n) = elim (ltb n 8) [ true ↦ refused n | false ↦ refused ipv4Fragment ]
+refusedAsFragment (gives x) = refused ipv4Fragment
+
+-- Of the fragments, which are not compared, only the refusal by 38 is ours: by 1 to 7 both refuse alike.
+abbrev pub DecodeFragment : Type 0
+DecodeFragment = (tpdu : List ℕ) → Bytes tpdu → IsIpv4 tpdu → Fragment tpdu
+    → refusedAsFragment (outcomeBy tpduOf (measurement.«decode_measurement_tpdu» tpdu)) ≡ told (readOf tpdu)
 
 abbrev pub EchoTpdu : Type 0
 EchoTpdu = (tpdu : List ℕ) → Compared tpdu → (buffer : List ℕ) → NoneAdded (writingOf (echoOf tpdu) buffer .outcome)
@@ -334,6 +353,7 @@ pub record EqualsTheRust : Type 0 where
   pub checksum : Checksum
   pub «build_measurement_tpdu» : BuildMeasurementTpdu
   pub «decode_measurement_tpdu» : DecodeMeasurementTpdu
+  pub decode-fragment : DecodeFragment
   pub «echo_tpdu» : EchoTpdu
   pub «validate_error_indication_ies» : ValidateErrorIndicationIes
   pub «interval_ns» : IntervalNs

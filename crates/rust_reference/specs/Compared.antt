@@ -9,14 +9,16 @@ use lib.ListN.{length}
 use Rattle.error.specs.Number.{invalidIpv4Ihl, truncatedIpv4UdpPacket}
 use Rattle.error.specs.Outcome.{Outcome, refused, gives}
 use Rattle.field.specs.Field.{Bytes}
+use Rattle.measurement_reading.specs.Read.{versionOf, isFragment}
 use Rattle.gtpu.specs.Message.{gtpuMsgGpdu}
 use Rattle.gtpu.specs.declared.GtpuMessage.{GtpuMessage}
 use Rattle.reflector_answer.specs.declared.ReflectorPolicy.{ReflectorPolicy}
 use Rattle.reflector_answer.specs.declared.ReflectorPolicy.the-variants.{Echo, Route}
 
--- Every T-PDU, whatever its bytes and its length.
+-- Every T-PDU, whatever its bytes and its length, that is not an IPv4 fragment: "The comparison with the Rust excludes
+-- these packets" (document 02, job 1).
 abbrev pub Compared : List ℕ → Type 0
-Compared tpdu = Bytes tpdu
+Compared tpdu = Bytes tpdu × (versionOf tpdu ≡ 4 → isFragment tpdu ≡ false)
 
 -- A message that comes back: a G-PDU is compared if its T-PDU is, every other message always.
 abbrev pub ComparedReturn : ℕ → List ℕ → Type 0

@@ -21,7 +21,7 @@ use Rattle.tally.specs.Tally.{Tally}
 use Rattle.tally.specs.Demand.{tpduCall, messageCall, someLegTurned, bytesGiven}
 use Rattle.tally.specs.Attained.{PlansAccepted, RoomTakes, UndamagedComes, Attained}
 use Rattle.tally.proofs.Entry.{entered, takes-all, needs-room}
-use Rattle.tally.proofs.Examples.{build-bytes, hop-limit-comes, time-comes, checksum-comes}
+use Rattle.tally.proofs.Examples.{build-bytes, hop-limit-comes, time-comes, checksum-comes, fragment-comes}
 use Rattle.tally.proofs.Generated.{packets-generated}
 use Rattle.tally.proofs.Returns.{echo-step, packet-in-range}
 
@@ -91,6 +91,7 @@ attained = record {
   damage-accepted = hop-limit-comes plans-accepted tpduCall [] true;
   damage-mended = hop-limit-comes plans-accepted tpduCall (true ∷ []) false;
   checksum-lost = checksum-comes plans-accepted;
+  fragment-refused = fragment-comes plans-accepted;
   message-returns = hop-limit-comes plans-accepted messageCall (true ∷ []) true;
   two-echoes = hop-limit-comes plans-accepted tpduCall (false ∷ true ∷ []) false;
 }

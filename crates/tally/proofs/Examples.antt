@@ -19,7 +19,7 @@ use Rattle.measurement.specs.declared.DecodedTpdu.{DecodedTpdu}
 use Rattle.measurement.specs.declared.InnerIpFlow.{InnerIpFlow}
 use Rattle.measurement.specs.declared.IpVersion.the-variants.{V6}
 use Rattle.measurement_packet.specs.Packet.{ipv4, ipv4Header, ipv6, ipHeader, udpSegment, nonzero, udp, buildOf}
-use Rattle.measurement_reading.specs.Read.{readOf, tpduCauses, ihl, ipv4Causes, readIpv4, ipv6Causes, readIpv6, readUdp, readProbe, udpCauses, probeCauses, sumWrong, covered, lengthWrong, payload}
+use Rattle.measurement_reading.specs.Read.{readOf, tpduCauses, ihl, isFragment, ipv4Causes, readIpv4, ipv6Causes, readIpv6, readUdp, readProbe, udpCauses, probeCauses, sumWrong, covered, lengthWrong, payload}
 use Rattle.measurement_damage.specs.Echo.{echoOfTpdu, echoOf}
 use Rattle.measurement_damage.specs.Claims.{tpduBuilt, Travelled, arrives, echoes, echoesOf}
 use Rattle.measurement_packet.proofs.Built.{packet-bytes}
@@ -39,7 +39,7 @@ use Rattle.return_calls.specs.declared.GtpuReturnDatagramOutcome.the-variants.{
 use Rattle.tally.specs.Tally.{isRefused}
 use Rattle.tally.specs.Demand.{Accepted, sendAll, Takes, Call, tpduCall, messageCall, someLegTurned, bytesGiven, receive}
 use Rattle.tally.specs.Cases.{ipv4Flow, ipv6Flow}
-use Rattle.tally.specs.Attained.{PlansAccepted, examplePlan, exampleObserver, legEnds, Comes, hopLimit, sendTime, udpChecksum}
+use Rattle.tally.specs.Attained.{PlansAccepted, examplePlan, exampleObserver, legEnds, Comes, hopLimit, sendTime, udpChecksum, flagsAndFragmentOffset}
 use Rattle.tally.proofs.Entry.{takes-all}
 use Rattle.tally.proofs.Returns.{echo-step}
 
@@ -78,9 +78,9 @@ unfolding answer-of firstCause packetsOf packetsFrom capacity rows withRows well
 takes-1 tpduCall = refl
 takes-1 messageCall = refl
 
-refuses-12 : answer-of tpduCall (refused 12) ≡ true
+refuses-by : (n : ℕ) → answer-of tpduCall (refused n) ≡ true
 unfolding answer-of firstCause packetsOf packetsFrom capacity rows withRows wellFormed judged holds sending.entered sendingCauses recordSent returnCauses returning.afterReturn recordReturn oneMore
-refuses-12 = refl
+refuses-by n = refl
 
 sequence-given : (tpdu : List ℕ) (d : DecodedTpdu) → readOf tpdu ≡ gives d → sequenceRead tpdu ≡ gives (d .measurement .sequence)
 unfolding sequenceRead
@@ -308,7 +308,7 @@ time-refused = refl
 pub time-comes : PlansAccepted → Comes ipv6Flow tpduCall sendTime (1 ∷ []) (record { on-a-leg = true; at-the-end = true; refused = true })
 time-comes plans =
     one-leg-comes plans ipv6Flow range-6 sendTime (case3 ++ (0 ∷ [])) (case3 ++ (1 ∷ [])) (refused 12) true case3-is time-turned refl
-    (sequence-refused (case3 ++ (1 ∷ [])) 12 time-refused) refuses-12
+    (sequence-refused (case3 ++ (1 ∷ [])) 12 time-refused) (refuses-by 12)
 
 -- case 1's packet, in front of the UDP checksum and behind it
 abbrev front4 : List ℕ
@@ -352,10 +352,33 @@ checksum-turned =
     (clipped .ahead behind4 (177 ∷ 216 ∷ []) (0 ∷ 0 ∷ []) (omega arith) checksum-bits)
 
 checksum-unread : readOf (front4 ++ ((0 ∷ 0 ∷ []) ++ behind4)) ≡ gives (tpduBuilt ipv4Flow 1 0)
-unfolding sumOf folding foldOf checksumOf readOf tpduCauses ihl ipv4Causes readIpv4 readUdp readProbe udpCauses probeCauses sumWrong covered lengthWrong payload padded pseudoHeader measurementMagic firstCause address addressLength
+unfolding sumOf folding foldOf checksumOf readOf tpduCauses ihl isFragment ipv4Causes readIpv4 readUdp readProbe udpCauses probeCauses sumWrong covered lengthWrong payload padded pseudoHeader measurementMagic firstCause address addressLength
 checksum-unread = refl
 
 pub checksum-comes : PlansAccepted → Comes ipv4Flow tpduCall udpChecksum (0 ∷ []) (record { on-a-leg = true; at-the-end = true; refused = false })
 checksum-comes plans =
     one-leg-comes plans ipv4Flow range-4 udpChecksum (front4 ++ ((177 ∷ 216 ∷ []) ++ behind4)) (front4 ++ ((0 ∷ 0 ∷ []) ++ behind4)) (gives 1) false case1-is
     checksum-turned refl (sequence-given (front4 ++ ((0 ∷ 0 ∷ []) ++ behind4)) (tpduBuilt ipv4Flow 1 0) checksum-unread) (takes-1 tpduCall)
+
+-- case 1's packet, in front of the byte with its flags and behind it
+abbrev frontFlags : List ℕ
+frontFlags = 69 ∷ 0 ∷ 0 ∷ 52 ∷ 0 ∷ 0 ∷ []
+
+abbrev behindFlags : List ℕ
+behindFlags = drop 7 front4 ++ ((177 ∷ 216 ∷ []) ++ behind4)
+
+flags-turned : Turned (frontFlags ++ (0 ∷ behindFlags)) (frontFlags ++ (32 ∷ behindFlags))
+unfolding bits lowBits isOne
+flags-turned =
+    turned-byte 0 32 (false ∷ false ∷ []) (false ∷ false ∷ false ∷ false ∷ false ∷ []) false (omega arith) refl refl frontFlags behindFlags (omega arith)
+    (bytes-append (drop 7 front4) ((177 ∷ 216 ∷ []) ++ behind4) (omega arith) (omega arith))
+
+-- the header checksum finds it
+flags-refused : readOf (frontFlags ++ (32 ∷ behindFlags)) ≡ refused 7
+unfolding sumOf folding foldOf checksumOf readOf tpduCauses ihl ipv4Causes readIpv4 firstCause
+flags-refused = refl
+
+pub fragment-comes : PlansAccepted → Comes ipv4Flow tpduCall flagsAndFragmentOffset (0x2000 ∷ []) (record { on-a-leg = true; at-the-end = true; refused = true })
+fragment-comes plans =
+    one-leg-comes plans ipv4Flow range-4 flagsAndFragmentOffset (frontFlags ++ (0 ∷ behindFlags)) (frontFlags ++ (32 ∷ behindFlags)) (refused 7) true case1-is flags-turned refl
+    (sequence-refused (frontFlags ++ (32 ∷ behindFlags)) 7 flags-refused) (refuses-by 7)

@@ -108,6 +108,9 @@ sendTime tpdu = field 8 64 tpdu
 abbrev pub udpChecksum : List ℕ → ℕ
 udpChecksum tpdu = field 2 26 tpdu
 
+abbrev pub flagsAndFragmentOffset : List ℕ → ℕ
+flagsAndFragmentOffset tpdu = field 2 6 tpdu
+
 pub record Attained : Type 0 where
   pub plans-accepted : PlansAccepted
   pub packets-generated : PacketsGenerated
@@ -125,6 +128,10 @@ pub record Attained : Type 0 where
   -- "An IPv4 UDP checksum field of 0 is not verified": case 1's 0xB1D8, whose 16 bits are not all equal, turned to 0.
   pub checksum-lost : Comes ipv4Flow tpduCall udpChecksum (0 ∷ [])
       (record { on-a-leg = true; at-the-end = true; refused = false })
+  -- The more-fragments flag turned on: "A probe damaged into a fragment is then one of the refused ones" (document 02,
+  -- job 1).
+  pub fragment-refused : Comes ipv4Flow tpduCall flagsAndFragmentOffset (0x2000 ∷ [])
+      (record { on-a-leg = true; at-the-end = true; refused = true })
   -- By the message call, damaged on two legs, on each within a span of its own.
   pub message-returns : Comes ipv6Flow messageCall hopLimit (65 ∷ 65 ∷ [])
       (record { on-a-leg = true; at-the-end = true; refused = false })

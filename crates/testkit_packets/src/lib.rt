@@ -25,14 +25,14 @@ ghost use Rattle.testkit_packets.specs.Interface.{versionOf, flowOf, wri
 // something was added, otherwise the patch (include/testkit.h).
 pub const VERSION_MAJOR: u32 = 3;
 
-pub const VERSION_MINOR: u32 = 0;
+pub const VERSION_MINOR: u32 = 1;
 
 pub const VERSION_PATCH: u32 = 0;
 
 // The version in one number.
 #[no_mangle]
 pub extern "C" fn testkit_version() -> u32
-    ensures { λ r. ⌜ r ≡ versionOf 3 0 0 ⌝ }
+    ensures { λ r. ⌜ r ≡ versionOf 3 1 0 ⌝ }
 {
     VERSION_MAJOR * 65536 + VERSION_MINOR * 256 + VERSION_PATCH
 }

@@ -9,7 +9,7 @@ use Rattle.field.specs.Field.{bytesAt}
 use Rattle.measurement.specs.Flow.{addressLength}
 use Rattle.measurement.specs.declared.IpVersion.the-variants.{V4}
 use Rattle.measurement_reading.specs.Read.{ihl}
-use Rattle.measurement_reading.proofs.Rows.{LeftIpv4, ipv4-rows, row-3, past-3, row-4, past-4, row-39, past-39, row-5-low, row-5-past, past-5, row-6-ipv4, past-6-ipv4, row-7, past-7, rest-ipv4}
+use Rattle.measurement_reading.proofs.Rows.{LeftIpv4, ipv4-rows, row-3, past-3, row-4, past-4, row-39, past-39, row-5-low, row-5-past, past-5, row-6-ipv4, past-6-ipv4, row-7, past-7, row-38, past-38, rest-ipv4}
 use Rattle.measurement_decode.proofs.Laws.{addresses}
 use Rattle.measurement_decode.proofs.judge_ipv4.Statement.{statement}
 use Rattle.measurement_decode.proofs.judge_ipv4.Tie as tie
@@ -129,11 +129,31 @@ checksum-requires c κs = search needs
 returns-7 : tie.Need-returns-7
 unfolding ihl
 returns-7 c =
+    let sum = c .before in
+    let e6 = sum .before .before in
+    let l = e6 .before .before .before .before .before .before .before in
+    let p = l .before .before .before .before .args .tpdu .now in
+    ap outcomeNumber (row-7 p (l .low-half .ensures .0) (sum .checksum .ensures) (left-7 e6) (c .if7 .taken))
+
+left-38 : (c : tie.Else7) → LeftIpv4 (c .before .before .before .before .before .before .before .before .before .before .before .before .before .before .args .tpdu .now) 38
+unfolding ihl
+left-38 c =
     let k = c .before in
     let e6 = k .before .before in
     let l = e6 .before .before .before .before .before .before .before in
     let p = l .before .before .before .before .args .tpdu .now in
-    ap outcomeNumber (row-7 p (l .low-half .ensures .0) (k .checksum .ensures) (left-7 e6) (c .if7 .taken))
+    past-7 p (l .low-half .ensures .0) (k .checksum .ensures) (left-7 e6) (c .if7 .left)
+
+is-fragment-requires : tie.Need-is-fragment-requires
+is-fragment-requires c κs = search needs
+
+returns-8 : tie.Need-returns-8
+returns-8 c =
+    let f = c .before in
+    let e = f .before in
+    let l = e .before .before .before .before .before .before .before .before .before .before in
+    let p = l .before .before .before .before .args .tpdu .now in
+    ap outcomeNumber (row-38 p (left-38 e) (sym (f .is-fragment .ensures) ∙ c .if8 .taken))
 
 sub-ipv4-address-sum : tie.Need-sub-ipv4-address-sum
 sub-ipv4-address-sum c = search needs
@@ -174,20 +194,21 @@ part-judge-ipv4-udp-end c = search needs
 judge-ipv4-udp-requires : tie.Need-judge-ipv4-udp-requires
 judge-ipv4-udp-requires c κs = search needs
 
-returns-8 : tie.Need-returns-8
+returns-9 : tie.Need-returns-9
 unfolding ihl addressLength
-returns-8 c =
+returns-9 c =
     let y = c .before .before in
     let x = y .before .before in
-    let e7 = x .before .before in
-    let k = e7 .before in
-    let e6 = k .before .before in
+    let e8 = x .before .before in
+    let f = e8 .before in
+    let e7 = f .before in
+    let e6 = e7 .before .before .before in
     let w = e6 .before .before .before .before in
     let l = w .before .before .before in
     let p = l .before .before .before .before .args .tpdu .now in
     c .judge-ipv4-udp .ensures (bytesAt 4 12 p) (bytesAt 4 16 p)
     (addresses V4 p 12 16 20 (x .ipv4-address-sum .result) (y .ipv4-address-sum2 .result) (omega arith) (omega arith) (x .ipv4-address-sum .ensures .0) (y .ipv4-address-sum2 .ensures .0))
-    ∙ ap outcomeNumber (rest-ipv4 p (l .low-half .ensures .0) (w .read-u16 .ensures) (past-7 p (l .low-half .ensures .0) (k .checksum .ensures) (left-7 e6) (e7 .if7 .left)))
+    ∙ ap outcomeNumber (rest-ipv4 p (l .low-half .ensures .0) (w .read-u16 .ensures) (past-38 p (left-38 e7) (sym (f .is-fragment .ensures) ∙ e8 .if8 .left)))
 
 pub judge-ipv4-spec : {M : Type 1} → statement M
 judge-ipv4-spec =
@@ -210,6 +231,8 @@ judge-ipv4-spec =
     slice-aggregate-checksum
     checksum-requires
     returns-7
+    is-fragment-requires
+    returns-8
     sub-ipv4-address-sum
     part-ipv4-address-sum-start
     part-ipv4-address-sum-end
@@ -223,4 +246,4 @@ judge-ipv4-spec =
     part-judge-ipv4-udp-start
     part-judge-ipv4-udp-end
     judge-ipv4-udp-requires
-    returns-8)
+    returns-9)
