@@ -482,7 +482,7 @@ pub(crate) fn time_near(random: &mut Random, time: u64) -> u64 {
 /// Cuts a T-PDU or changes a byte or a field; then may make the checksums right.
 fn spoil_tpdu(random: &mut Random, tpdu: &mut Vec<u8>) {
     let at = part_at(tpdu);
-    match random.below(6) {
+    match random.below(7) {
         0 => tpdu.truncate(random.below(tpdu.len())),
         1 => {
             let place = random.below(tpdu.len());
@@ -494,6 +494,7 @@ fn spoil_tpdu(random: &mut Random, tpdu: &mut Vec<u8>) {
         }
         3 => set_any_ihl(random, tpdu),
         4 => set_any_flags(random, tpdu),
+        5 => set_word(tpdu, at + 6, 0),
         _ => set_word(tpdu, 2 * random.below(at / 2 + 8), 0),
     }
     if random.below(2) == 0 {

@@ -30,6 +30,8 @@ struct Extra {
     padding: usize,
     /// A UDP checksum of 0.
     unsummed: bool,
+    /// Of an IPv4 packet, More Fragments and a fragment offset.
+    fragment: u16,
 }
 
 /// Calls `each` with every list of up to 2 bytes; with every first byte before every number of bytes
@@ -91,25 +93,28 @@ pub fn any_probe_of(random: &mut Random, version: u8) -> Probe {
 }
 
 /// Built packets of both versions, and packets with the shortest and the longest options, with
-/// odd payload and padding, and with a UDP checksum of 0.
+/// odd payload and padding, and with a UDP checksum of 0; a first fragment and a last one.
 fn some_packets(random: &mut Random) -> Vec<Vec<u8>> {
     let extras = [
-        (4, 0, 0, 0, false),
-        (4, 1, 3, 2, false),
-        (4, 10, 0, 0, false),
-        (4, 0, 1, 1, true),
-        (6, 0, 0, 0, false),
-        (6, 0, 3, 2, false),
-        (6, 0, 1, 1, true),
+        (4, 0, 0, 0, false, 0),
+        (4, 1, 3, 2, false, 0),
+        (4, 10, 0, 0, false, 0),
+        (4, 0, 1, 1, true, 0),
+        (4, 0, 0, 0, false, MORE_FRAGMENTS),
+        (4, 1, 3, 2, false, 1),
+        (6, 0, 0, 0, false, 0),
+        (6, 0, 3, 2, false, 0),
+        (6, 0, 1, 1, true, 0),
     ];
     extras
         .into_iter()
-        .map(|(version, options, payload, padding, unsummed)| {
+        .map(|(version, options, payload, padding, unsummed, fragment)| {
             let extra = Extra {
                 options,
                 payload,
                 padding,
                 unsummed,
+                fragment,
             };
             let probe = any_probe_of(random, version);
             right_packet(random, probe, &extra)
@@ -167,6 +172,7 @@ pub(crate) fn any_packet(random: &mut Random) -> Vec<u8> {
             _ => random.length(100),
         },
         unsummed: random.below(8) == 0,
+        fragment: 0,
     };
     let probe = any_probe_of(random, version);
     let mut packet = right_packet(random, probe, &extra);
@@ -190,7 +196,7 @@ fn right_packet(random: &mut Random, probe: Probe, extra: &Extra) -> Vec<u8> {
             packet[1] = random.number() as u8;
             packet[4..9].copy_from_slice(&random.bytes(5));
             let flags = random.any_u16() & (RESERVED | DONT_FRAGMENT);
-            set_word(&mut packet, IPV4_FLAGS_AT, flags);
+            set_word(&mut packet, IPV4_FLAGS_AT, flags | extra.fragment);
             packet.len()
         }
         _ => {
@@ -218,12 +224,12 @@ pub(crate) fn set_any_ihl(random: &mut Random, packet: &mut [u8]) {
     }
 }
 
-/// Gives an IPv4 packet any flags and any fragment offset: one alone, at an end of its range, or any.
+/// Gives an IPv4 packet one flag alone, an offset at an end of a byte, or any flags with any offset.
 pub(crate) fn set_any_flags(random: &mut Random, packet: &mut [u8]) {
     if version(packet) == 4 {
-        let one = [RESERVED, DONT_FRAGMENT, MORE_FRAGMENTS, 1, 0x00ff, 0x0100, 0x1fff];
-        let flags = match random.below(2) {
-            0 => one[random.below(one.len())],
+        let flags = match random.below(3) {
+            0 => [RESERVED, DONT_FRAGMENT, MORE_FRAGMENTS][random.below(3)],
+            1 => [1, 0x00ff, 0x0100, 0x1fff][random.below(4)],
             _ => random.any_u16(),
         };
         set_word(packet, IPV4_FLAGS_AT, flags);

@@ -1,20 +1,14 @@
 -- The claims of specs/Fragments.antt.
-use Prim.Native.Nat.{ℕ, _+_, _*_, _<_}
 use native.Mathlib.Omega.{arith}
-use mathlib.Core.Path.{_≡_, refl, sym, ap, _∙_}
-use mathlib.Core.List.{List, _++_}
+use mathlib.Core.Path.{_≡_, refl, sym, _∙_}
 use Rattle.error.specs.Outcome.{Outcome, refused, gives}
 use Rattle.error.proofs.Causes.{refused-gives}
-use Rattle.measurement.specs.Flow.{addressLength, address, padded}
+use Rattle.measurement.specs.Flow.{address}
 use Rattle.measurement.specs.declared.DecodedTpdu.{DecodedTpdu}
-use Rattle.measurement.specs.declared.InnerIpFlow.{InnerIpFlow}
-use Rattle.measurement.specs.declared.IpVersion.the-variants.{V4}
 use Rattle.measurement_packet.specs.Packet.{buildOf}
 use Rattle.measurement_reading.specs.Read.{readOf}
 use Rattle.measurement_reading.proofs.Fragments.{fragments-not-read}
-use Rattle.measurement_damage.specs.Claims.{tpduBuilt}
-use Rattle.measurement_damage.specs.Echo.{echoOf}
-use Rattle.measurement_damage.specs.Fragments.{flagsAndOffset, packetWith, FlagsDecide, BuiltWithFlags, FragmentsNotEchoed}
+use Rattle.measurement_damage.specs.Fragments.{flagsAndOffset, BuiltWithFlags, FragmentsNotEchoed}
 use Rattle.measurement_damage.proofs.ReadBack.{fragment-refused, whole-read}
 use Rattle.measurement_damage.proofs.Claims.{echo-refused}
 

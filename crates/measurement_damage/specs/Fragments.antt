@@ -33,8 +33,9 @@ headerWith word header =
 abbrev pub packetWith : ℕ → List ℕ → List ℕ
 packetWith word packet = headerWith word (take 20 packet) ++ drop 20 packet
 
--- A built IPv4 packet with other flags or another fragment offset, whatever stands behind it in the buffer. The reserved
--- bit and Don't Fragment change nothing; with More Fragments set, or with an offset other than 0, it is refused by 38.
+-- A built IPv4 packet with other flags or another fragment offset, whatever stands behind it in the buffer. The
+-- reserved bit and Don't Fragment change nothing; with More Fragments set, or with an offset other than 0, it is
+-- refused by 38.
 pub record FlagsDecide (flow : InnerIpFlow) (sequence time reserved dontFragment : ℕ) (behind : List ℕ) : Type 0 where
   pub whole : readOf (packetWith (flagsAndOffset reserved dontFragment 0 0) (buildOf flow sequence time) ++ behind)
       ≡ gives (tpduBuilt flow sequence time)

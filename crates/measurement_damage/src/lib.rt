@@ -1,5 +1,5 @@
-// What is proved of building, reading and echoing together (specs/Claims.antt, specs/Fragments.antt), on the contracts of
-// functions that do nothing. The echo is defined here; the call that echoes is in measurement_echo.
+// What is proved of building, reading and echoing together (specs/Claims.antt, specs/Fragments.antt), on the contracts
+// of functions that do nothing. The echo is defined here; the call that echoes is in measurement_echo.
 ghost use Rattle.measurement_damage.specs.Claims.{ReadsBack, EchoIsReversed, EchoOfEcho};
 ghost use Rattle.measurement_damage.specs.Claims.{DamageFound, SentIsRead, LegsChained};
 ghost use Rattle.measurement_damage.specs.Fragments.{BuiltWithFlags, FragmentsNotEchoed};

@@ -169,8 +169,8 @@ fn low_half(byte: u8) -> usize
     (byte & 0x0f) as usize
 }
 
-// Whether a packet is a fragment (RFC 791, section 3.1). What the remainder leaves out of the 16 bits is the reserved bit
-// and Don't Fragment; More Fragments and the fragment offset are tested as one number.
+// Whether a packet is a fragment (RFC 791, section 3.1). The remainder leaves out the upper two of the 16 bits, which
+// are the reserved bit and Don't Fragment; More Fragments and the fragment offset are tested as one number.
 fn is_fragment(tpdu: &[u8]) -> bool
     requires { ⌜ 20 ≤ length (now tpdu) ⌝ }
     ensures { λ r. ⌜ r ≡ isFragment (now (tpdu .entry)) ⌝ }

@@ -1,14 +1,14 @@
 -- The claims of specs/Fragments.antt.
-use Prim.Native.Nat.{ℕ, _+_, _-_, _*_, _/_, _%_}
+use Prim.Native.Nat.{ℕ, _+_, _-_, _*_, _/_}
 use native.Mathlib.Omega.{arith}
-use mathlib.Core.Path.{_≡_, refl, sym, ap, _∙_}
+use mathlib.Core.Path.{_≡_, refl, sym, _∙_}
 use mathlib.Core.List.{List, [], _∷_}
 use mathlib.Core.Bool.{Bool, true, false, not, _||_}
 use mathlib.Core.Logic.{_⊎_, inl, inr}
 use lib.Dec.{eqb}
 use lib.ListN.{length, take, drop, getD}
 use borrow.Author.Tests.{eqb-true, eqb-false, eq-eqb}
-use Rattle.error.specs.Outcome.{Outcome, refused, gives, _⇒_, firstCause}
+use Rattle.error.specs.Outcome.{Outcome, refused, _⇒_, firstCause}
 use Rattle.error.proofs.Causes.{passed-before}
 use Rattle.error.proofs.Tests.{true-not-false, or-left, or-right, differs}
 use Rattle.field.specs.Field.{Bytes, bytesAt, field}
@@ -16,7 +16,7 @@ use Rattle.field.proofs.Fields.{byte-of}
 use Rattle.measurement.specs.declared.DecodedTpdu.{DecodedTpdu}
 use Rattle.measurement.specs.declared.IpVersion.the-variants.{V4}
 use Rattle.measurement_reading.specs.Read.{readUdp, ihl, moreFragments, fragmentOffset, isFragment, ipv4Causes, readIpv4, ipv6Causes, readIpv6, tpduCauses, readOf}
-use Rattle.measurement_reading.specs.Fragments.{IsIpv4, Fragment, HeaderRight, NoEarlierCause, FragmentsNotRead, RefusedAsFragment}
+use Rattle.measurement_reading.specs.Fragments.{IsIpv4, Fragment, HeaderRight, FragmentsNotRead, RefusedAsFragment}
 use Rattle.measurement_reading.proofs.Rows.{LeftIpv4, ipv4-rows, past-3, past-4, past-39, past-5, past-6-ipv4, past-7, row-38, tpdu-rows, past-1, past-2-ipv4}
 use Rattle.measurement_reading.proofs.Numbers.{partNumbers, part-by, ipv6-by}
 use Rattle.measurement_reading.proofs.Accept.{checksum-0, header-right, Accepted4, Accepted6, accepted}

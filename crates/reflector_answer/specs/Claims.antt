@@ -59,7 +59,8 @@ oneMoreReceived state = record {
 
 -- The card's "all (*)", for each number by which reading refuses a T-PDU: "(*) In the reflector under echo, the
 -- received count has risen by 1", and no other count and no byte of the output has changed. 38 and 39 are such
--- numbers too, with the states of 7 and 4 (document 02, jobs 1 and 3). It is asked that 30, 31 and 15, which come first, are not due.
+-- numbers too, with the states of 7 and 4 (document 02, jobs 1 and 3). It is asked that 30, 31 and 15, which come
+-- first, are not due.
 abbrev pub ReceivedHasRisen : Type 0
 ReceivedHasRisen = (rows used k : ℕ) (config : MultiSessionReflectorConfig)
     → tableOutcome rows used (config .«max_sessions») ≡ gives k → config .policy ≡ Echo

@@ -84,12 +84,13 @@ NoneAdded o = (n : ℕ) → Added n → o ≡ refused n → ⊥
 
 -- ---- what is compared
 
+-- Not an IPv4 fragment, by the packet's bytes.
 abbrev pub NoFragment : List ℕ → Type 0
 NoFragment tpdu = IsIpv4 tpdu → Fragment tpdu → ⊥
 
--- Every T-PDU that is not a fragment, and no fragment, alone, in a message that returns and in one that is echoed; every
--- payload of at most 65,535 bytes in a message that is routed; every other message, whatever its payload; 39 as 4, and
--- each other of our numbers as itself.
+-- Every T-PDU that is not an IPv4 fragment, alone, in a message that returns and in one that is echoed, and no
+-- fragment; every payload of at most 65,535 bytes in a message that is routed; every other message, whatever its
+-- payload; 39 as 4, and each other of our numbers as itself.
 pub record WhatIsCompared : Type 0 where
   pub every-tpdu : (tpdu : List ℕ) → Bytes tpdu → NoFragment tpdu → Compared tpdu
   pub no-fragment : (tpdu : List ℕ) → Compared tpdu → NoFragment tpdu
