@@ -40,7 +40,11 @@ pub fn compared(tpdu: &[u8]) -> bool {
     !is_ipv4_fragment(tpdu)
 }
 
-/// `refusedAsFragment`: the number by which ours has to refuse a fragment, where the Rust's reader
+/// The number of a cause that the Rust does not judge and that the card does not mark as added: what
+/// has it is not compared.
+pub const NOT_COMPARED: &[u8] = &[IPV4_FRAGMENT];
+
+/// `dueOfAFragment`: the number by which ours has to refuse a fragment, where the Rust's reader
 /// answers `rust`, 0 if it reads it. 1 to 7 are judged before 38, and everything else after it.
 fn due_of_a_fragment(rust: u8) -> u8 {
     match rust {

@@ -6,7 +6,7 @@ use std::collections::BTreeSet;
 
 use testkit_open::DataplaneTestkitError as Error;
 
-use crate::compared::as_the_rust_tells;
+use crate::compared::{as_the_rust_tells, NOT_COMPARED};
 
 pub const TRUNCATED_IP_HEADER: u8 = 1;
 pub const UNSUPPORTED_IP_VERSION: u8 = 2;
@@ -205,10 +205,6 @@ const NOT_IN_THE_RUST: &[u8] = &[
     OBSERVER_FULL,
     MALFORMED_REFLECTOR_TABLE,
 ];
-
-/// The numbers for causes at which the Rust refuses nothing either, but that the card does not mark as
-/// added: T-PDUs that have such a cause are not compared (compared.rs).
-const NOT_COMPARED: &[u8] = &[IPV4_FRAGMENT];
 
 /// Our numbers for causes at which the Rust refuses too.
 pub fn in_the_rust() -> BTreeSet<u8> {

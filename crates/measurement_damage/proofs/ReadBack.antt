@@ -26,9 +26,9 @@ use Rattle.measurement_reading.specs.Read.{payload, lengthWrong, covered, sumWr
 use Rattle.measurement.proofs.Pseudo.{pseudo-even}
 use Rattle.measurement_packet.proofs.Built.{packet, segment-length, segment-verifies, segment-checksum-not-0}
 use Rattle.measurement_reading.proofs.Rows.{udp4-rows, udp4-past-10, udp4-past-12, udp6-rows, udp6-past-11, udp6-past-12, udp6-past-10}
-use Rattle.measurement_reading.proofs.Rows.{LeftIpv4, fragmentBits, fragment-tested, row-38, past-38, rest-ipv4}
+use Rattle.measurement_reading.proofs.Rows.{LeftIpv4, fragmentBits, fragment-tested, row-38, past-38, rest-ipv4, read-as-ipv4}
 use Rattle.measurement_reading.proofs.Fragments.{left-38}
-use Rattle.measurement_reading.proofs.Rows.{ipv6-rows, past-8, past-6-ipv6, past-9, rest-ipv6, tpdu-rows, past-1, past-2-ipv4, past-2-ipv6}
+use Rattle.measurement_reading.proofs.Rows.{ipv6-rows, past-8, past-6-ipv6, past-9, rest-ipv6, tpdu-rows, past-1, past-2-ipv6}
 
 -- the UDP length of a built segment
 module _ (ph : List ℕ) (sport dport s t : ℕ) where
@@ -123,7 +123,7 @@ module _ (S D : List ℕ) (sport dport s t word : ℕ) (behind : List ℕ) where
 
   flagged-is-ipv4 : readIpv4 flagged ≡ readOf flagged
   unfolding ipHeader ipv4 ipv4Header
-  flagged-is-ipv4 = past-2-ipv4 flagged {v = 4} refl (past-1 flagged (tpdu-rows flagged) (λ e. omega arith)) refl
+  flagged-is-ipv4 = read-as-ipv4 flagged refl
 
   flags-tested : word < 65536 → not (eqb (fragmentBits word) 0) ≡ isFragment flagged
   unfolding ipHeader ipv4 ipv4Header
@@ -132,9 +132,9 @@ module _ (S D : List ℕ) (sport dport s t word : ℕ) (behind : List ℕ) where
   pub fragment-refused : word < 65536 → (fragmentBits word ≡ 0 → ⊥) → readOf flagged ≡ refused 38
   fragment-refused fits h = sym (row-38 flagged flagged-left (sym (flags-tested fits) ∙ differs (fragmentBits word) 0 h) ∙ flagged-is-ipv4)
 
-  pub whole-read : sport < 65536 → dport < 65536 → s < 2 ^ 64 → t < 2 ^ 64 → word < 65536 → fragmentBits word ≡ 0 → readOf flagged ≡ gives (tpdu V4 S D sport dport s t)
+  pub flagged-read : sport < 65536 → dport < 65536 → s < 2 ^ 64 → t < 2 ^ 64 → word < 65536 → fragmentBits word ≡ 0 → readOf flagged ≡ gives (tpdu V4 S D sport dport s t)
   unfolding ipHeader ipv4 ipv4Header udp udpSegment probe measurementMagic addressLength ihl
-  whole-read hs hd ss st fits h =
+  flagged-read hs hd ss st fits h =
       sym (part-of-packet V4 S D sport dport s t hs hd ss st
       ∙ rest-ipv4 flagged {k = 5} refl {n = 52} refl (past-38 flagged flagged-left (sym (flags-tested fits) ∙ equals (fragmentBits word) 0 h))
       ∙ flagged-is-ipv4)
@@ -144,7 +144,7 @@ module _ (S D : List ℕ) (sport dport s t : ℕ) (hs : sport < 65536) (hd : dpo
   -- its flags and fragment offset are 0
   reads-back-4 : readOf (packet V4 S D sport dport s t ++ behind) ≡ gives (tpdu V4 S D sport dport s t)
   unfolding ipHeader ipv4 ipv4Header udp addressLength
-  reads-back-4 = whole-read S D sport dport s t 0 behind hs hd ss st (omega arith) refl
+  reads-back-4 = flagged-read S D sport dport s t 0 behind hs hd ss st (omega arith) refl
 
   reads-back-6 : readOf (packet V6 S D sport dport s t ++ behind) ≡ gives (tpdu V6 S D sport dport s t)
   unfolding ipHeader ipv6 udp udpSegment probe measurementMagic addressLength

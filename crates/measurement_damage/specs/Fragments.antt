@@ -1,6 +1,6 @@
 -- What is claimed of fragments where T-PDUs are built and echoed: document 02, job 1. proofs/Fragments.antt proves each
 -- claim.
-use Prim.Native.Nat.{ℕ, _+_, _*_, _^_, _<_}
+use Prim.Native.Nat.{ℕ, _%_, _<_}
 use mathlib.Core.Path.{_≡_}
 use mathlib.Core.List.{List, _++_}
 use lib.ListN.{take, drop}
@@ -16,11 +16,6 @@ use Rattle.measurement_reading.specs.Read.{readOf}
 use Rattle.measurement_damage.specs.Claims.{tpduBuilt}
 use Rattle.measurement_damage.specs.Echo.{echoOf}
 
--- RFC 791, section 3.1: three flags of one bit each, and the fragment offset in 13 bits.
-abbrev pub flagsAndOffset : ℕ → ℕ → ℕ → ℕ → ℕ
-flagsAndOffset reserved dontFragment moreFragments offset =
-    reserved * 2 ^ 15 + dontFragment * 2 ^ 14 + moreFragments * 2 ^ 13 + offset
-
 -- An IPv4 header of 20 bytes with this word for its flags and fragment offset, and with its checksum made right: "For
 -- purposes of computing the checksum, the value of the checksum field is zero."
 abbrev pub headerWith : ℕ → List ℕ → List ℕ
@@ -33,23 +28,25 @@ headerWith word header =
 abbrev pub packetWith : ℕ → List ℕ → List ℕ
 packetWith word packet = headerWith word (take 20 packet) ++ drop 20 packet
 
--- A built IPv4 packet with other flags or another fragment offset, whatever stands behind it in the buffer. The
--- reserved bit and Don't Fragment change nothing; with More Fragments set, or with an offset other than 0, it is
--- refused by 38.
-pub record FlagsDecide (flow : InnerIpFlow) (sequence time reserved dontFragment : ℕ) (behind : List ℕ) : Type 0 where
-  pub whole : readOf (packetWith (flagsAndOffset reserved dontFragment 0 0) (buildOf flow sequence time) ++ behind)
+-- A built IPv4 packet with other flags or another fragment offset, whatever stands behind it in the buffer. RFC 791,
+-- section 3.1, from the most significant of the 16 bits on: the reserved bit, Don't Fragment, More Fragments, and the
+-- fragment offset.
+pub record FlagsDecide (flow : InnerIpFlow) (sequence time : ℕ) (behind : List ℕ) : Type 0 where
+  pub reserved-bit : readOf (packetWith 0x8000 (buildOf flow sequence time) ++ behind)
       ≡ gives (tpduBuilt flow sequence time)
-  pub more-fragments : (offset : ℕ) → offset < 2 ^ 13
-      → readOf (packetWith (flagsAndOffset reserved dontFragment 1 offset) (buildOf flow sequence time) ++ behind)
-      ≡ refused 38
-  pub last-fragment : (offset : ℕ) → 0 < offset → offset < 2 ^ 13
-      → readOf (packetWith (flagsAndOffset reserved dontFragment 0 offset) (buildOf flow sequence time) ++ behind)
-      ≡ refused 38
+  pub dont-fragment : readOf (packetWith 0x4000 (buildOf flow sequence time) ++ behind)
+      ≡ gives (tpduBuilt flow sequence time)
+  pub more-fragments : readOf (packetWith 0x2000 (buildOf flow sequence time) ++ behind) ≡ refused 38
+  pub offset-1 : readOf (packetWith 0x0001 (buildOf flow sequence time) ++ behind) ≡ refused 38
+  -- So of every word the reserved bit and Don't Fragment do not count; it is 38 where another bit is set.
+  pub no-other-bit : (word : ℕ) → word < 0x10000 → word % 0x4000 ≡ 0
+      → readOf (packetWith word (buildOf flow sequence time) ++ behind) ≡ gives (tpduBuilt flow sequence time)
+  pub another-bit : (word : ℕ) → word < 0x10000 → (word % 0x4000 ≡ 0 → ⊥)
+      → readOf (packetWith word (buildOf flow sequence time) ++ behind) ≡ refused 38
 
 abbrev pub BuiltWithFlags : Type 0
 BuiltWithFlags = (flow : InnerIpFlow) (sequence time : ℕ) → InRange flow sequence time → flow .version ≡ V4
-    → (reserved dontFragment : ℕ) → reserved < 2 → dontFragment < 2
-    → (behind : List ℕ) → FlagsDecide flow sequence time reserved dontFragment behind
+    → (behind : List ℕ) → FlagsDecide flow sequence time behind
 
 -- No fragment is echoed, whatever else it is.
 abbrev pub FragmentsNotEchoed : Type 0

@@ -15,7 +15,7 @@ use Rattle.checksum.specs.Sum.{sumOf, folding, foldOf, checksumOf}
 use Rattle.checksum.proofs.Carries.{split}
 use Rattle.measurement_reading.specs.Read.{payload, lengthWrong, covered, sumWrong, probeCauses, udpCauses, readProbe, readUdp, ihl, isFragment, ipv4Causes, readIpv4, tpduCauses, readOf}
 use Rattle.measurement_reading.specs.Claims.{ReadingNumbers, ipv4Packet, TwoCauses, CutIsNot4, CutExamples}
-use Rattle.measurement_reading.proofs.Rows.{LeftIpv4, ipv4-rows, row-3, past-3, row-4, past-4, row-39, past-39, tpdu-rows, past-1, past-2-ipv4}
+use Rattle.measurement_reading.proofs.Rows.{LeftIpv4, ipv4-rows, row-3, past-3, row-4, past-4, row-39, past-39, read-as-ipv4}
 use Rattle.measurement_reading.proofs.Numbers.{partNumbers, readingNumbers, left-by, read-by}
 
 pub reading-numbers : ReadingNumbers
@@ -36,7 +36,7 @@ module _ (k : ℕ) (behind : List ℕ) (small : k < 16) where
   p = ipv4Packet k behind
 
   is-ipv4 : readIpv4 p ≡ readOf p
-  is-ipv4 = past-2-ipv4 p {v = 4} (omega arith) (past-1 p (tpdu-rows p) (λ e. omega arith)) refl
+  is-ipv4 = read-as-ipv4 p (omega arith)
 
   k-is : k ≡ ihl p
   unfolding ihl

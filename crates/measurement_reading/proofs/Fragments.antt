@@ -6,7 +6,7 @@ use mathlib.Core.List.{List, [], _∷_}
 use mathlib.Core.Bool.{Bool, true, false, not, _||_}
 use mathlib.Core.Logic.{_⊎_, inl, inr}
 use lib.Dec.{eqb}
-use lib.ListN.{length, take, drop, getD}
+use lib.ListN.{take, drop, getD}
 use borrow.Author.Tests.{eqb-true, eqb-false, eq-eqb}
 use Rattle.error.specs.Outcome.{Outcome, refused, _⇒_, firstCause}
 use Rattle.error.proofs.Causes.{passed-before}
@@ -17,7 +17,7 @@ use Rattle.measurement.specs.declared.DecodedTpdu.{DecodedTpdu}
 use Rattle.measurement.specs.declared.IpVersion.the-variants.{V4}
 use Rattle.measurement_reading.specs.Read.{readUdp, ihl, moreFragments, fragmentOffset, isFragment, ipv4Causes, readIpv4, ipv6Causes, readIpv6, tpduCauses, readOf}
 use Rattle.measurement_reading.specs.Fragments.{IsIpv4, Fragment, HeaderRight, FragmentsNotRead, RefusedAsFragment}
-use Rattle.measurement_reading.proofs.Rows.{LeftIpv4, ipv4-rows, past-3, past-4, past-39, past-5, past-6-ipv4, past-7, row-38, tpdu-rows, past-1, past-2-ipv4}
+use Rattle.measurement_reading.proofs.Rows.{LeftIpv4, ipv4-rows, past-3, past-4, past-39, past-5, past-6-ipv4, past-7, row-38, read-as-ipv4}
 use Rattle.measurement_reading.proofs.Numbers.{partNumbers, part-by, ipv6-by}
 use Rattle.measurement_reading.proofs.Accept.{checksum-0, header-right, Accepted4, Accepted6, accepted}
 
@@ -49,13 +49,6 @@ left-38 p {k} ek en h =
     let left-6 = past-5 p ek en left-5 (h .not-5 .0) (h .not-5 .1) in
     let left-7 = past-6-ipv4 p left-6 (h .not-6) in
     past-7 p ek (checksum-0 (take (k * 4) p) (h .not-7)) left-7 refl
-
-pub not-empty : (p : List ℕ) → IsIpv4 p → length p ≡ 0 → ⊥
-not-empty [] v e = omega arith
-not-empty (x ∷ p) v e = omega arith
-
-pub is-ipv4 : (p : List ℕ) → IsIpv4 p → readIpv4 p ≡ readOf p
-is-ipv4 p v = past-2-ipv4 p refl (past-1 p (tpdu-rows p) (not-empty p v)) v
 
 module _ (p : List ℕ) where
   length-is : getD p 2 0 * 256 + getD p 3 0 ≡ field 2 2 p
@@ -92,7 +85,7 @@ fragments-not-read p b v f r e = by (accepted p r e)
 pub refused-as-fragment : RefusedAsFragment
 unfolding ihl
 refused-as-fragment = record {
-  where-due = λ p b v h f. sym (row-38 p (left-38 p refl (length-is p) h) (is-fragment p b f) ∙ is-ipv4 p v);
+  where-due = λ p b v h f. sym (row-38 p (left-38 p refl (length-is p) h) (is-fragment p b f) ∙ read-as-ipv4 p v);
   only-where-due = λ p b e.
       let v = of-ipv4 p e in
       let r = of-row p (v .1) in

@@ -3,7 +3,7 @@
 use Prim.Native.Nat.{ℕ, _+_, _-_, _*_, _/_, _%_, _<_, _≤_}
 use native.Mathlib.Omega.{arith}
 use mathlib.Core.Path.{_≡_, refl, sym, ap, ap₂, _∙_}
-use mathlib.Core.List.{List}
+use mathlib.Core.List.{List, [], _∷_}
 use mathlib.Core.Bool.{Bool, true, false, not, _||_}
 use lib.Dec.{ltb, eqb}
 use lib.ListN.{length, take, drop, getD}
@@ -151,7 +151,7 @@ module _ (src dst u : List ℕ) where
 
 module _ (p : List ℕ) where
   -- IPv4: 3, 4, 39, 5, 6, 7, 38
-  abbrev onward4 : Outcome DecodedTpdu
+  abbrev pub onward4 : Outcome DecodedTpdu
   onward4 = readUdp V4 (bytesAt 4 12 p) (bytesAt 4 16 p) (take (field 2 2 p - ihl p * 4) (drop (ihl p * 4) p))
 
   abbrev pub LeftIpv4 : ℕ → Type 0
@@ -332,3 +332,11 @@ module _ (p : List ℕ) where
     past-2-ipv6 left h =
         ap by-version (sym (ne-eqb (getD p 0 0 / 16) 4 (λ e. omega arith)))
         ∙ all-passed (goes-on left (and-right not-4 not-6 (equals (getD p 0 0 / 16) 6 (sym ev ∙ h))))
+
+-- a packet of version 4, which is not empty, is read as such
+pub ipv4-not-empty : (p : List ℕ) → getD p 0 0 / 16 ≡ 4 → length p ≡ 0 → ⊥
+ipv4-not-empty [] v e = omega arith
+ipv4-not-empty (x ∷ p) v e = omega arith
+
+pub read-as-ipv4 : (p : List ℕ) → getD p 0 0 / 16 ≡ 4 → readIpv4 p ≡ readOf p
+read-as-ipv4 p v = past-2-ipv4 p refl (past-1 p (tpdu-rows p) (ipv4-not-empty p v)) v

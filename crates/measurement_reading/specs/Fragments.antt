@@ -21,7 +21,8 @@ IsIpv4 tpdu = getD tpdu 0 0 / 16 ≡ 4
 abbrev pub Fragment : List ℕ → Type 0
 Fragment tpdu = (getD tpdu 6 0 / 32 % 2 ≡ 1) ⊎ (getD tpdu 6 0 % 32 * 256 + getD tpdu 7 0 ≡ 0 → ⊥)
 
--- None of the causes before 38 holds, which are 3, 4, 39, 5, 6 and 7, for a packet with this IHL and this total length.
+-- None of the causes before 38 holds, for a packet of version 4 with this IHL and this total length: 3, 4, 39, 5, 6
+-- and 7. Of such a packet 1 and 2 are never due.
 pub record HeaderRight (ihl totalLength : ℕ) (tpdu : List ℕ) : Type 0 where
   pub not-3 : 20 ≤ length tpdu
   pub not-4 : 5 ≤ ihl

@@ -26,7 +26,7 @@ KindIsOfType = (o : Observer) (time messageType : ℕ) (payload : List ℕ) (kin
 
 -- Where 21 is not due, a T-PDU that reading refuses, by whichever number, is refused by that number, alone and in a
 -- message of type 255, and the sheet is left as it was: the card's "all". 38 and 39 are such numbers too, with the
--- states of 7 and 4 (document 02, jobs 1 and 3).
+-- states of 7 and 4 (document 02, jobs 1 and 3). So a row that a fragment has marked before keeps its mark (job 1).
 abbrev pub RefusedAsRead : Type 0
 RefusedAsRead = (o : Observer) (time n : ℕ) (tpdu : List ℕ) → wellFormed o ≡ true → readOf tpdu ≡ refused n
     → (recordReceivedTpdu o time tpdu ≡ record { outcome = refused n; observer = o })

@@ -22,11 +22,11 @@ use Rattle.measurement.specs.declared.DecodedTpdu.{DecodedTpdu}
 use Rattle.measurement.specs.declared.MeasurementHeader.{MeasurementHeader}
 use Rattle.measurement.specs.declared.IpVersion.the-variants.{V4, V6}
 use Rattle.measurement_reading.specs.Read.{payload, lengthWrong, covered, sumWrong, probeCauses, udpCauses, readProbe, readUdp, ihl, isFragment, ipv4Causes, readIpv4, ipv6Causes, readIpv6, readOf}
-use Rattle.measurement_reading.proofs.Rows.{tpdu-rows, row-1, past-1, row-2, past-2-ipv4, past-2-ipv6}
+use Rattle.measurement_reading.proofs.Rows.{onward4, tpdu-rows, row-1, past-1, row-2, past-2-ipv6, ipv4-not-empty, read-as-ipv4}
 use Rattle.measurement_reading.proofs.Numbers.{partNumbers, part-by}
-use Rattle.measurement_reading.proofs.Fragments.{is-fragment, not-empty, is-ipv4}
-use Rattle.rust_reference.specs.Claims.{DecodeMeasurementTpdu, refusedAsFragment, DecodeFragment}
-use Rattle.rust_reference.specs.Compared.{asTheRustTells, told}
+use Rattle.measurement_reading.proofs.Fragments.{is-fragment}
+use Rattle.rust_reference.specs.Claims.{DecodeMeasurementTpdu, DecodeFragment}
+use Rattle.rust_reference.specs.Compared.{dueOfAFragment, asTheRustTells, told}
 use Rattle.rust_reference.specs.Error as error
 use Rattle.rust_reference.specs.Error.{Result, Ok, Err, UnsupportedIpVersion, InvalidPacket, returnIf, _>>=_, _>>_}
 use Rattle.rust_reference.specs.Number.{outcomeBy}
@@ -220,12 +220,9 @@ module _ (p : List ℕ) (b : Bytes p) where
       (bytes-take («u16_at» p 2 - header) (drop header p) (bytes-drop header p b)) (omega (arith, u16-below p 2 b)) (omega arith) refl refl
       ∙ ap (λ (n : ℕ). told (readUdp V4 (bytesAt 4 12 p) (bytesAt 4 16 p) (take (n - header) (drop header p)))) (u16-is p 2)
 
-  abbrev onward4 : Outcome DecodedTpdu
-  onward4 = readUdp V4 (bytesAt 4 12 p) (bytesAt 4 16 p) (take (field 2 2 p - ihl p * 4) (drop (ihl p * 4) p))
-
   -- 3 to 7 beside the rows of these numbers, and then 38 and the UDP part beside the Rust's UDP part
   ipv4-read : (due : Outcome DecodedTpdu → Outcome DecodedTpdu) → ((n : ℕ) → ltb n 8 ≡ true → due (refused n) ≡ refused n)
-      → due (told onward4) ≡ told (firstCause ((isFragment p ⇒ 38) ∷ []) onward4)
+      → due (told (onward4 p)) ≡ told (firstCause ((isFragment p ⇒ 38) ∷ []) (onward4 p))
       → due (outcomeBy tpduOf (rust.«decode_ipv4_measurement» p)) ≡ told (readIpv4 p)
   unfolding rust.«decode_ipv4_measurement» readIpv4 ipv4Causes rest4
   ipv4-read due early late =
@@ -233,7 +230,7 @@ module _ (p : List ℕ) (b : Bytes p) where
       (λ c3. two-rows due tpduOf (ltb header 20 || ltb (length p) (header + 8)) (ltb (ihl p) 5) (ltb (length p) (ihl p * 4 + 8)) _ 4 39 _ _ _ (early 4 refl) (early 4 refl) test4
       (λ c39. row due tpduOf (ltb («u16_at» p 2) (header + 8) || ltb (length p) («u16_at» p 2)) _ 5 _ _ _ (early 5 refl) test5
       (λ c5. row due tpduOf (not (eqb (index p 9) 17)) _ 6 _ _ _ (early 6 refl) refl
-      (λ c6. row due tpduOf (not (eqb (rust.checksum (range p 0 header ∷ [])) 0)) _ 7 _ ((isFragment p ⇒ 38) ∷ []) onward4 (early 7 refl) header-sum
+      (λ c6. row due tpduOf (not (eqb (rust.checksum (range p 0 header ∷ [])) 0)) _ 7 _ ((isFragment p ⇒ 38) ∷ []) (onward4 p) (early 7 refl) header-sum
       (λ c7.
       let low = or-neither (ltb («u16_at» p 2) (header + 8)) (ltb (length p) («u16_at» p 2)) (test5 ∙ c5) in
       ap due (read4 (ltb-false (length p) 20 c3) (ltb-false («u16_at» p 2) (header + 8) (low .0)) (ltb-false (length p) («u16_at» p 2) (low .1)))
@@ -245,19 +242,19 @@ module _ (p : List ℕ) (b : Bytes p) where
       test5 : ltb («u16_at» p 2) (header + 8) || ltb (length p) («u16_at» p 2) ≡ ltb (field 2 2 p) (ihl p * 4 + 8) || ltb (length p) (field 2 2 p)
       test5 = unfold ihl in rw (u16-is p 2)
 
-  whole-read : isFragment p ≡ false → outcomeBy tpduOf (rust.«decode_ipv4_measurement» p) ≡ told (readIpv4 p)
+  of-whole : isFragment p ≡ false → outcomeBy tpduOf (rust.«decode_ipv4_measurement» p) ≡ told (readIpv4 p)
   unfolding firstCause
-  whole-read h = ipv4-read as-it-is (λ n l. refl) (rw (h, firstCause))
+  of-whole h = ipv4-read as-it-is (λ n l. refl) (rw (h, firstCause))
 
   -- of a fragment, whatever the UDP part is, 38 comes before it
-  fragment-read : isFragment p ≡ true → refusedAsFragment (outcomeBy tpduOf (rust.«decode_ipv4_measurement» p)) ≡ told (readIpv4 p)
+  of-fragment : isFragment p ≡ true → dueOfAFragment (outcomeBy tpduOf (rust.«decode_ipv4_measurement» p)) ≡ told (readIpv4 p)
   unfolding firstCause
-  fragment-read h = ipv4-read refusedAsFragment (λ n l. rw (l, refusedAsFragment)) (after onward4 (part-by V4 _ _ _) ∙ rw (h, firstCause))
+  of-fragment h = ipv4-read dueOfAFragment (λ n l. rw (l, dueOfAFragment)) (after (onward4 p) (part-by V4 _ _ _) ∙ rw (h, firstCause))
     where
-      after : (o : Outcome DecodedTpdu) → ((n : ℕ) → o ≡ refused n → among n partNumbers ≡ true) → refusedAsFragment (told o) ≡ refused 38
+      after : (o : Outcome DecodedTpdu) → ((n : ℕ) → o ≡ refused n → among n partNumbers ≡ true) → dueOfAFragment (told o) ≡ refused 38
       after (refused n) by =
           let late : ltb (asTheRustTells n) 8 ≡ false = not-true (ltb (asTheRustTells n) 8) (of-each (λ m. not (ltb (asTheRustTells m) 8)) partNumbers refl n (by n refl)) in
-          rw (late, refusedAsFragment)
+          rw (late, dueOfAFragment)
       after (gives x) by = refl
 
   abbrev part6 : List ℕ
@@ -307,12 +304,12 @@ decoded p c =
         ]) ≡ told (readOf p)
     by h true e u f =
         let four = eqb-true (index p 0 / 16) 4 e in
-        whole-read p (compared-bytes p c) (compared-whole p c four) ∙ ap told (past-2-ipv4 p refl (past-1 p (tpdu-rows p) h) four)
+        of-whole p (compared-bytes p c) (compared-whole p c four) ∙ ap told (read-as-ipv4 p four)
     by h false e true f = ipv6-read p (compared-bytes p c) ∙ ap told (past-2-ipv6 p refl (past-1 p (tpdu-rows p) h) (eqb-true (index p 0 / 16) 6 f))
     by h false e false f = ap told (row-2 p refl (past-1 p (tpdu-rows p) h) (eqb-false (index p 0 / 16) 4 e) (eqb-false (index p 0 / 16) 6 f))
 
 pub decoded-fragment : DecodeFragment
 unfolding rust.«decode_measurement_tpdu»
 decoded-fragment p b v f =
-    rw (ne-eqb (length p) 0 (not-empty p v), eq-eqb (index p 0 / 16) 4 v, rust.«decode_measurement_tpdu»)
-    (fragment-read p b (is-fragment p b f) ∙ ap told (is-ipv4 p v))
+    rw (ne-eqb (length p) 0 (ipv4-not-empty p v), eq-eqb (index p 0 / 16) 4 v, rust.«decode_measurement_tpdu»)
+    (of-fragment p b (is-fragment p b f) ∙ ap told (read-as-ipv4 p v))

@@ -1,16 +1,16 @@
 -- Demand 2: "where no refusal marked added is due, the results equal the Rust's". Each ported function of the Rust has
 -- a claim of its name: its result, with errors as numbers, is that of document 01's definition, which our call's
--- contract names. Compared.antt says what is compared. proofs/ proves each claim.
+-- contract names. Compared.antt says what is compared, which since document 02, job 1, is not every T-PDU. proofs/
+-- proves each claim.
 use Prim.Native.Nat.{ℕ, _%_, _≤_}
 use mathlib.Core.Path.{_≡_}
 use mathlib.Core.List.{List, [], _∷_, flatten, map}
 use mathlib.Core.Logic.{_⊎_}
-use mathlib.Core.Bool.{Bool, true, false}
-use lib.Dec.{ltb}
+use mathlib.Core.Bool.{Bool, true}
 use lib.ListN.{length}
 use Rattle.error.specs.Number.{outputTooShort, tooManyPackets, malformedObserver, observerFull}
 use Rattle.error.specs.Number.{invalidReflectorCapacity, malformedReflectorTable}
-use Rattle.error.specs.Number.{invalidIpv4Ihl, ipv4Fragment, truncatedIpv4UdpPacket}
+use Rattle.error.specs.Number.{invalidIpv4Ihl, truncatedIpv4UdpPacket}
 use Rattle.error.specs.Outcome.{Outcome, refused, gives}
 use Rattle.gtpu.specs.Element.{elementsOf}
 use Rattle.gtpu.specs.Message.{gtpuMsgGpdu}
@@ -54,7 +54,8 @@ use Rattle.rust_reference.specs.Runs.{Call, Typed, answerTo, afterCall, 
 use Rattle.rust_reference.specs.Runs.{rustAfter}
 use Rattle.rust_reference.specs.Map.{Option}
 use Rattle.rust_reference.specs.Number.{errorNumber, outcomeBy, outcomeOf}
-use Rattle.rust_reference.specs.Compared.{Compared, ComparedReturn, ComparedMessage, asTheRustTells, told}
+use Rattle.rust_reference.specs.Compared.{Compared, ComparedReturn, ComparedMessage, dueOfAFragment}
+use Rattle.rust_reference.specs.Compared.{asTheRustTells, told}
 use Rattle.rust_reference.specs.Answers.{rustFlow, tpduOf, inBuffer, toldWriting, headersOf, packetsInBuffer}
 use Rattle.rust_reference.specs.Answers.{toldGenerating, reportOf}
 use Rattle.rust_reference.specs.Sessions.{Reflector, tableIn, withTable, withState, freshReflector, handling}
@@ -146,15 +147,10 @@ abbrev pub DecodeMeasurementTpdu : Type 0
 DecodeMeasurementTpdu = (tpdu : List ℕ) → Compared tpdu
     → outcomeBy tpduOf (measurement.«decode_measurement_tpdu» tpdu) ≡ told (readOf tpdu)
 
--- What ours has to say of a fragment, where the Rust says this: 1 to 7 come before 38, and everything else after it.
-abbrev pub refusedAsFragment : {A : Type 0} → Outcome A → Outcome A
-refusedAsFragment (refused n) = elim (ltb n 8) [ true ↦ refused n | false ↦ refused ipv4Fragment ]
-refusedAsFragment (gives x) = refused ipv4Fragment
-
 -- Of the fragments, which are not compared, only the refusal by 38 is ours: by 1 to 7 both refuse alike.
 abbrev pub DecodeFragment : Type 0
 DecodeFragment = (tpdu : List ℕ) → Bytes tpdu → IsIpv4 tpdu → Fragment tpdu
-    → refusedAsFragment (outcomeBy tpduOf (measurement.«decode_measurement_tpdu» tpdu)) ≡ told (readOf tpdu)
+    → dueOfAFragment (outcomeBy tpduOf (measurement.«decode_measurement_tpdu» tpdu)) ≡ told (readOf tpdu)
 
 abbrev pub EchoTpdu : Type 0
 EchoTpdu = (tpdu : List ℕ) → Compared tpdu → (buffer : List ℕ) → NoneAdded (writingOf (echoOf tpdu) buffer .outcome)

@@ -4,9 +4,9 @@ use Prim.Native.Nat.{ℕ, _≤_}
 use mathlib.Core.Path.{_≡_}
 use mathlib.Core.Bool.{true, false}
 use mathlib.Core.List.{List}
-use lib.Dec.{eqb}
+use lib.Dec.{eqb, ltb}
 use lib.ListN.{length}
-use Rattle.error.specs.Number.{invalidIpv4Ihl, truncatedIpv4UdpPacket}
+use Rattle.error.specs.Number.{invalidIpv4Ihl, ipv4Fragment, truncatedIpv4UdpPacket}
 use Rattle.error.specs.Outcome.{Outcome, refused, gives}
 use Rattle.field.specs.Field.{Bytes}
 use Rattle.measurement_reading.specs.Read.{versionOf, isFragment}
@@ -19,6 +19,12 @@ use Rattle.reflector_answer.specs.declared.ReflectorPolicy.the-variants.{Echo, 
 -- these packets" (document 02, job 1).
 abbrev pub Compared : List ℕ → Type 0
 Compared tpdu = Bytes tpdu × (versionOf tpdu ≡ 4 → isFragment tpdu ≡ false)
+
+-- What is due of ours for a fragment, where the Rust says this of it: 1 to 7 come before 38, and everything else after
+-- it.
+abbrev pub dueOfAFragment : {A : Type 0} → Outcome A → Outcome A
+dueOfAFragment (refused number) = elim (ltb number 8) [ true ↦ refused number | false ↦ refused ipv4Fragment ]
+dueOfAFragment (gives x) = refused ipv4Fragment
 
 -- A message that comes back: a G-PDU is compared if its T-PDU is, every other message always.
 abbrev pub ComparedReturn : ℕ → List ℕ → Type 0

@@ -3,7 +3,7 @@
 // side by side, and by running both (compare/).
 ghost use Rattle.rust_reference.specs.Claims.{EqualsTheRust};
 
-// Carries demand 2: where no added refusal is due, the results equal the Rust's.
+// Carries demand 2: where no added refusal is due and no fragment is read, the results equal the Rust's.
 pub fn equals_the_rust()
     ensures { λ _. ⌜ EqualsTheRust ⌝ }
 {}

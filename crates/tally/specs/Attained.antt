@@ -128,8 +128,8 @@ pub record Attained : Type 0 where
   -- "An IPv4 UDP checksum field of 0 is not verified": case 1's 0xB1D8, whose 16 bits are not all equal, turned to 0.
   pub checksum-lost : Comes ipv4Flow tpduCall udpChecksum (0 ∷ [])
       (record { on-a-leg = true; at-the-end = true; refused = false })
-  -- The more-fragments flag turned on: "A probe damaged into a fragment is then one of the refused ones" (document 02,
-  -- job 1).
+  -- The more-fragments flag turned on, an example of "A probe damaged into a fragment is then one of the refused ones"
+  -- (document 02, job 1). The header checksum finds it.
   pub fragment-refused : Comes ipv4Flow tpduCall flagsAndFragmentOffset (0x2000 ∷ [])
       (record { on-a-leg = true; at-the-end = true; refused = true })
   -- By the message call, damaged on two legs, on each within a span of its own.
