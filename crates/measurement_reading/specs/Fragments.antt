@@ -16,8 +16,7 @@ abbrev pub IsIpv4 : List ℕ → Type 0
 IsIpv4 tpdu = getD tpdu 0 0 / 16 ≡ 4
 
 -- RFC 791, section 3.1: of the eight bits of byte 6, the most significant first, the third is More Fragments; the last
--- five and byte 7 are the Fragment Offset. "a packet with the more-fragments flag set or a fragment offset other than
--- 0"
+-- five and byte 7 are the Fragment Offset. "the more-fragments flag set or a fragment offset other than 0"
 abbrev pub Fragment : List ℕ → Type 0
 Fragment tpdu = (getD tpdu 6 0 / 32 % 2 ≡ 1) ⊎ (getD tpdu 6 0 % 32 * 256 + getD tpdu 7 0 ≡ 0 → ⊥)
 

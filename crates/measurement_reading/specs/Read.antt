@@ -96,8 +96,8 @@ ihl tpdu = getD tpdu ipv4Ihl 0 % 16
 abbrev pub totalLength : List ℕ → ℕ
 totalLength tpdu = field 2 ipv4TotalLength tpdu
 
--- RFC 791, section 3.1: 16 bits are three flags, of which the first is reserved, the second is Don't Fragment and the
--- third More Fragments, and then the Fragment Offset.
+-- RFC 791, section 3.1: of these 16 bits the first three are flags, which are reserved, Don't Fragment and More
+-- Fragments, and the other 13 are the Fragment Offset.
 abbrev pub moreFragments : List ℕ → ℕ
 moreFragments tpdu = field 2 ipv4FlagsAndFragmentOffset tpdu / 2 ^ 13 % 2
 
