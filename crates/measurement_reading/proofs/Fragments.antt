@@ -1,23 +1,23 @@
 -- The claims of specs/Fragments.antt.
-use Prim.Native.Nat.{ℕ, _+_, _-_, _*_, _/_}
+use Prim.Native.Nat.{ℕ, _+_, _*_, _/_}
 use native.Mathlib.Omega.{arith}
 use mathlib.Core.Path.{_≡_, refl, sym, _∙_}
 use mathlib.Core.List.{List, [], _∷_}
 use mathlib.Core.Bool.{Bool, true, false, not, _||_}
 use mathlib.Core.Logic.{_⊎_, inl, inr}
 use lib.Dec.{eqb}
-use lib.ListN.{take, drop, getD}
+use lib.ListN.{take, getD}
 use borrow.Author.Tests.{eqb-true, eqb-false, eq-eqb}
 use Rattle.error.specs.Outcome.{Outcome, refused, _⇒_, firstCause}
 use Rattle.error.proofs.Causes.{passed-before}
 use Rattle.error.proofs.Tests.{true-not-false, or-left, or-right, differs}
-use Rattle.field.specs.Field.{Bytes, bytesAt, field}
+use Rattle.field.specs.Field.{Bytes, field}
 use Rattle.field.proofs.Fields.{byte-of}
 use Rattle.measurement.specs.declared.DecodedTpdu.{DecodedTpdu}
 use Rattle.measurement.specs.declared.IpVersion.the-variants.{V4}
-use Rattle.measurement_reading.specs.Read.{readUdp, ihl, moreFragments, fragmentOffset, isFragment, ipv4Causes, readIpv4, ipv6Causes, readIpv6, tpduCauses, readOf}
+use Rattle.measurement_reading.specs.Read.{ihl, moreFragments, fragmentOffset, isFragment, ipv4Causes, readIpv4, ipv6Causes, readIpv6, tpduCauses, readOf}
 use Rattle.measurement_reading.specs.Fragments.{IsIpv4, Fragment, HeaderRight, FragmentsNotRead, RefusedAsFragment}
-use Rattle.measurement_reading.proofs.Rows.{LeftIpv4, ipv4-rows, past-3, past-4, past-39, past-5, past-6-ipv4, past-7, row-38, read-as-ipv4}
+use Rattle.measurement_reading.proofs.Rows.{onward4, LeftIpv4, ipv4-rows, past-3, past-4, past-39, past-5, past-6-ipv4, past-7, row-38, read-as-ipv4}
 use Rattle.measurement_reading.proofs.Numbers.{partNumbers, part-by, ipv6-by}
 use Rattle.measurement_reading.proofs.Accept.{checksum-0, header-right, Accepted4, Accepted6, accepted}
 
@@ -70,8 +70,7 @@ module _ (p : List ℕ) where
       let q = passed-before 38 (ipv4Causes p) _ e in
       (header-right p (q .0), by (isFragment p) refl (q .1))
     where
-      by : (t : Bool) → isFragment p ≡ t → firstCause ((t ⇒ 38) ∷ []) (readUdp V4 (bytesAt 4 12 p) (bytesAt 4 16 p) (take (field 2 2 p - ihl p * 4) (drop (ihl p * 4) p))) ≡ refused 38
-          → isFragment p ≡ true
+      by : (t : Bool) → isFragment p ≡ t → firstCause ((t ⇒ 38) ∷ []) (onward4 p) ≡ refused 38 → isFragment p ≡ true
       by true f e = f
       by false f e = absurd (true-not-false (sym (part-by V4 _ _ _ 38 e)))
 
