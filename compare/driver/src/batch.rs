@@ -1,7 +1,7 @@
 //! Our batch calls against single calls in a loop, the Rust's and ours: the packets of a plan, all or
 //! none, and lists of returns. The Rust has no batch calls.
 
-use crate::compared::{as_the_rust_tells, compared, leave_out, told_apart, Answer};
+use crate::compared::{as_the_rust_tells, require_unfilled, stand_in, told_apart, Answer};
 use crate::numbers::*;
 use crate::observer::{any_call, any_contents, any_rows, malformed_sheet, time_near, Call, Pair};
 use crate::ours_traffic::RunSheet;
@@ -38,6 +38,7 @@ pub fn batches(seed: u64, rounds: u64) -> Part {
         pair.reports(&mut part, &mut random);
     }
     seen.require(&mut part, answers(&[READING, PLANNING, OBSERVING]));
+    require_unfilled(&mut part);
     part
 }
 
@@ -223,18 +224,18 @@ impl Due {
         }
     }
 
-    /// Each return is taken or refused by its own number.
-    fn of(random: &mut Random, returns: &Returns, mut number: impl FnMut(usize) -> u8) -> Self {
+    /// Each return is taken or refused by its own number, and has a sequence, or 0, if it is not read.
+    fn of(
+        random: &mut Random,
+        returns: &Returns,
+        mut take: impl FnMut(u64, &[u8]) -> (u8, u64),
+    ) -> Self {
         let mut due = Self::left(random, returns.len());
         let columns = due.returned.len().min(due.numbers.len());
         due.returns = returns.len().min(columns);
         due.number = 0;
-        for (k, (_, tpdu)) in returns.iter().take(due.returns).enumerate() {
-            due.numbers[k] = number(k);
-            due.returned[k] = match compared(tpdu) {
-                true => decode(tpdu).map_or(0, |probe| probe.sequence),
-                false => 0,
-            };
+        for (k, (time, tpdu)) in returns.iter().take(due.returns).enumerate() {
+            (due.numbers[k], due.returned[k]) = take(*time, tpdu);
         }
         due
     }
@@ -272,15 +273,17 @@ impl Due {
     }
 }
 
-/// Takes a list of returns on both sides. The Rust is not given those that are not compared: ours has
-/// to refuse them, and to go on with the sheet as it was.
+/// Takes a list of returns on both sides. The Rust is not given those that ours has to refuse without
+/// it: the sheet goes on as it was.
 fn take(part: &mut Part, seen: &mut Seen, random: &mut Random, pair: &mut Pair, rows: usize) {
     let returns = any_returns(random, &pair.contents, rows);
-    let due = Due::of(random, &returns, |k| {
-        let (time, tpdu) = returns[k].clone();
-        match compared(&tpdu) {
-            true => pair.due_answer(&Call::Tpdu { time, tpdu }).number,
-            false => leave_out(part, &tpdu),
+    let due = Due::of(random, &returns, |time, tpdu| match stand_in(part, tpdu) {
+        Err(number) => (number, 0),
+        Ok(tpdu) => {
+            let sequence = decode(&tpdu).map_or(0, |probe| probe.sequence);
+            let tpdu = tpdu.into_owned();
+            let taken = pair.due_answer(&Call::Tpdu { time, tpdu });
+            (taken.number, sequence)
         }
     });
     let sheet = pair.due();

@@ -1,18 +1,26 @@
 //! Which T-PDUs are compared with the Rust, and as which number each of ours is compared: for the
 //! driver what crates/rust_reference/specs/Compared.antt is for the claims. A change that makes the
 //! readers differ is stated here and there, and nowhere else. Where the Rust has one error for two
-//! numbers of ours, this file also says which of the two is due.
+//! numbers of ours, this file also says which of the two is due; and what is due of a T-PDU that is not
+//! compared.
+
+use std::borrow::Cow;
 
 use crate::numbers::{
-    INVALID_IPV4_HEADER_CHECKSUM, INVALID_IPV4_IHL, IPV4_FRAGMENT, TRUNCATED_IPV4_UDP_PACKET,
-    TRUNCATED_IP_HEADER,
+    INVALID_IPV4_HEADER_CHECKSUM, INVALID_IPV4_IHL, INVALID_IPV6_PAYLOAD_LENGTH,
+    INVALID_UDP_LENGTH, IPV4_FRAGMENT, MEASUREMENT_MAGIC_MISMATCH, READING_IPV4, READING_IPV6,
+    TRUNCATED_IPV4_UDP_PACKET, TRUNCATED_IP_HEADER,
 };
 use crate::ours::{Values, Written};
 use crate::ours_reflector::{Handled, Registered};
 use crate::ours_traffic::Noted;
-use crate::packet::{ipv4_ihl, is_ipv4_fragment};
+use crate::packet::{
+    ipv4_ihl, is_ipv4_fragment, part_range, set_lengths, sum_header_again, udp_length, version,
+    UDP_HEADER,
+};
 use crate::part::Part;
-use crate::rust_side::measurement::decode;
+use crate::rfc;
+use crate::rust_side::measurement::{build, decode};
 use crate::rust_side::Outcome;
 
 /// `asTheRustTells`: a number of ours, as the Rust tells refusals apart. 39 is compared as 4, since the
@@ -33,11 +41,36 @@ pub fn told_apart(tpdu: &[u8], rust: u8) -> u8 {
     }
 }
 
+/// Why a T-PDU is not compared.
+#[derive(PartialEq, Eq)]
+enum LeftOut {
+    /// It is an IPv4 fragment (document 02, job 1).
+    Fragment,
+    /// No cause before 10 refuses it, and its UDP length is not the length of its part (job 6).
+    Unfilled,
+}
+
 /// `Compared`: whether a T-PDU is compared. Every one is, whatever its bytes and its length, but for
-/// IPv4 fragments (document 02, job 1). It is asked where a T-PDU is read: by the reader and the echo,
-/// in a return, and in a G-PDU that is echoed.
+/// these two. It is asked where a T-PDU is read: by the reader and the echo, in a return, and in a G-PDU
+/// that is echoed.
 pub fn compared(tpdu: &[u8]) -> bool {
-    !is_ipv4_fragment(tpdu)
+    left_out(tpdu).is_none()
+}
+
+fn left_out(tpdu: &[u8]) -> Option<LeftOut> {
+    if is_ipv4_fragment(tpdu) {
+        Some(LeftOut::Fragment)
+    } else if udp_length(tpdu) != part_range(tpdu).len() && !is_refused_before_udp(tpdu) {
+        Some(LeftOut::Unfilled)
+    } else {
+        None
+    }
+}
+
+/// Both sides judge 1 to 9 before all else, on the same bytes.
+fn is_refused_before_udp(tpdu: &[u8]) -> bool {
+    let judged_before = TRUNCATED_IP_HEADER..=INVALID_IPV6_PAYLOAD_LENGTH;
+    decode(tpdu).is_err_and(|number| judged_before.contains(&number))
 }
 
 /// The number of a cause that the Rust does not judge and that the card does not mark as added: what
@@ -53,18 +86,57 @@ fn due_of_a_fragment(rust: u8) -> u8 {
     }
 }
 
-/// What is due of ours where the Rust answers a T-PDU by this call.
-pub fn due<T>(part: &mut Part, tpdu: &[u8], rust: fn(&[u8]) -> Outcome<T>) -> Outcome<T> {
-    match compared(tpdu) {
-        true => rust(tpdu),
-        false => Err(leave_out(part, tpdu)),
+/// What the Rust is given in the place of a T-PDU: the T-PDU, if it is compared; and if it is not, but
+/// ours has to read it, the built packet with the same probe. Otherwise the number by which ours has to
+/// refuse it. Those that are not compared are counted.
+pub fn stand_in<'a>(part: &mut Part, tpdu: &'a [u8]) -> Outcome<Cow<'a, [u8]>> {
+    match left_out(tpdu) {
+        None => Ok(Cow::Borrowed(tpdu)),
+        Some(LeftOut::Fragment) => {
+            part.leave_out_fragment();
+            Err(due_of_a_fragment(decode(tpdu).err().unwrap_or(0)))
+        }
+        Some(LeftOut::Unfilled) => {
+            let read = rfc::read(tpdu);
+            part.leave_out_unfilled(version(tpdu), read.err().unwrap_or(0));
+            read.map(|probe| Cow::Owned(build(probe)))
+        }
     }
 }
 
-/// Counts a T-PDU that is not compared: the number by which ours has to refuse it.
-pub fn leave_out(part: &mut Part, tpdu: &[u8]) -> u8 {
-    part.leave_out();
-    due_of_a_fragment(decode(tpdu).err().unwrap_or(0))
+/// What is due of ours where the Rust answers a T-PDU by this call.
+pub fn due<T>(part: &mut Part, tpdu: &[u8], rust: fn(&[u8]) -> Outcome<T>) -> Outcome<T> {
+    rust(&stand_in(part, tpdu)?)
+}
+
+/// An unfilled T-PDU without the bytes of its part that lie behind the UDP length, the IP header made
+/// right: it is compared, and ours has to answer the same to both. None if there are no such bytes.
+pub fn without_padding(tpdu: &[u8]) -> Option<Vec<u8>> {
+    let (part, udp_length) = (part_range(tpdu), udp_length(tpdu));
+    let is_padded = (UDP_HEADER..part.len()).contains(&udp_length);
+    if !is_padded || left_out(tpdu) != Some(LeftOut::Unfilled) {
+        return None;
+    }
+    let mut bare = tpdu.to_vec();
+    bare.drain(part.start + udp_length..part.end);
+    set_lengths(&mut bare, udp_length - UDP_HEADER, 0);
+    sum_header_again(&mut bare);
+    Some(bare)
+}
+
+/// The part fails unless each outcome that an unfilled T-PDU can have was due in it, in both versions.
+pub fn require_unfilled(part: &mut Part) {
+    let judged_on_udp = INVALID_UDP_LENGTH..=MEASUREMENT_MAGIC_MISMATCH;
+    let mut outcomes = Vec::new();
+    for (version, numbers) in [(4, READING_IPV4), (6, READING_IPV6)] {
+        outcomes.push((version, 0));
+        let numbers = numbers
+            .iter()
+            .filter(|number| judged_on_udp.contains(number));
+        outcomes.extend(numbers.map(|&number| (version, number)));
+    }
+    outcomes.sort();
+    part.case(&[], part.unfilled_outcomes(), outcomes);
 }
 
 /// An answer, which has a number.

@@ -1,6 +1,7 @@
 //! The comparison of our library with the original Rust, one idea to a module. The binary
 //! `compare` (main.rs) runs its parts; `speed` (speed.rs) measures; `sample` (write_sample.rs)
-//! writes the Rust's answers for `crates/replay`.
+//! writes the Rust's answers for `crates/replay`; `padded` (write_padded.rs) writes padded packets and
+//! our answers for another judge.
 
 #![deny(unsafe_code)]
 
@@ -28,6 +29,7 @@ pub mod records;
 pub mod reflector;
 pub mod reflector_due;
 pub mod reflector_inputs;
+pub mod rfc;
 pub mod rust_side;
 pub mod sample;
 pub mod sample_reflector;

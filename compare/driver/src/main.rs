@@ -7,7 +7,7 @@
 use std::env;
 use std::process::ExitCode;
 
-use driver::part::{grouped, Part};
+use driver::part::{grouped, left_out, Part};
 use driver::{
     answers, batch, cases, checksum, gtpu, measurement, observer, reflector, tally, traffic,
 };
@@ -119,7 +119,8 @@ struct Total {
     parts: u64,
     cases: u64,
     differences: u64,
-    left_out: u64,
+    fragments: u64,
+    unfilled: u64,
     failed: u64,
 }
 
@@ -144,16 +145,17 @@ fn main() -> ExitCode {
         total.parts += 1;
         total.cases += part.cases();
         total.differences += part.differences();
-        total.left_out += part.left_out();
+        total.fragments += part.fragments();
+        total.unfilled += part.unfilled();
         total.failed += u64::from(part.failed());
     }
     println!(
-        "total: {} parts, {} failed; {} cases, {} differences, {} left out (seed {}, rounds {})",
+        "total: {} parts, {} failed; {} cases, {} differences{} (seed {}, rounds {})",
         total.parts,
         total.failed,
         grouped(total.cases),
         grouped(total.differences),
-        grouped(total.left_out),
+        left_out(total.fragments, total.unfilled),
         options.seed,
         options.rounds,
     );

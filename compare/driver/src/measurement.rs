@@ -5,7 +5,7 @@ use std::collections::BTreeMap;
 use std::net::SocketAddr;
 
 use crate::cases::{ipv4_probe, ipv6_probe};
-use crate::compared::{due, Answer};
+use crate::compared::{due, require_unfilled, without_padding, Answer};
 use crate::damage::{each_damage, excluded, turn, window_starts};
 use crate::numbers::{OUTPUT_TOO_SHORT, READING_EITHER, READING_IPV4, READING_IPV6};
 use crate::ours::{self, Values, Written};
@@ -51,7 +51,8 @@ pub fn building(seed: u64, rounds: u64) -> Part {
     part
 }
 
-/// Wild packets, read by both. Each cause of a refusal must have been met, in both versions.
+/// Wild packets, read by both. Each cause of a refusal must have been met, in both versions. Where a
+/// packet has padding, ours must answer what the Rust answers of it without the padding.
 pub fn reading(seed: u64, rounds: u64) -> Part {
     let mut part = Part::new("packets");
     let mut seen = BTreeMap::new();
@@ -59,9 +60,12 @@ pub fn reading(seed: u64, rounds: u64) -> Part {
         let answer = ours::decode(tpdu);
         *seen.entry(cause(tpdu, answer.0)).or_insert(0) += 1;
         let due = as_ours(due(&mut part, tpdu, decode)).due(tpdu);
-        part.case(tpdu, answer.told(), due);
+        let of_bare = without_padding(tpdu).map(|bare| as_ours(decode(&bare)));
+        let answers = (answer.told(), of_bare.map(|_| answer));
+        part.case(tpdu, answers, (due, of_bare));
     });
 
+    require_unfilled(&mut part);
     let mut causes = vec![(4, 0), (6, 0)];
     for (version, numbers) in [(0, READING_EITHER), (4, READING_IPV4), (6, READING_IPV6)] {
         causes.extend(numbers.iter().map(|&number| (version, number)));
@@ -76,6 +80,7 @@ pub fn reading(seed: u64, rounds: u64) -> Part {
 pub fn echoing(seed: u64, rounds: u64) -> Part {
     let mut part = Part::new("calls");
     each_wild(seed, rounds, |tpdu| echoes(&mut part, tpdu));
+    require_unfilled(&mut part);
     part
 }
 
@@ -210,8 +215,7 @@ fn echoes(part: &mut Part, tpdu: &[u8]) {
     writes(part, tpdu, due, |out| ours::echo(tpdu, out));
 }
 
-/// Both sides must read the damaged packet alike, if it is compared, and ours must refuse it or read
-/// the probe that was sent, whether it is compared or not.
+/// Ours must read the damaged packet as is due, and must refuse it or read the probe that was sent.
 fn survives(part: &mut Part, sent: Probe, damaged: &[u8]) {
     let answer = ours::decode(damaged);
     let is_read = answer.0 == 0;

@@ -6,23 +6,25 @@ use std::collections::BTreeMap;
 use testkit_open::evidence::PacketContinuityBudget;
 use testkit_open::traffic::GtpuReturnDatagramOutcome;
 
-use crate::compared::{compared, leave_out, Answer};
+use crate::compared::{require_unfilled, stand_in, Answer};
 use crate::gtpu::any_elements;
 use crate::numbers::*;
 use crate::ours_traffic::{Noted, Report, RunSheet};
-use crate::packet::{part_at, set_word, sum_again};
+use crate::packet::{part_at, protocol_at, set_lengths, set_word, sum_again, UDP_HEADER};
 use crate::part::Part;
 use crate::random::Random;
 use crate::rust_side::gtpu::Message;
 use crate::rust_side::measurement::{build, echo, Probe};
 use crate::rust_side::traffic::{Observer, Row, Sheet};
+use crate::rust_side::Outcome;
 use crate::seen::Seen;
 use crate::sheets::{capacity, difference, fresh, holding, questions, MOST_ROWS};
-use crate::wild::{any_probe, set_any_flags, set_any_ihl};
+use crate::wild::{any_covered, any_probe, padded_packet, set_any_flags, set_any_ihl, PROBE};
 
 const G_PDU: u8 = 255;
 
 /// One call on a run sheet.
+#[derive(Clone)]
 pub(crate) enum Call {
     Sent {
         sequence: u64,
@@ -54,6 +56,7 @@ pub fn runs(seed: u64, rounds: u64) -> Part {
         }
     }
     seen.require(&mut part, every_number());
+    require_unfilled(&mut part);
     part
 }
 
@@ -73,6 +76,7 @@ pub fn states(seed: u64, rounds: u64) -> Part {
         run(&mut part, &mut seen, &mut random, &mut pair, 20);
     }
     seen.require(&mut part, every_number());
+    require_unfilled(&mut part);
     part
 }
 
@@ -161,6 +165,21 @@ impl Call {
             } => Some(payload),
             _ => None,
         }
+    }
+
+    /// The call that the Rust is given in its place, or the number by which ours has to refuse it.
+    fn stand_in(&self, part: &mut Part) -> Outcome<Call> {
+        let mut call = self.clone();
+        if let Call::Tpdu { tpdu, .. }
+        | Call::Message {
+            message_type: G_PDU,
+            payload: tpdu,
+            ..
+        } = &mut call
+        {
+            *tpdu = stand_in(part, tpdu)?.into_owned();
+        }
+        Ok(call)
     }
 
     fn on_ours(&self, sheet: &mut RunSheet) -> Noted {
@@ -294,32 +313,24 @@ impl Pair {
         due_answer
     }
 
-    /// Makes a call on both: the answers, the counts and every cell must be equal afterwards.
+    /// Makes a call on both: the answers, the counts and every cell must be equal afterwards. The Rust
+    /// is not given a T-PDU that ours has to refuse without it.
     fn call(&mut self, part: &mut Part, seen: &mut Seen, call: &Call) {
         let mut ours = self.ours.clone();
         let answer = call.on_ours(&mut ours);
         seen.add(answer.number);
-        if let Some(tpdu) = call.tpdu().filter(|tpdu| !compared(tpdu)) {
-            self.leaves_out(part, tpdu, answer, &ours);
-            return;
-        }
-        let due_answer = self.due_answer(call);
+        let due_answer = match call.stand_in(part) {
+            Ok(call) => self.due_answer(&call),
+            Err(number) => Noted {
+                number,
+                ..Noted::default()
+            },
+        };
         let due = self.due();
         let answer = (answer.told(), difference(&ours, &due));
         let due_answer = due_answer.due(call.tpdu().unwrap_or(&[]));
         part.case(call.input(), answer, (due_answer, None));
         self.ours = due;
-    }
-
-    /// A T-PDU that is not compared, which left our sheet like this: the Rust is not given it, and
-    /// both go on from where they were.
-    fn leaves_out(&self, part: &mut Part, tpdu: &[u8], answer: Noted, ours: &RunSheet) {
-        let answer = (answer.told(), difference(ours, &self.ours));
-        let due = Noted {
-            number: leave_out(part, tpdu),
-            ..Noted::default()
-        };
-        part.case(tpdu, answer, (due.due(tpdu), None));
     }
 
     /// Reports, and the verdict on each: judged by the figures of a report that was made for another
@@ -430,11 +441,12 @@ pub(crate) fn any_call(random: &mut Random, rows: &[Row], base: u64, capacity: u
                 1 => probe.sequence = near_sequence(random, known),
                 _ => probe.sequence = known,
             }
-            let mut tpdu = build(probe);
-            if random.below(4) == 0 {
-                tpdu = echo(&tpdu).expect("a built T-PDU is echoed");
-            }
-            if random.below(4) == 0 {
+            let mut tpdu = match random.below(8) {
+                0 | 1 => echo(&build(probe)).expect("a built T-PDU is echoed"),
+                2 | 3 => padded_packet(random, probe),
+                _ => build(probe),
+            };
+            if random.below(3) == 0 {
                 spoil_tpdu(random, &mut tpdu);
             }
             let time = time_near(random, row.map_or(0, |row| row.send_timestamp_ns));
@@ -482,12 +494,10 @@ pub(crate) fn time_near(random: &mut Random, time: u64) -> u64 {
 /// Cuts a T-PDU or changes a byte or a field; then may make the checksums right.
 fn spoil_tpdu(random: &mut Random, tpdu: &mut Vec<u8>) {
     let at = part_at(tpdu);
-    match random.below(7) {
-        0 => tpdu.truncate(random.below(tpdu.len())),
-        1 => {
-            let place = random.below(tpdu.len());
-            tpdu[place] = random.number() as u8;
-        }
+    let near = tpdu.len().min(at + UDP_HEADER + PROBE);
+    match random.below(9) {
+        0 => tpdu.truncate(random.below(near)),
+        1 => tpdu[random.below(near)] = random.number() as u8,
         2 => {
             let lengths = [0, 7, 8, 31, 32, 33, 0xffff];
             set_word(tpdu, at + 4, lengths[random.below(lengths.len())]);
@@ -495,10 +505,16 @@ fn spoil_tpdu(random: &mut Random, tpdu: &mut Vec<u8>) {
         3 => set_any_ihl(random, tpdu),
         4 => set_any_flags(random, tpdu),
         5 => set_word(tpdu, at + 6, 0),
+        6 => set_lengths(tpdu, random.below(PROBE), 0),
+        7 => {
+            let place = protocol_at(tpdu);
+            tpdu[place] = random.any_u8();
+        }
         _ => set_word(tpdu, 2 * random.below(at / 2 + 8), 0),
     }
     if random.below(2) == 0 {
-        sum_again(tpdu);
+        let covered = any_covered(random);
+        sum_again(tpdu, covered);
     }
 }
 

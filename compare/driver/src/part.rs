@@ -1,5 +1,6 @@
 //! One part of the comparison: how many cases it had, and where the two sides differed.
 
+use std::collections::BTreeMap;
 use std::fmt;
 
 /// As much of a differing input as is printed, in bytes.
@@ -10,8 +11,11 @@ pub struct Part {
     unit: &'static str,
     cases: u64,
     differences: u64,
-    /// How many T-PDUs were not compared with the Rust.
-    left_out: u64,
+    /// How many IPv4 fragments were not compared with the Rust.
+    fragments: u64,
+    /// How often each outcome was due of T-PDUs that were not compared since their UDP length does not
+    /// fill their part: the IP version and a number, or 0.
+    unfilled: BTreeMap<(u8, u8), u64>,
     /// What else is to be printed.
     note: String,
     /// Of all differences the one with the shortest input, the first of several: its length
@@ -25,7 +29,8 @@ impl Part {
             unit,
             cases: 0,
             differences: 0,
-            left_out: 0,
+            fragments: 0,
+            unfilled: BTreeMap::new(),
             note: String::new(),
             shortest: None,
         }
@@ -48,9 +53,14 @@ impl Part {
         }
     }
 
-    /// Counts a T-PDU that is not compared with the Rust (compared.rs).
-    pub fn leave_out(&mut self) {
-        self.left_out += 1;
+    /// Counts an IPv4 fragment, which is not compared with the Rust (compared.rs).
+    pub fn leave_out_fragment(&mut self) {
+        self.fragments += 1;
+    }
+
+    /// Counts a T-PDU whose UDP length does not fill its part, and which is not compared either.
+    pub fn leave_out_unfilled(&mut self, version: u8, number: u8) {
+        *self.unfilled.entry((version, number)).or_insert(0) += 1;
     }
 
     /// Prints this below the part's line.
@@ -66,8 +76,17 @@ impl Part {
         self.differences
     }
 
-    pub fn left_out(&self) -> u64 {
-        self.left_out
+    pub fn fragments(&self) -> u64 {
+        self.fragments
+    }
+
+    pub fn unfilled(&self) -> u64 {
+        self.unfilled.values().sum()
+    }
+
+    /// What was due of unfilled T-PDUs, each IP version and number once.
+    pub fn unfilled_outcomes(&self) -> Vec<(u8, u8)> {
+        self.unfilled.keys().copied().collect()
     }
 
     /// Whether the sides differed. A part with no case at all shows nothing, so it fails too.
@@ -80,11 +99,15 @@ impl fmt::Display for Part {
     fn fmt(&self, f: &mut fmt::Formatter<'_>) -> fmt::Result {
         let (cases, differences) = (grouped(self.cases), grouped(self.differences));
         write!(f, "{cases} {}, {differences} differences", self.unit)?;
-        if self.left_out > 0 {
-            write!(f, ", {} left out", grouped(self.left_out))?;
-        }
+        f.write_str(&left_out(self.fragments, self.unfilled()))?;
         if !self.note.is_empty() {
             write!(f, "\n  {}", self.note)?;
+        }
+        if !self.unfilled.is_empty() {
+            let counts = self.unfilled.iter().map(|((version, number), &count)| {
+                format!("IPv{version} {number}: {}", grouped(count))
+            });
+            write!(f, "\n  unfilled: {}", counts.collect::<Vec<_>>().join(", "))?;
         }
         if let Some((_, text)) = &self.shortest {
             write!(f, "\n  FAILED: {text}")?;
@@ -92,6 +115,18 @@ impl fmt::Display for Part {
             write!(f, "\n  FAILED: nothing was compared")?;
         }
         Ok(())
+    }
+}
+
+/// How many T-PDUs were not compared with the Rust, if any were not.
+pub fn left_out(fragments: u64, unfilled: u64) -> String {
+    match (fragments, unfilled) {
+        (0, 0) => String::new(),
+        _ => format!(
+            ", left out: {} fragments, {} unfilled",
+            grouped(fragments),
+            grouped(unfilled)
+        ),
     }
 }
 

@@ -4,13 +4,13 @@
 
 use testkit_open::reflector::{OpenReflector, ReflectorPolicy};
 
-use crate::compared::{compared, leave_out, Answer};
+use crate::compared::{require_unfilled, stand_in, Answer};
 use crate::numbers::*;
 use crate::ours_reflector::{
     Address, Reflector, Registered, Removed, Session, State, LOCAL_TEID_AT, PEER_TEID_AT, PORT_AT,
     SESSION_BYTES, VERSION_AT,
 };
-use crate::packet::{part_at, set_word, sum_again};
+use crate::packet::{part_at, set_word, sum_again, Covered};
 use crate::part::Part;
 use crate::random::Random;
 use crate::reflector_due::{
@@ -22,9 +22,10 @@ use crate::reflector_inputs::{
 };
 use crate::rust_side::gtpu::Message;
 use crate::rust_side::measurement::build;
-use crate::rust_side::reflector::Reflector as Rust;
+use crate::rust_side::reflector::{Action, Reflector as Rust};
+use crate::rust_side::Outcome;
 use crate::seen::Seen;
-use crate::wild::{any_probe, any_probe_of};
+use crate::wild::{any_probe, any_probe_of, padded_packet};
 
 /// The least output.
 pub const LEAST_OUTPUT: usize = 72;
@@ -90,6 +91,7 @@ pub fn runs(seed: u64, rounds: u64) -> Part {
             each_type(&mut run, &mut pair);
         }
     }
+    require_unfilled(&mut run.part);
     run.done(answers(&[READING, REGISTERING, HANDLING]))
 }
 
@@ -446,13 +448,31 @@ impl Pair {
         is_echo && message.message_type == G_PDU && self.place_of(message.teid).is_some()
     }
 
-    fn handles(&mut self, run: &mut Comparison, source: Address, message: &Message) {
-        if self.reads(message) && !compared(&message.payload) {
-            self.leaves_out(run, source, message);
-            return;
+    /// What is due where the Rust answers a message. Where ours has to refuse a T-PDU without it, the
+    /// Rust is given no bytes, which it refuses, so that its state is that after a refusal.
+    fn due_answer(
+        &mut self,
+        part: &mut Part,
+        source: Address,
+        message: &Message,
+    ) -> Outcome<Action> {
+        let source = socket_addr(source);
+        if !self.reads(message) {
+            return self.rust.handle_datagram(source, message);
         }
+        let stand_in = stand_in(part, &message.payload);
+        let payload = stand_in.as_deref().unwrap_or_default().to_vec();
+        let given = Message {
+            payload,
+            ..*message
+        };
+        let answer = self.rust.handle_datagram(source, &given);
+        stand_in.and(answer)
+    }
+
+    fn handles(&mut self, run: &mut Comparison, source: Address, message: &Message) {
         let rows = self.ours.sessions.clone();
-        let answer = self.rust.handle_datagram(socket_addr(source), message);
+        let answer = self.due_answer(&mut run.part, source, message);
         let state = our_state(&self.rust.state());
         let room = LEAST_OUTPUT + run.random.below(9);
         let mut expected = vec![DIRT; room];
@@ -468,27 +488,6 @@ impl Pair {
         let due = (due.due(&message.payload), expected, None);
         run.part.case(&message.payload, answer, due);
         self.go_on(rows, self.ours.used);
-    }
-
-    /// A message whose payload is read and is not compared: the Rust is not given it, and ours goes
-    /// back to where it was. Of a refusal, only the received count is left.
-    fn leaves_out(&mut self, run: &mut Comparison, source: Address, message: &Message) {
-        let before = self.ours.clone();
-        let mut out = vec![DIRT; LEAST_OUTPUT];
-        let header = any_header(&mut run.random, message);
-        let ours = &mut self.ours;
-        let answer = ours.handle_datagram(source, header, &message.payload, &mut out);
-        run.seen.add(answer.number);
-        let number = leave_out(&mut run.part, &message.payload);
-        let mut due = before.clone();
-        let received = &mut due.state.stats.gpdu_received;
-        *received = received.saturating_add(1);
-        let answer = (answer.told(), out, &self.ours);
-        let refused = not_sent(number, 0, 0, due.state).due(&message.payload);
-        let untouched = vec![DIRT; LEAST_OUTPUT];
-        run.part
-            .case(&message.payload, answer, (refused, untouched, &due));
-        self.ours = before;
     }
 
     /// A G-PDU with a built packet.
@@ -573,26 +572,29 @@ fn each_type(run: &mut Comparison, pair: &mut Pair) {
 }
 
 /// Packets for the one session of an echo, of both versions: cut at every length, with every bit
-/// turned, the checksums made right and not, and with a short UDP length and a UDP checksum of 0.
+/// turned, the checksums made right and not, with a short UDP length and a UDP checksum of 0, and
+/// padded.
 fn each_damage(run: &mut Comparison) {
     let mut pair = Pair::new(&mut run.random, 1, ECHO);
     let known = pair.registers_one(run, 4);
     for version in [4, 6] {
-        let packet = build(any_probe_of(&mut run.random, version));
+        let probe = any_probe_of(&mut run.random, version);
+        let packet = build(probe);
         let mut payloads: Vec<Vec<u8>> = (0..=packet.len()).map(|n| packet[..n].to_vec()).collect();
         for bit in 0..8 * packet.len() {
             let mut damaged = packet.clone();
             damaged[bit / 8] ^= 1 << (bit % 8);
             payloads.push(damaged.clone());
-            sum_again(&mut damaged);
+            sum_again(&mut damaged, Covered::Segment);
             payloads.push(damaged);
         }
         for (at, value) in [(4, 31), (6, 0)] {
             let mut damaged = packet.clone();
             set_word(&mut damaged, part_at(&packet) + at, value);
-            sum_again(&mut damaged);
+            sum_again(&mut damaged, Covered::Segment);
             payloads.push(damaged);
         }
+        payloads.extend((0..128).map(|_| padded_packet(&mut run.random, probe)));
         for payload in payloads {
             let message = Message {
                 message_type: G_PDU,

@@ -9,7 +9,7 @@ use crate::ours_reflector::{
 use crate::random::Random;
 use crate::rust_side::gtpu::Message;
 use crate::rust_side::measurement::build;
-use crate::wild::{any_packet, any_probe};
+use crate::wild::{any_packet, any_probe, padded_packet};
 
 pub const G_PDU: u8 = 255;
 pub const ECHO_REQUEST: u8 = 1;
@@ -140,18 +140,20 @@ pub fn any_teid(random: &mut Random, used: &[Session]) -> (u32, Option<usize>) {
     }
 }
 
-/// A message of a type that is answered or of any, its payload a packet, a damaged one, or none.
-/// An Echo Request has TEID 0 every second time.
+/// A message of a type that is answered or of any, its payload a packet, a padded or damaged one, or
+/// none. An Echo Request has TEID 0 every second time.
 pub fn any_message(random: &mut Random, used: &[Session]) -> Message {
     let message_type = match random.below(8) {
         0..5 => G_PDU,
         5 | 6 => ECHO_REQUEST,
         _ => [2, 26, 31, 254, random.any_u8()][random.below(5)],
     };
+    let probe = any_probe(random);
     let mut payload = match random.below(8) {
         0 => Vec::new(),
         1 | 2 => any_packet(random),
-        _ => build(any_probe(random)),
+        3 => padded_packet(random, probe),
+        _ => build(probe),
     };
     payload.truncate(MOST_PAYLOAD);
     if random.below(4) == 0 && !payload.is_empty() {

@@ -271,7 +271,7 @@ fn list(part: &mut Part, random: &mut Random, met: &mut Met, packets: &[(u64, u6
     }
 }
 
-/// Whether the reader has to refuse these bytes: the Rust's does, or they are a fragment.
+/// Whether the reader has to refuse these bytes, whether they are compared or not.
 fn is_refused(part: &mut Part, arrived: &[u8]) -> bool {
     due(part, arrived, decode).is_err()
 }

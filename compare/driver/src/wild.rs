@@ -3,15 +3,15 @@
 
 use crate::lists::each_list;
 use crate::packet::{
-    length_at, part_at, set_word, sum_again, version, DONT_FRAGMENT, IPV4_FLAGS_AT, MORE_FRAGMENTS,
-    RESERVED,
+    length_at, part_at, set_lengths, set_word, sum_again, version, Covered, DONT_FRAGMENT,
+    IPV4_FLAGS_AT, MORE_FRAGMENTS, RESERVED, UDP_HEADER,
 };
 use crate::random::Random;
 use crate::rust_side::measurement::{build, Flow, Probe};
 
-/// The length of the UDP part that a builder makes, and of the UDP header in it.
-const UDP_LENGTH: usize = 32;
-const UDP_HEADER: usize = 8;
+/// The length of a probe, and of the UDP part that a builder makes of it.
+pub const PROBE: usize = 24;
+const UDP_LENGTH: usize = UDP_HEADER + PROBE;
 
 /// More bytes than the longest IPv4 header and a UDP header have.
 const FEW: usize = 72;
@@ -20,18 +20,23 @@ const FEW: usize = 72;
 const MOST: usize = 65_535;
 
 /// What a right packet may have that a built one does not have.
-#[derive(Default)]
-struct Extra {
+pub struct Extra {
     /// IPv4 options, in words of 4 bytes.
-    options: usize,
-    /// Bytes of the UDP payload past the probe.
-    payload: usize,
+    pub options: usize,
+    /// The length of the UDP payload. It starts with the probe, or with as much of it as there is room
+    /// for.
+    pub payload: usize,
+    /// Bytes behind the UDP payload, within the length that the IP header gives. They start with what
+    /// the payload has no room for.
+    pub padding: usize,
     /// Bytes past the length that the IP header gives.
-    padding: usize,
+    pub behind: usize,
     /// A UDP checksum of 0.
-    unsummed: bool,
+    pub unsummed: bool,
+    /// What any other UDP checksum is right over.
+    pub covered: Covered,
     /// Of an IPv4 packet, More Fragments and a fragment offset.
-    fragment: u16,
+    pub fragment: u16,
 }
 
 /// Calls `each` with every list of up to 2 bytes; with every first byte before every number of bytes
@@ -93,48 +98,68 @@ pub fn any_probe_of(random: &mut Random, version: u8) -> Probe {
 }
 
 /// Built packets of both versions, and packets with the shortest and the longest options, with
-/// odd payload and padding, and with a UDP checksum of 0; a first fragment and a last one.
+/// odd payload and bytes behind, and with a UDP checksum of 0; a first fragment and a last one. Padded
+/// ones: odd payload and one byte, even payload and two, a UDP checksum of 0, and a payload that has no
+/// room for a probe where the part has.
 fn some_packets(random: &mut Random) -> Vec<Vec<u8>> {
     let extras = [
-        (4, 0, 0, 0, false, 0),
-        (4, 1, 3, 2, false, 0),
-        (4, 10, 0, 0, false, 0),
-        (4, 0, 1, 1, true, 0),
-        (4, 0, 0, 0, false, MORE_FRAGMENTS),
-        (4, 1, 3, 2, false, 1),
-        (6, 0, 0, 0, false, 0),
-        (6, 0, 3, 2, false, 0),
-        (6, 0, 1, 1, true, 0),
+        (4, 0, 24, 0, 0, false, 0),
+        (4, 1, 27, 0, 2, false, 0),
+        (4, 10, 24, 0, 0, false, 0),
+        (4, 0, 25, 0, 1, true, 0),
+        (4, 0, 24, 0, 0, false, MORE_FRAGMENTS),
+        (4, 1, 27, 0, 2, false, 1),
+        (4, 0, 25, 1, 0, false, 0),
+        (4, 1, 24, 2, 3, false, 0),
+        (4, 0, 26, 3, 0, true, 0),
+        (4, 0, 0, 24, 0, false, 0),
+        (6, 0, 24, 0, 0, false, 0),
+        (6, 0, 27, 0, 2, false, 0),
+        (6, 0, 25, 0, 1, true, 0),
+        (6, 0, 25, 1, 0, false, 0),
+        (6, 0, 24, 2, 3, false, 0),
+        (6, 0, 26, 3, 0, true, 0),
+        (6, 0, 23, 5, 0, false, 0),
     ];
     extras
         .into_iter()
-        .map(|(version, options, payload, padding, unsummed, fragment)| {
-            let extra = Extra {
-                options,
-                payload,
-                padding,
-                unsummed,
-                fragment,
-            };
-            let probe = any_probe_of(random, version);
-            right_packet(random, probe, &extra)
-        })
+        .map(
+            |(version, options, payload, padding, behind, unsummed, fragment)| {
+                let extra = Extra {
+                    options,
+                    payload,
+                    padding,
+                    behind,
+                    unsummed,
+                    covered: Covered::Segment,
+                    fragment,
+                };
+                let probe = any_probe_of(random, version);
+                right_packet(random, probe, &extra)
+            },
+        )
         .collect()
 }
 
-/// Every value of every 16-bit word before the probe's sequence, the checksums made right.
+/// Every value of every 16-bit word before the probe's sequence, the checksums made right; every 16th
+/// also as the Rust has it.
 fn each_word(packet: &[u8], each: &mut impl FnMut(&[u8])) {
     for at in (0..part_at(packet) + UDP_HEADER + 8).step_by(2) {
         for value in 0..=0xffff {
             let mut changed = packet.to_vec();
             set_word(&mut changed, at, value);
-            sum_again(&mut changed);
+            sum_again(&mut changed, Covered::Segment);
             each(&changed);
+            if value % 16 == 0 {
+                sum_again(&mut changed, Covered::Part);
+                each(&changed);
+            }
         }
     }
 }
 
-/// Every length of the packet with every length of UDP, from 0 to beyond the packet's own.
+/// Every length of the packet with every length of UDP, from 0 to beyond the packet's own, the
+/// checksums made right as the RFCs have it and as the Rust has it.
 fn each_two_lengths(packet: &[u8], each: &mut impl FnMut(&[u8])) {
     let most = packet.len() as u16 + 2;
     for length in 0..=most {
@@ -142,39 +167,18 @@ fn each_two_lengths(packet: &[u8], each: &mut impl FnMut(&[u8])) {
             let mut changed = packet.to_vec();
             set_word(&mut changed, length_at(packet), length);
             set_word(&mut changed, part_at(packet) + 4, udp_length);
-            sum_again(&mut changed);
-            each(&changed);
+            for covered in [Covered::Segment, Covered::Part] {
+                sum_again(&mut changed, covered);
+                each(&changed);
+            }
         }
     }
 }
 
 /// A right packet with anything extra, changed in up to two ways.
 pub(crate) fn any_packet(random: &mut Random) -> Vec<u8> {
-    let version = [4, 6][random.below(2)];
-    let options = match version {
-        4 => random.below(11),
-        _ => 0,
-    };
-    let most = match version {
-        4 => MOST - 20 - 4 * options - UDP_LENGTH,
-        _ => MOST - UDP_LENGTH,
-    };
-    let extra = Extra {
-        options,
-        payload: match random.below(16) {
-            0 => most,
-            1..8 => 0,
-            _ => random.length(most),
-        },
-        padding: match random.below(16) {
-            0 => random.length(70_000),
-            1..8 => 0,
-            _ => random.length(100),
-        },
-        unsummed: random.below(8) == 0,
-        fragment: 0,
-    };
-    let probe = any_probe_of(random, version);
+    let probe = any_probe(random);
+    let extra = any_extra(random, &probe);
     let mut packet = right_packet(random, probe, &extra);
     for _ in 0..random.below(3) {
         change(random, &mut packet);
@@ -182,38 +186,115 @@ pub(crate) fn any_packet(random: &mut Random) -> Vec<u8> {
     packet
 }
 
+/// Any options, payload, padding and bytes behind, their lengths of few digits as often as of many; now
+/// and then no UDP checksum.
+fn any_extra(random: &mut Random, probe: &Probe) -> Extra {
+    let (options, most) = match probe.flow.source.is_ipv4() {
+        true => {
+            let options = random.below(11);
+            (options, MOST - 20 - 4 * options - UDP_HEADER)
+        }
+        false => (0, MOST - UDP_HEADER),
+    };
+    let payload = match random.below(16) {
+        0 => most,
+        1 => random.below(PROBE),
+        2..8 => PROBE,
+        _ => PROBE + random.length(most - PROBE),
+    };
+    Extra {
+        options,
+        payload,
+        padding: match random.below(16) {
+            0 => most - payload,
+            1 => random.below(most - payload + 1),
+            2..6 => random.length(most - payload),
+            _ => 0,
+        },
+        behind: match random.below(16) {
+            0 => random.length(70_000),
+            1..8 => 0,
+            _ => random.length(100),
+        },
+        unsummed: random.below(8) == 0,
+        covered: any_covered(random),
+        fragment: 0,
+    }
+}
+
+/// As the RFCs have it, three times out of four.
+pub(crate) fn any_covered(random: &mut Random) -> Covered {
+    match random.below(4) {
+        0 => Covered::Part,
+        _ => Covered::Segment,
+    }
+}
+
+/// A packet with padding, which a GTP-U message has room for: most are read with this probe, and of the
+/// others some are refused by each number from 10 to 14.
+pub(crate) fn padded_packet(random: &mut Random, probe: Probe) -> Vec<u8> {
+    let way = random.below(10);
+    let payload = match way {
+        0 => random.below(PROBE),
+        _ => PROBE + random.length(MOST / 2),
+    };
+    let extra = Extra {
+        payload,
+        padding: 1 + random.length(MOST - FEW - payload),
+        behind: 0,
+        unsummed: way == 1,
+        covered: [Covered::Segment, Covered::Part][usize::from(way == 2)],
+        ..any_extra(random, &probe)
+    };
+    let mut packet = right_packet(random, probe, &extra);
+    let at = part_at(&packet);
+    match way {
+        3 => {
+            let past = packet.len() - at + 1;
+            let lengths = [random.below(UDP_HEADER), past, MOST];
+            set_word(&mut packet, at + 4, lengths[random.below(3)] as u16);
+        }
+        4 => {
+            let place = at + UDP_HEADER + random.below(8);
+            packet[place] = random.other_byte(packet[place]);
+            sum_again(&mut packet, Covered::Segment);
+        }
+        _ => {}
+    }
+    packet
+}
+
 /// The built packet with something extra, and with anything where the reader does not look.
-fn right_packet(random: &mut Random, probe: Probe, extra: &Extra) -> Vec<u8> {
+pub fn right_packet(random: &mut Random, probe: Probe, extra: &Extra) -> Vec<u8> {
     let built = build(probe);
     let (header, udp) = built.split_at(built.len() - UDP_LENGTH);
     let options = random.bytes(4 * extra.options);
-    let payload = random.bytes(extra.payload);
-    let mut packet = [header, &options, udp, &payload].concat();
+    let payload = random.bytes(extra.payload.saturating_sub(PROBE));
+    let padding = random.bytes(extra.padding);
+    let mut packet = [header, &options, udp, &payload, &padding].concat();
 
-    let length = match version(&packet) {
+    match version(&packet) {
         4 => {
             packet[0] += extra.options as u8;
             packet[1] = random.number() as u8;
             packet[4..9].copy_from_slice(&random.bytes(5));
             let flags = random.any_u16() & (RESERVED | DONT_FRAGMENT);
             set_word(&mut packet, IPV4_FLAGS_AT, flags | extra.fragment);
-            packet.len()
         }
         _ => {
             packet[0] |= random.below(16) as u8;
             packet[1..4].copy_from_slice(&random.bytes(3));
             packet[7] = random.number() as u8;
-            packet.len() - header.len()
         }
-    };
+    }
     let at = part_at(&packet);
-    set_word(&mut packet, length_at(header), length as u16);
-    set_word(&mut packet, at + 4, (UDP_LENGTH + extra.payload) as u16);
+    packet.truncate(at + UDP_HEADER + extra.payload + extra.padding);
+    set_lengths(&mut packet, extra.payload, extra.padding);
     if extra.unsummed {
         set_word(&mut packet, at + 6, 0);
     }
-    sum_again(&mut packet);
-    packet.extend(random.bytes(extra.padding));
+    sum_again(&mut packet, extra.covered);
+    packet.extend(random.bytes(extra.behind));
     packet
 }
 
@@ -269,6 +350,7 @@ fn change(random: &mut Random, packet: &mut Vec<u8>) {
         _ => set_word(packet, at + 6, 0),
     }
     if random.below(2) == 0 {
-        sum_again(packet);
+        let covered = any_covered(random);
+        sum_again(packet, covered);
     }
 }

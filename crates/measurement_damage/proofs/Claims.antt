@@ -48,9 +48,12 @@ echo-given : (b : List ℕ) (d : DecodedTpdu) → readOf b ≡ gives d → echoO
 unfolding echoOf
 echo-given b d e = rw (e, echoOf)
 
+-- what is read as a built packet is echoed as one
+pub echo-of-read : (f : InnerIpFlow) (s t : ℕ) (b : List ℕ) → readOf b ≡ gives (tpduBuilt f s t) → echoOf b ≡ gives (buildOf (reversedOf f) s t)
+echo-of-read f s t b e = echo-given b (tpduBuilt f s t) e ∙ ap gives (build-canonical (reversedOf f) s t)
+
 pub echo-is-reversed : EchoIsReversed
-echo-is-reversed f s t g behind =
-    echo-given (buildOf f s t ++ behind) (tpduBuilt f s t) (reads-back f s t g behind) ∙ ap gives (build-canonical (reversedOf f) s t)
+echo-is-reversed f s t g behind = echo-of-read f s t (buildOf f s t ++ behind) (reads-back f s t g behind)
 
 pub reversed-in-range : {f : InnerIpFlow} {s t : ℕ} → InRange f s t → InRange (reversedOf f) s t
 reversed-in-range g = record {

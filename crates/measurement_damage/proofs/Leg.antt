@@ -21,11 +21,11 @@ use Rattle.measurement.specs.declared.DecodedTpdu.{DecodedTpdu}
 use Rattle.measurement.specs.declared.IpVersion.{IpVersion}
 use Rattle.measurement.specs.declared.IpVersion.the-variants.{V4, V6}
 use Rattle.measurement_packet.specs.Packet.{ipv4, ipv4Header, ipv6, ipHeader, udp, udpSegment}
-use Rattle.measurement_reading.specs.Read.{payload, covered, readUdp, ihl, readOf}
+use Rattle.measurement_reading.specs.Read.{payload, readUdp, ihl, readOf}
 use Rattle.measurement_packet.proofs.Built.{packet, pseudo, packet-even, packet-bytes, segment-verifies, segment-checksum-not-0, segment-udp-length}
 use Rattle.measurement_reading.proofs.Accept.{part-accepted, Accepted4, Accepted6, accepted}
 use Rattle.measurement_damage.proofs.ReadBack.{tpdu, tpdu-is}
-use Rattle.measurement_damage.proofs.Damaged.{covered-sum, same-reading}
+use Rattle.measurement_damage.proofs.Damaged.{segment-sum, same-reading}
 
 -- a part that gives something has room for a header of 8 bytes and a probe of 24
 part-long : (v : IpVersion) (src dst u : List ℕ) (r : DecodedTpdu) → readUdp v src dst u ≡ gives r → 32 ≤ length u
@@ -69,15 +69,15 @@ module _ (S D : List ℕ) (sport dport s t : ℕ) (bS : Bytes S) (bD : Bytes D) 
   sent6 = packet V6 S D sport dport s t
 
   fold4 : foldOf (sumOf (drop 12 sent4) + 49) ≡ 65535
-  unfolding ipHeader ipv4 ipv4Header udp udpSegment probe measurementMagic addressLength covered
+  unfolding ipHeader ipv4 ipv4Header udp udpSegment probe measurementMagic addressLength
   fold4 =
-      ap foldOf (sym (covered-sum V4 (drop 12 sent4) refl refl))
+      ap foldOf (sym (segment-sum V4 (drop 12 sent4) refl refl))
       ∙ segment-verifies (pseudo V4 S D sport dport s t) (packet-even V4 S D sport dport s t) sport dport s t
 
   fold6 : foldOf (sumOf (drop 8 sent6) + 49) ≡ 65535
-  unfolding ipHeader ipv6 udp udpSegment probe measurementMagic addressLength covered
+  unfolding ipHeader ipv6 udp udpSegment probe measurementMagic addressLength
   fold6 =
-      ap foldOf (sym (covered-sum V6 (drop 8 sent6) refl refl))
+      ap foldOf (sym (segment-sum V6 (drop 8 sent6) refl refl))
       ∙ segment-verifies (pseudo V6 S D sport dport s t) (packet-even V6 S D sport dport s t) sport dport s t
 
   leg4 : Turned sent4 a → readOf a ≡ gives r → r ≡ tpdu V4 S D sport dport s t

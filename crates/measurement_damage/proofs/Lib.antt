@@ -4,3 +4,4 @@ pub mod Damaged
 pub mod Leg
 pub mod Claims
 pub mod Fragments
+pub mod Padding

@@ -22,11 +22,13 @@ use Rattle.measurement.specs.declared.IpVersion.{IpVersion}
 use Rattle.measurement.specs.declared.IpVersion.the-variants.{V4, V6}
 use Rattle.measurement_packet.specs.Packet.{ipv4, ipv4Header, ipv6, ipHeader, udp, udpSegment}
 use Rattle.measurement_damage.specs.Fragments.{packetWith}
-use Rattle.measurement_reading.specs.Read.{payload, lengthWrong, covered, sumWrong, probeCauses, tpduWith, tpduOf, readProbe, readUdp, ihl, isFragment, readIpv4, readOf}
+use Rattle.measurement_reading.specs.Read.{payload, lengthWrong, sumWrong, probeCauses, tpduWith, tpduOf, readProbe, readUdp, ihl, isFragment, readIpv4, readOf}
 use Rattle.measurement.proofs.Pseudo.{pseudo-even}
-use Rattle.measurement_packet.proofs.Built.{packet, segment-length, segment-verifies, segment-checksum-not-0}
-use Rattle.measurement_reading.proofs.Rows.{udp4-rows, udp4-past-10, udp4-past-12, udp6-rows, udp6-past-11, udp6-past-12, udp6-past-10}
+use Rattle.measurement_packet.proofs.Built.{packet, segment-length, segment-verifies, segment-checksum-not-0, segment-udp-length}
+use Rattle.measurement_reading.proofs.Rows.{udp-rows, past-10, past-11, past-12}
 use Rattle.measurement_reading.proofs.Rows.{LeftIpv4, fragmentBits, fragment-tested, row-38, past-38, rest-ipv4, read-as-ipv4}
+use Rattle.measurement_reading.proofs.Accept.{checksum-0}
+use Rattle.measurement_reading.proofs.Padding.{filled-sum}
 use Rattle.measurement_reading.proofs.Fragments.{left-38}
 use Rattle.measurement_reading.proofs.Rows.{ipv6-rows, past-8, past-6-ipv6, past-9, rest-ipv6, tpdu-rows, past-1, past-2-ipv6}
 
@@ -38,9 +40,7 @@ module _ (ph : List ℕ) (sport dport s t : ℕ) where
 
 -- a part that is right goes to the probe
 part-right : (v : IpVersion) (src dst u : List ℕ) → sumWrong v src dst u ≡ false → (field 2 6 u ≡ 0 → ⊥) → lengthWrong u ≡ false → readProbe v src dst u ≡ readUdp v src dst u
-part-right V4 src dst u sum set length = udp4-past-12 src dst u (udp4-past-10 src dst u (udp4-rows src dst u) length) sum
-part-right V6 src dst u sum set length =
-    udp6-past-10 src dst u (udp6-past-12 src dst u (udp6-past-11 src dst u (udp6-rows src dst u) set) sum) length
+part-right v src dst u sum set length = past-12 src dst u v (past-11 src dst u v (past-10 src dst u v (udp-rows src dst u v) length) set) sum
 
 -- what the segment gives, behind the pseudo-header of its addresses
 module _ (v : IpVersion) (src dst : List ℕ) (sport dport s t : ℕ) (h : length src ≡ addressLength v) (k : length dst ≡ addressLength v) where
@@ -58,11 +58,11 @@ module _ (v : IpVersion) (src dst : List ℕ) (sport dport s t : ℕ) (h : lengt
   probed = passes _ (past refl (past refl none))
 
   sum-is-right : sumWrong v src dst u ≡ false
-  unfolding sumWrong covered checksumOf
   sum-is-right =
-      equals (65535 - foldOf (sumOf (pseudoHeader v src dst (length u) ++ u))) 0
-      (ap (λ (n : ℕ). 65535 - foldOf (sumOf (pseudoHeader v src dst n ++ u))) (segment-length ph even sport dport s t)
-      ∙ ap (λ (n : ℕ). 65535 - n) (segment-verifies ph even sport dport s t))
+      let whole = segment-length ph even sport dport s t in
+      filled-sum v src dst u (segment-udp-length ph even sport dport s t ∙ sym whole)
+      ∙ ap (λ (n : ℕ). not (eqb (checksumOf (pseudoHeader v src dst n ++ u)) 0)) whole
+      ∙ equals (checksumOf (ph ++ u)) 0 (sym (checksum-0 (ph ++ u) (segment-verifies ph even sport dport s t)))
 
   part-gives : gives (tpduOf v src dst u) ≡ readUdp v src dst u
   part-gives = probed ∙ part-right v src dst u sum-is-right (segment-checksum-not-0 ph even sport dport s t) (length-is-right ph sport dport s t)
@@ -89,13 +89,13 @@ module _ (v : IpVersion) (S D : List ℕ) (sport dport s t : ℕ) where
       (value-big-endian 2 sport hs) (value-big-endian 2 dport hd)
       ∙ ap₂ (λ (a b : ℕ). tpduWith v source destination sport dport a b) (value-big-endian 8 s ss) (value-big-endian 8 t st)
 
-  part-of-packet : sport < 65536 → dport < 65536 → s < 2 ^ 64 → t < 2 ^ 64 → gives tpdu ≡ readUdp v source destination (udp pseudo sport dport s t)
+  pub part-of-packet : sport < 65536 → dport < 65536 → s < 2 ^ 64 → t < 2 ^ 64 → gives tpdu ≡ readUdp v source destination (udp pseudo sport dport s t)
   part-of-packet hs hd ss st =
       ap gives (sym (tpdu-is hs hd ss st))
       ∙ part-gives v source destination sport dport s t (length-bytesAt (addressLength v) 0 S) (length-bytesAt (addressLength v) 0 D)
 
 -- a header whose checksum was made right verifies
-placed : (p s : List ℕ) → length p % 2 ≡ 0 → let c : ℕ = checksumOf (p ++ (0 ∷ 0 ∷ s)) in Verifies (p ++ (c / 256 % 256 ∷ c / 1 % 256 ∷ s))
+pub placed : (p s : List ℕ) → length p % 2 ≡ 0 → let c : ℕ = checksumOf (p ++ (0 ∷ 0 ∷ s)) in Verifies (p ++ (c / 256 % 256 ∷ c / 1 % 256 ∷ s))
 placed p s h =
     let c = checksumOf (p ++ (0 ∷ 0 ∷ s)) in
     let low : c < 65536 = unfold checksumOf in omega arith in

@@ -1,6 +1,6 @@
 -- What is claimed of fragments where T-PDUs are built and echoed: document 02, job 1. proofs/Fragments.antt proves each
 -- claim.
-use Prim.Native.Nat.{ℕ, _%_, _<_}
+use Prim.Native.Nat.{ℕ, _+_, _%_, _<_}
 use mathlib.Core.Path.{_≡_}
 use mathlib.Core.List.{List, _++_}
 use lib.ListN.{take, drop}
@@ -16,17 +16,17 @@ use Rattle.measurement_reading.specs.Read.{readOf}
 use Rattle.measurement_damage.specs.Claims.{tpduBuilt}
 use Rattle.measurement_damage.specs.Echo.{echoOf}
 
--- An IPv4 header of 20 bytes with this word for its flags and fragment offset, and with its checksum made right: "For
+-- An IPv4 header of 20 bytes with this word at a place before its checksum, and with the checksum made right: "For
 -- purposes of computing the checksum, the value of the checksum field is zero."
-abbrev pub headerWith : ℕ → List ℕ → List ℕ
-headerWith word header =
-    let front : List ℕ = take 6 header ++ bigEndian 2 word ++ take 2 (drop 8 header) in
+abbrev pub headerWith : ℕ → ℕ → List ℕ → List ℕ
+headerWith at word header =
+    let front : List ℕ = take at header ++ bigEndian 2 word ++ drop (at + 2) (take 10 header) in
     let addresses : List ℕ = drop 12 header in
     front ++ bigEndian 2 (checksumOf (front ++ bigEndian 2 0 ++ addresses)) ++ addresses
 
--- A packet without options, with such a header.
+-- A packet without options, with this word for its flags and fragment offset.
 abbrev pub packetWith : ℕ → List ℕ → List ℕ
-packetWith word packet = headerWith word (take 20 packet) ++ drop 20 packet
+packetWith word packet = headerWith 6 word (take 20 packet) ++ drop 20 packet
 
 -- A built IPv4 packet with other flags or another fragment offset, whatever stands behind it in the buffer. RFC 791,
 -- section 3.1, from the most significant of the 16 bits on: the reserved bit, Don't Fragment, More Fragments, and the

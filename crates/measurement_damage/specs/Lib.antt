@@ -2,3 +2,4 @@
 pub mod Echo
 pub mod Claims
 pub mod Fragments
+pub mod Padding

@@ -1,8 +1,10 @@
-// What is proved of building, reading and echoing together (specs/Claims.antt, specs/Fragments.antt), on the contracts
-// of functions that do nothing. The echo is defined here; the call that echoes is in measurement_echo.
+// What is proved of building, reading and echoing together (specs/Claims.antt, specs/Fragments.antt,
+// specs/Padding.antt), on the contracts of functions that do nothing. The echo is defined here; the call that echoes is
+// in measurement_echo.
 ghost use Rattle.measurement_damage.specs.Claims.{ReadsBack, EchoIsReversed, EchoOfEcho};
 ghost use Rattle.measurement_damage.specs.Claims.{DamageFound, SentIsRead, LegsChained};
 ghost use Rattle.measurement_damage.specs.Fragments.{BuiltWithFlags, FragmentsNotEchoed};
+ghost use Rattle.measurement_damage.specs.Padding.{BuiltWithPadding, PaddingNotEchoed};
 
 // A built packet reads back to its flow, sequence and time.
 pub fn built_packet_reads_back()
@@ -33,4 +35,14 @@ pub fn flags_decide()
 // No fragment is echoed.
 pub fn fragments_are_not_echoed()
     ensures { λ _. ⌜ FragmentsNotEchoed ⌝ }
+{}
+
+// A built packet that was padded on its way is read and echoed as it was built.
+pub fn padded_packet_reads_back()
+    ensures { λ _. ⌜ BuiltWithPadding ⌝ }
+{}
+
+// Padding changes no echo.
+pub fn padding_is_not_echoed()
+    ensures { λ _. ⌜ PaddingNotEchoed ⌝ }
 {}

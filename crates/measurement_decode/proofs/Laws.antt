@@ -53,18 +53,20 @@ eight s at p0 p1 p2 p3 p4 p5 p6 p7 =
     place : (k m : ℕ) → at + k ≡ m → at + k ≡ m
     place k m e = e
 
--- the sum that is tested: of the addresses, the rest of the pseudo-header, and the part
-pub sum-tested : (v : IpVersion) (src dst u : List ℕ) {addresses s : ℕ} → Addresses v src dst addresses → length u < 65536
-    → s ≡ foldOf (addresses + 17 + length u + sumOf u) → not (eqb s 65535) ≡ sumWrong v src dst u
+-- the sum that is tested: of the addresses, the rest of the pseudo-header, and the segment, whose length is the UDP length n
+pub sum-tested : (v : IpVersion) (src dst u : List ℕ) {n addresses s : ℕ} → Addresses v src dst addresses → n ≡ field 2 4 u → n < 65536
+    → s ≡ foldOf (addresses + 17 + n + sumOf (take n u)) → not (eqb s 65535) ≡ sumWrong v src dst u
 unfolding sumWrong covered checksumOf
-sum-tested v src dst u {addresses} {s} a fits es =
-    let ph = pseudoHeader v src dst (length u) in
-    let even = pseudo-even v src dst (length u) (a .source) (a .destination) in
-    let rest = 17 + length u + sumOf u in
-    let last : addresses + 17 + length u + sumOf u ≡ rest + addresses = omega arith in
-    let whole : rest + (sumOf src + sumOf dst) ≡ sumOf (ph ++ u) = omega (arith, pseudo-sum v src dst (length u) (a .source) (a .destination) fits, sum-append ph u even) in
-    let e : s ≡ foldOf (sumOf (ph ++ u)) = es ∙ ap foldOf last ∙ a .folds rest ∙ ap foldOf whole in
-    ap (λ (n : ℕ). not (eqb n 65535)) e ∙ ap not (complement (foldOf (sumOf (ph ++ u))) (fold-low (sumOf (ph ++ u))))
+sum-tested v src dst u {n} {addresses} {s} a en fits es =
+    let ph = pseudoHeader v src dst n in
+    let segment = take n u in
+    let even = pseudo-even v src dst n (a .source) (a .destination) in
+    let rest = 17 + n + sumOf segment in
+    let last : addresses + 17 + n + sumOf segment ≡ rest + addresses = omega arith in
+    let whole : rest + (sumOf src + sumOf dst) ≡ sumOf (ph ++ segment) = omega (arith, pseudo-sum v src dst n (a .source) (a .destination) fits, sum-append ph segment even) in
+    let e : s ≡ foldOf (sumOf (ph ++ segment)) = es ∙ ap foldOf last ∙ a .folds rest ∙ ap foldOf whole in
+    ap (λ (n : ℕ). not (eqb n 65535)) e ∙ ap not (complement (foldOf (sumOf (ph ++ segment))) (fold-low (sumOf (ph ++ segment))))
+    ∙ ap (λ (n : ℕ). not (eqb (65535 - foldOf (sumOf (pseudoHeader v src dst n ++ take n u))) 0)) en
   where
     complement : (n : ℕ) → n < 65536 → eqb n 65535 ≡ eqb (65535 - n) 0
     complement n h = go (eqb n 65535) refl

@@ -97,16 +97,16 @@ fn ipv6_address_sum(address: &[u8]) -> u64
         + (field::double_word(address[12], address[13], address[14], address[15]) as u64)
 }
 
-// Whether the sum over the pseudo-header and the part is wrong. `addresses` folds to the same as the words of both
-// addresses.
+// Whether the sum over the pseudo-header and the segment is wrong, for a part whose UDP length is right. `addresses`
+// folds to the same as the words of both addresses. Padding behind the segment is not summed.
 fn sum_wrong(addresses: u64, udp: &[u8]) -> bool
-    requires { ⌜ (addresses < 2 ^ 35) × (length (now udp) < 65536) ⌝ }
+    requires { ⌜ (addresses < 2 ^ 35) × Part (now udp) × (lengthWrong (now udp) ≡ false) ⌝ }
     ensures { λ r. ⌜ ((v : IpVersion) (src dst : List ℕ) → Addresses v src dst addresses → r
         ≡ sumWrong v src dst (now (udp .entry))) ⌝ }
 {
-    let length = udp.len() as u64;
-    let pseudo = addresses + (measurement::UDP_PROTOCOL as u64) + length;
-    checksum::sum(pseudo, &udp[..]) != 65535
+    let length = read_u16(&udp[..], layout::UDP_LENGTH) as usize;
+    let pseudo = addresses + (measurement::UDP_PROTOCOL as u64) + (length as u64);
+    checksum::sum(pseudo, &udp[..length]) != 65535
 }
 
 // 13 and 14, for a part whose UDP length is right.
@@ -126,38 +126,31 @@ fn judge_probe(udp: &[u8]) -> u8
     0
 }
 
-// The part of an IPv4 packet that starts after its header.
-fn judge_ipv4_udp(addresses: u64, udp: &[u8]) -> u8
-    requires { ⌜ (addresses < 2 ^ 35) × Part (now udp) ⌝ }
-    ensures { λ r. ⌜ ((src dst : List ℕ) → Addresses V4 src dst addresses → r
-        ≡ outcomeNumber (readUdp V4 src dst (now (udp .entry)))) ⌝ }
+// A part without a checksum, whose UDP length is right: in IPv6 there has to be one.
+fn judge_unsummed(version: IpVersion, udp: &[u8]) -> u8
+    requires { ⌜ Part (now udp) × (lengthWrong (now udp) ≡ false) × (field 2 6 (now udp) ≡ 0) ⌝ }
+    ensures { λ r. ⌜ ((src dst : List ℕ) → r ≡ outcomeNumber (readUdp version src dst (now (udp .entry)))) ⌝ }
 {
-    if length_wrong(&udp[..]) {
-        return error::INVALID_UDP_LENGTH;
+    match version {
+        IpVersion::V4 => judge_probe(&udp[..]),
+        IpVersion::V6 => error::IPV6_UDP_CHECKSUM_IS_ZERO,
     }
-    if read_u16(&udp[..], layout::UDP_CHECKSUM) == 0 {
-        return judge_probe(&udp[..]);
-    }
-    if sum_wrong(addresses, &udp[..]) {
-        return error::INVALID_UDP_CHECKSUM;
-    }
-    judge_probe(&udp[..])
 }
 
-// The part of an IPv6 packet that starts after its header.
-fn judge_ipv6_udp(addresses: u64, udp: &[u8]) -> u8
+// The part that stands behind the IP header, of either version.
+fn judge_udp(version: IpVersion, addresses: u64, udp: &[u8]) -> u8
     requires { ⌜ (addresses < 2 ^ 35) × Part (now udp) ⌝ }
-    ensures { λ r. ⌜ ((src dst : List ℕ) → Addresses V6 src dst addresses → r
-        ≡ outcomeNumber (readUdp V6 src dst (now (udp .entry)))) ⌝ }
+    ensures { λ r. ⌜ ((src dst : List ℕ) → Addresses version src dst addresses → r
+        ≡ outcomeNumber (readUdp version src dst (now (udp .entry)))) ⌝ }
 {
+    if length_wrong(&udp[..]) {
+        return error::INVALID_UDP_LENGTH;
+    }
     if read_u16(&udp[..], layout::UDP_CHECKSUM) == 0 {
-        return error::IPV6_UDP_CHECKSUM_IS_ZERO;
+        return judge_unsummed(version, &udp[..]);
     }
     if sum_wrong(addresses, &udp[..]) {
         return error::INVALID_UDP_CHECKSUM;
-    }
-    if length_wrong(&udp[..]) {
-        return error::INVALID_UDP_LENGTH;
     }
     judge_probe(&udp[..])
 }
@@ -213,7 +206,7 @@ fn judge_ipv4(tpdu: &[u8]) -> u8
         &tpdu[layout::IPV4_SOURCE_ADDRESS..layout::IPV4_DESTINATION_ADDRESS],
     )
         + ipv4_address_sum(&tpdu[layout::IPV4_DESTINATION_ADDRESS..layout::IPV4_HEADER_BYTES]);
-    judge_ipv4_udp(addresses, &tpdu[start..end])
+    judge_udp(IpVersion::V4, addresses, &tpdu[start..end])
 }
 
 fn judge_ipv6(tpdu: &[u8]) -> u8
@@ -237,7 +230,11 @@ fn judge_ipv6(tpdu: &[u8]) -> u8
         &tpdu[layout::IPV6_SOURCE_ADDRESS..layout::IPV6_DESTINATION_ADDRESS],
     )
         + ipv6_address_sum(&tpdu[layout::IPV6_DESTINATION_ADDRESS..layout::IPV6_HEADER_BYTES]);
-    judge_ipv6_udp(addresses, &tpdu[layout::IPV6_HEADER_BYTES..end])
+    judge_udp(
+        IpVersion::V6,
+        addresses,
+        &tpdu[layout::IPV6_HEADER_BYTES..end],
+    )
 }
 
 // The number of the first cause of refusal, or 0.

@@ -18,7 +18,7 @@ use Rattle.checksum.proofs.Carries.{fold-low}
 use Rattle.measurement.specs.declared.DecodedTpdu.{DecodedTpdu}
 use Rattle.measurement.specs.declared.IpVersion.{IpVersion}
 use Rattle.measurement.specs.declared.IpVersion.the-variants.{V4, V6}
-use Rattle.measurement_reading.specs.Read.{payload, lengthWrong, sumWrong, probeCauses, udpCauses, tpduOf, readProbe, readUdp, ihl, isFragment, ipv4Causes, readIpv4, ipv6Causes, readIpv6, tpduCauses, readOf}
+use Rattle.measurement_reading.specs.Read.{payload, lengthWrong, sumWrong, probeCauses, unsummed, mustBeSummed, udpCauses, tpduOf, readProbe, readUdp, ihl, isFragment, ipv4Causes, readIpv4, ipv6Causes, readIpv6, tpduCauses, readOf}
 use Rattle.measurement_reading.specs.Fragments.{HeaderRight}
 use Rattle.measurement_reading.proofs.Numbers.{read-by}
 
@@ -38,18 +38,21 @@ module _ (src dst u : List ℕ) (r : DecodedTpdu) where
 
   pub part-accepted : (v : IpVersion) → readUdp v src dst u ≡ gives r → Part v src dst u r
   unfolding readUdp udpCauses
-  part-accepted V4 e =
+  part-accepted v e =
       let q = passed _ _ r e in
-      let p = probe-accepted V4 (q .1) in
-      record { right = first-false (passes-from 10 (q .0)); long = p .0; summed = either (eqb (field 2 6 u) 0) refl (first-false (passes-from 12 (q .0))); is = p .1 }
+      let p = probe-accepted v (q .1) in
+      record {
+        right = first-false (passes-from 10 (q .0));
+        long = p .0;
+        summed = either v (unsummed u) refl (first-false (passes-from 11 (q .0))) (first-false (passes-from 12 (q .0)));
+        is = p .1;
+      }
     where
-      either : (b : Bool) → eqb (field 2 6 u) 0 ≡ b → not b && sumWrong V4 src dst u ≡ false → ((V4 ≡ V4) × (field 2 6 u ≡ 0)) ⊎ (sumWrong V4 src dst u ≡ false)
-      either true z e = inl (refl, eqb-true (field 2 6 u) 0 z)
-      either false z e = inr e
-  part-accepted V6 e =
-      let q = passed _ _ r e in
-      let p = probe-accepted V6 (q .1) in
-      record { right = first-false (passes-from 10 (q .0)); long = p .0; summed = inr (first-false (passes-from 12 (q .0))); is = p .1 }
+      either : (v : IpVersion) (b : Bool) → unsummed u ≡ b → b && mustBeSummed v ≡ false → not b && sumWrong v src dst u ≡ false
+          → ((v ≡ V4) × (field 2 6 u ≡ 0)) ⊎ (sumWrong v src dst u ≡ false)
+      either V4 true z m e = inl (refl, eqb-true (field 2 6 u) 0 z)
+      either V6 true z m e = absurd (true-not-false m)
+      either v false z m e = inr e
 
 -- an IPv4 packet that was accepted, and an IPv6 packet
 pub record Accepted4 (p : List ℕ) (r : DecodedTpdu) : Type 0 where

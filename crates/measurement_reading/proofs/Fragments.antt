@@ -16,7 +16,7 @@ use Rattle.field.proofs.Fields.{byte-of}
 use Rattle.measurement.specs.declared.DecodedTpdu.{DecodedTpdu}
 use Rattle.measurement.specs.declared.IpVersion.the-variants.{V4}
 use Rattle.measurement_reading.specs.Read.{ihl, moreFragments, fragmentOffset, isFragment, ipv4Causes, readIpv4, ipv6Causes, readIpv6, tpduCauses, readOf}
-use Rattle.measurement_reading.specs.Fragments.{IsIpv4, Fragment, HeaderRight, FragmentsNotRead, RefusedAsFragment}
+use Rattle.measurement_reading.specs.Fragments.{IsIpv4, Fragment, HeaderRight, NoEarlierCause, FragmentsNotRead, RefusedAsFragment}
 use Rattle.measurement_reading.proofs.Rows.{onward4, LeftIpv4, ipv4-rows, past-3, past-4, past-39, past-5, past-6-ipv4, past-7, row-38, read-as-ipv4}
 use Rattle.measurement_reading.proofs.Numbers.{partNumbers, part-by, ipv6-by}
 use Rattle.measurement_reading.proofs.Accept.{checksum-0, header-right, Accepted4, Accepted6, accepted}
@@ -51,8 +51,13 @@ left-38 p {k} ek en h =
     past-7 p ek (checksum-0 (take (k * 4) p) (h .not-7)) left-7 refl
 
 module _ (p : List ℕ) where
-  length-is : getD p 2 0 * 256 + getD p 3 0 ≡ field 2 2 p
+  pub length-is : getD p 2 0 * 256 + getD p 3 0 ≡ field 2 2 p
   length-is = omega arith
+
+  -- the same header, by the packet's bytes
+  pub no-earlier-cause : HeaderRight (ihl p) (field 2 2 p) p → NoEarlierCause p
+  unfolding ihl
+  no-earlier-cause h = rw (← length-is) at h
 
   -- a refusal by 38 is one of version 4, and of its row
   of-ipv4 : readOf p ≡ refused 38 → IsIpv4 p × (readIpv4 p ≡ refused 38)
@@ -88,5 +93,5 @@ refused-as-fragment = record {
   only-where-due = λ p b e.
       let v = of-ipv4 p e in
       let r = of-row p (v .1) in
-      (v .0, rw (← length-is p) at (r .0), fragment-is p b (r .1));
+      (v .0, no-earlier-cause p (r .0), fragment-is p b (r .1));
 }

@@ -4,3 +4,4 @@ pub mod Numbers
 pub mod Accept
 pub mod Claims
 pub mod Fragments
+pub mod Padding

@@ -24,11 +24,7 @@ readingNumbers = 1 ∷ 2 ∷ 3 ∷ 4 ∷ 39 ∷ 5 ∷ 6 ∷ 7 ∷ 38 ∷ 8 ∷ 9
 pub part-by : (v : IpVersion) (src dst u : List ℕ) (n : ℕ) → readUdp v src dst u ≡ refused n → among n partNumbers ≡ true
 unfolding readUdp udpCauses readProbe probeCauses
 part-by v src dst u =
-    by-one-of partNumbers (udpCauses v src dst u) _ (udp v) (by-one-of partNumbers (probeCauses (payload u)) _ refl (λ n e. absurd (refused-gives (sym e))))
-  where
-    udp : (v : IpVersion) → within partNumbers (udpCauses v src dst u) ≡ true
-    udp V4 = refl
-    udp V6 = refl
+    by-one-of partNumbers (udpCauses v src dst u) _ refl (by-one-of partNumbers (probeCauses (payload u)) _ refl (λ n e. absurd (refused-gives (sym e))))
 
 -- of a list that has the part's numbers
 part-among : (numbers : List ℕ) → holds (λ m. among m numbers) partNumbers ≡ true → (v : IpVersion) (src dst u : List ℕ) (n : ℕ)

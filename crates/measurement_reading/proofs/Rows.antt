@@ -18,7 +18,7 @@ use Rattle.measurement.specs.Probe.{measurementMagic}
 use Rattle.measurement.specs.declared.DecodedTpdu.{DecodedTpdu}
 use Rattle.measurement.specs.declared.IpVersion.{IpVersion}
 use Rattle.measurement.specs.declared.IpVersion.the-variants.{V4, V6}
-use Rattle.measurement_reading.specs.Read.{payload, lengthWrong, sumWrong, probeCauses, udpCauses, tpduOf, readProbe, readUdp}
+use Rattle.measurement_reading.specs.Read.{payload, lengthWrong, sumWrong, probeCauses, unsummed, mustBeSummed, udpCauses, tpduOf, readProbe, readUdp}
 use Rattle.measurement_reading.specs.Read.{ihl, moreFragments, fragmentOffset, isFragment, ipv4Causes, readIpv4, ipv6Causes, readIpv6, tpduCauses, readOf}
 
 -- the UDP length
@@ -89,65 +89,47 @@ module _ (v : IpVersion) (src dst u : List ℕ) where
       unfolding probeCauses measurementMagic
       past-14 left h = all-passed (goes-on left (equals (field 8 0 (payload u)) 0x4f50434450544b31 (sym first ∙ h)))
 
--- the UDP part: IPv4 judges 10, then 12 unless the field is 0; IPv6 judges 11, 12, then 10
+-- the UDP part: 10, then 11 in IPv6, then 12 unless the field is 0
 module _ (src dst u : List ℕ) where
   abbrev pub LeftUdp : IpVersion → ℕ → Type 0
   LeftUdp v n = Left (from n (udpCauses v src dst u)) (readProbe v src dst u) (readUdp v src dst u)
 
-  abbrev field-set : Bool
-  field-set = not (eqb (field 2 6 u) 0)
+  module _ (v : IpVersion) where
+    pub udp-rows : LeftUdp v 10
+    unfolding readUdp udpCauses
+    udp-rows = record { is = refl }
 
-  pub udp4-rows : LeftUdp V4 10
-  unfolding readUdp udpCauses
-  udp4-rows = record { is = refl }
+    pub row-10 : LeftUdp v 10 → lengthWrong u ≡ true → refused 10 ≡ readUdp v src dst u
+    unfolding udpCauses
+    row-10 left h = stops left h
 
-  pub udp4-row-10 : LeftUdp V4 10 → lengthWrong u ≡ true → refused 10 ≡ readUdp V4 src dst u
-  unfolding udpCauses
-  udp4-row-10 left h = stops left h
+    pub past-10 : LeftUdp v 10 → lengthWrong u ≡ false → LeftUdp v 11
+    unfolding udpCauses
+    past-10 left h = goes-on left h
 
-  pub udp4-past-10 : LeftUdp V4 10 → lengthWrong u ≡ false → LeftUdp V4 12
-  unfolding udpCauses
-  udp4-past-10 left h = goes-on left h
+    pub row-11 : LeftUdp v 11 → mustBeSummed v ≡ true → field 2 6 u ≡ 0 → refused 11 ≡ readUdp v src dst u
+    unfolding udpCauses
+    row-11 left m h = stops left (and-both (unsummed u) (mustBeSummed v) (eq-eqb (field 2 6 u) 0 h) m)
 
-  pub udp4-row-12 : LeftUdp V4 12 → (field 2 6 u ≡ 0 → ⊥) → sumWrong V4 src dst u ≡ true → refused 12 ≡ readUdp V4 src dst u
-  unfolding udpCauses
-  udp4-row-12 left h l = stops left (and-both field-set (sumWrong V4 src dst u) (differs (field 2 6 u) 0 h) l)
+    pub past-11 : LeftUdp v 11 → (field 2 6 u ≡ 0 → ⊥) → LeftUdp v 12
+    unfolding udpCauses
+    past-11 left h = goes-on left (and-left (unsummed u) (mustBeSummed v) (ne-eqb (field 2 6 u) 0 h))
 
-  pub udp4-unsummed : LeftUdp V4 12 → field 2 6 u ≡ 0 → readProbe V4 src dst u ≡ readUdp V4 src dst u
-  unfolding udpCauses
-  udp4-unsummed left h = all-passed (goes-on left (and-left field-set (sumWrong V4 src dst u) (equals (field 2 6 u) 0 h)))
+    pub past-11-unsummed : LeftUdp v 11 → mustBeSummed v ≡ false → LeftUdp v 12
+    unfolding udpCauses
+    past-11-unsummed left m = goes-on left (and-right (unsummed u) (mustBeSummed v) m)
 
-  pub udp4-past-12 : LeftUdp V4 12 → sumWrong V4 src dst u ≡ false → readProbe V4 src dst u ≡ readUdp V4 src dst u
-  unfolding udpCauses
-  udp4-past-12 left l = all-passed (goes-on left (and-right field-set (sumWrong V4 src dst u) l))
+    pub row-12 : LeftUdp v 12 → (field 2 6 u ≡ 0 → ⊥) → sumWrong v src dst u ≡ true → refused 12 ≡ readUdp v src dst u
+    unfolding udpCauses
+    row-12 left h l = stops left (and-both (not (unsummed u)) (sumWrong v src dst u) (differs (field 2 6 u) 0 h) l)
 
-  pub udp6-rows : LeftUdp V6 11
-  unfolding readUdp udpCauses
-  udp6-rows = record { is = refl }
+    pub past-12 : LeftUdp v 12 → sumWrong v src dst u ≡ false → readProbe v src dst u ≡ readUdp v src dst u
+    unfolding udpCauses
+    past-12 left l = all-passed (goes-on left (and-right (not (unsummed u)) (sumWrong v src dst u) l))
 
-  pub udp6-row-11 : LeftUdp V6 11 → field 2 6 u ≡ 0 → refused 11 ≡ readUdp V6 src dst u
-  unfolding udpCauses
-  udp6-row-11 left h = stops left (eq-eqb (field 2 6 u) 0 h)
-
-  pub udp6-past-11 : LeftUdp V6 11 → (field 2 6 u ≡ 0 → ⊥) → LeftUdp V6 12
-  unfolding udpCauses
-  udp6-past-11 left h = goes-on left (ne-eqb (field 2 6 u) 0 h)
-
-  pub udp6-row-12 : LeftUdp V6 12 → sumWrong V6 src dst u ≡ true → refused 12 ≡ readUdp V6 src dst u
-  unfolding udpCauses
-  udp6-row-12 left h = stops left h
-
-  pub udp6-past-12 : LeftUdp V6 12 → sumWrong V6 src dst u ≡ false → LeftUdp V6 10
-  unfolding udpCauses
-  udp6-past-12 left h = goes-on left h
-
-  pub udp6-row-10 : LeftUdp V6 10 → lengthWrong u ≡ true → refused 10 ≡ readUdp V6 src dst u
-  unfolding udpCauses
-  udp6-row-10 left h = stops left h
-
-  pub udp6-past-10 : LeftUdp V6 10 → lengthWrong u ≡ false → readProbe V6 src dst u ≡ readUdp V6 src dst u
-  unfolding udpCauses
-  udp6-past-10 left h = all-passed (goes-on left h)
+    pub past-12-unsummed : LeftUdp v 12 → field 2 6 u ≡ 0 → readProbe v src dst u ≡ readUdp v src dst u
+    unfolding udpCauses
+    past-12-unsummed left h = all-passed (goes-on left (and-left (not (unsummed u)) (sumWrong v src dst u) (equals (field 2 6 u) 0 h)))
 
 module _ (p : List ℕ) where
   -- IPv4: 3, 4, 39, 5, 6, 7, 38
@@ -240,7 +222,7 @@ module _ (p : List ℕ) where
   past-38 left h = goes-on left h
 
   -- IPv6: 8, 6, 9
-  abbrev onward6 : Outcome DecodedTpdu
+  abbrev pub onward6 : Outcome DecodedTpdu
   onward6 = readUdp V6 (bytesAt 16 8 p) (bytesAt 16 24 p) (take (field 2 4 p) (drop 40 p))
 
   abbrev pub LeftIpv6 : ℕ → Type 0

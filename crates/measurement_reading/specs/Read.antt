@@ -1,6 +1,7 @@
 -- Reading a T-PDU: document 01, leaf 4. Each cause of refusal is a row, and the rows stand in the order of that leaf:
 -- "IPv4 3, 4, 5, 6, 7, 10, 12, 13, 14; IPv6 8, 6, 9, 11, 12, 10, 13, 14. Number 1, then 2, come before both."
--- Document 02 has 39 "directly after 4" (job 3) and 38 "directly after 7" (job 1).
+-- Document 02 has 39 "directly after 4" (job 3) and 38 "directly after 7" (job 1), and "In IPv6 the order becomes 10,
+-- 11, 12" (job 6).
 use Prim.Native.Nat.{ℕ, _+_, _-_, _*_, _/_, _%_, _^_}
 use mathlib.Core.List.{List, [], _∷_, _++_}
 use mathlib.Core.Bool.{Bool, true, false, not, _||_, _&&_}
@@ -34,14 +35,15 @@ payload part = take (field 2 udpLength part - udpHeaderBytes) (drop udpHeaderByt
 unfoldable pub lengthWrong : List ℕ → Bool
 lengthWrong part = ltb (field 2 udpLength part) udpHeaderBytes || ltb (length part) (field 2 udpLength part)
 
--- Which bytes the UDP checksum covers: "that whole part and its length, even where the UDP length is less".
+-- Which bytes of its part the UDP checksum covers: as many as the UDP length says. What stands behind them is padding.
 unfoldable pub covered : List ℕ → List ℕ
-covered part = part
+covered part = take (field 2 udpLength part) part
 
--- The sum over the pseudo-header and what is covered is not right.
+-- "take the UDP header's own length for the pseudo-header, and the sum over that many bytes" (document 02, job 6, of RFC
+-- 768 and RFC 8200, section 8.1): that sum is not right.
 unfoldable pub sumWrong : IpVersion → List ℕ → List ℕ → List ℕ → Bool
 sumWrong v source destination part =
-    not (eqb (checksumOf (pseudoHeader v source destination (length (covered part)) ++ covered part)) 0)
+    not (eqb (checksumOf (pseudoHeader v source destination (field 2 udpLength part) ++ covered part)) 0)
 
 -- "probe under 24 bytes; first 8 bytes wrong"
 unfoldable pub probeCauses : List ℕ → List Cause
@@ -50,16 +52,21 @@ probeCauses probe =
     ∷ (not (eqb (field 8 probeTag probe) (valueOf measurementMagic)) ⇒ measurementMagicMismatch)
     ∷ []
 
+-- RFC 768: a checksum field of 0 "means that the transmitter generated no checksum".
+abbrev pub unsummed : List ℕ → Bool
+unsummed part = eqb (field 2 udpChecksum part) 0
+
 -- "An IPv4 UDP checksum field of 0 is not verified; in IPv6 it is refused."
+abbrev pub mustBeSummed : IpVersion → Bool
+mustBeSummed V4 = false
+mustBeSummed V6 = true
+
+-- One list for both versions; in IPv4 the second row holds of no part.
 unfoldable pub udpCauses : IpVersion → List ℕ → List ℕ → List ℕ → List Cause
-udpCauses V4 source destination part =
+udpCauses v source destination part =
     (lengthWrong part ⇒ invalidUdpLength)
-    ∷ (not (eqb (field 2 udpChecksum part) 0) && sumWrong V4 source destination part ⇒ invalidUdpChecksum)
-    ∷ []
-udpCauses V6 source destination part =
-    (eqb (field 2 udpChecksum part) 0 ⇒ ipv6UdpChecksumIsZero)
-    ∷ (sumWrong V6 source destination part ⇒ invalidUdpChecksum)
-    ∷ (lengthWrong part ⇒ invalidUdpLength)
+    ∷ (unsummed part && mustBeSummed v ⇒ ipv6UdpChecksumIsZero)
+    ∷ (not (unsummed part) && sumWrong v source destination part ⇒ invalidUdpChecksum)
     ∷ []
 
 -- The T-PDU with these values: the flow, its addresses padded to 16 bytes, the sequence and the send time.

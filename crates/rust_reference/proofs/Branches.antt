@@ -27,11 +27,22 @@ row due value test {c = false} error n rest rows onward number e g = rw e (g ref
 -- and beside two rows, where the Rust has one test for both
 pub two-rows : {A B : Type 0} (due : Outcome B → Outcome B) (value : A → B) (test c d : Bool) (error : DataplaneTestkitError) (n m : ℕ) (rest : Result A) (rows : List Cause) (onward : Outcome B)
     → due (refused (errorNumber error)) ≡ refused (asTheRustTells n) → due (refused (errorNumber error)) ≡ refused (asTheRustTells m) → test ≡ c || d
-    → (d ≡ false → due (outcomeBy value rest) ≡ told (firstCause rows onward))
+    → (c ≡ false → d ≡ false → due (outcomeBy value rest) ≡ told (firstCause rows onward))
     → due (outcomeBy value (_>>_ (returnIf test error) rest)) ≡ told (firstCause ((c ⇒ n) ∷ (d ⇒ m) ∷ rows) onward)
 unfolding firstCause
 two-rows due value test true d error n m rest rows onward first second e g = rw e first
-two-rows due value test false d error n m rest rows onward first second e g = row due value test error m rest rows onward second e g
+two-rows due value test false d error n m rest rows onward first second e g = row due value test error m rest rows onward second e (g refl)
+
+-- a row that the Rust does not judge, and that does not hold
+pub no-row : {A : Type 0} {c : Bool} (n : ℕ) (rows : List Cause) (onward : Outcome A) → c ≡ false → firstCause rows onward ≡ firstCause ((c ⇒ n) ∷ rows) onward
+unfolding firstCause
+no-row n rows onward e = rw (e, firstCause)
+
+-- what is due of ours where the Rust refuses late, or not at all: `x` comes before each of these
+pub late : {A B : Type 0} (due : Outcome B → Outcome B) (value : A → B) (test : Bool) (error : DataplaneTestkitError) (rest : Result A) {x : Outcome B}
+    → due (refused (errorNumber error)) ≡ x → due (outcomeBy value rest) ≡ x → due (outcomeBy value (_>>_ (returnIf test error) rest)) ≡ x
+late due value true error rest e g = e
+late due value false error rest e g = g
 
 -- what is compared is due as it is
 abbrev pub as-it-is : {B : Type 0} → Outcome B → Outcome B

@@ -3,15 +3,14 @@ use Prim.Native.Nat.{ℕ, suc, _+_, _-_, _*_, _/_, _%_, _<_, _≤_}
 use native.Mathlib.Nat.{add-zero}
 use native.Mathlib.Omega.{arith}
 use mathlib.Core.Path.{_≡_, refl, sym, ap, ap₂, _∙_}
-use mathlib.Core.List.{List, [], _∷_, _++_, append-assoc}
+use mathlib.Core.List.{List, [], _∷_, _++_, append-assoc, append-nil}
 use mathlib.Core.Bool.{Bool, true, false, not, _||_, _&&_}
 use lib.Dec.{eqb, ltb}
 use lib.ListN.{length, take, drop, getD, length-append, length-take, length-drop}
-use borrow.Author.Tests.{ltb-false, eqb-true, eqb-false, eq-eqb, ne-eqb, lt-ltb, le-ltb, not-true}
-use Rattle.error.specs.Outcome.{Outcome, refused, gives, Cause, _⇒_, firstCause}
-use Rattle.error.proofs.Among.{among, of-each}
+use borrow.Author.Tests.{ltb-false, eqb-true, eqb-false, eq-eqb, ne-eqb, lt-ltb, le-ltb, not-false}
+use Rattle.error.specs.Outcome.{Outcome, refused, Cause, _⇒_, firstCause}
 use Rattle.error.proofs.Causes.{none, passes}
-use Rattle.error.proofs.Tests.{true-not-false, or-neither}
+use Rattle.error.proofs.Tests.{true-not-false, or-neither, and-right}
 use Rattle.field.specs.Field.{Bytes, bigEndian, valueOf, bytesAt, field}
 use Rattle.field.proofs.Fields.{bytes-take, bytes-drop, bytes-append, bytes-at, byte-of, value-injective, bytesAt-drop, front-bytes, same-as-itself}
 use Rattle.checksum.specs.Sum.{checksumOf}
@@ -20,22 +19,27 @@ use Rattle.measurement.specs.Pseudo.{pseudoHeader}
 use Rattle.measurement.specs.Probe.{measurementMagic}
 use Rattle.measurement.specs.declared.DecodedTpdu.{DecodedTpdu}
 use Rattle.measurement.specs.declared.MeasurementHeader.{MeasurementHeader}
+use Rattle.measurement.specs.declared.IpVersion.{IpVersion}
 use Rattle.measurement.specs.declared.IpVersion.the-variants.{V4, V6}
-use Rattle.measurement_reading.specs.Read.{payload, lengthWrong, covered, sumWrong, probeCauses, udpCauses, readProbe, readUdp, ihl, isFragment, ipv4Causes, readIpv4, ipv6Causes, readIpv6, readOf}
-use Rattle.measurement_reading.proofs.Rows.{onward4, tpdu-rows, row-1, past-1, row-2, past-2-ipv6, ipv4-not-empty, read-as-ipv4}
-use Rattle.measurement_reading.proofs.Numbers.{partNumbers, part-by}
-use Rattle.measurement_reading.proofs.Fragments.{is-fragment}
-use Rattle.rust_reference.specs.Claims.{DecodeMeasurementTpdu, DecodeFragment}
-use Rattle.rust_reference.specs.Compared.{dueOfAFragment, asTheRustTells, told}
+use Rattle.measurement_reading.specs.Fragments.{HeaderRight}
+use Rattle.measurement_reading.specs.Padding.{Ipv6Right, ReachesUdp, partIn}
+use Rattle.measurement_reading.specs.Read.{payload, lengthWrong, sumWrong, probeCauses, unsummed, udpCauses, readProbe, readUdp, ihl, isFragment, ipv4Causes, readIpv4, ipv6Causes, readIpv6, readOf}
+use Rattle.measurement_reading.proofs.Rows.{onward4, onward6, tpdu-rows, row-1, past-1, row-2, past-2-ipv6, ipv4-not-empty, read-as-ipv4}
+use Rattle.measurement_reading.proofs.Accept.{verifies}
+use Rattle.measurement_reading.proofs.Fragments.{is-fragment, no-earlier-cause}
+use Rattle.measurement_reading.proofs.Padding.{length-fits, filled-sum, all-padding-ignored}
+use Rattle.rust_reference.specs.Claims.{NoFragment, DecodeMeasurementTpdu, DecodeFragment, DecodePadded}
+use Rattle.rust_reference.specs.Compared.{dueOfAFragment, told}
 use Rattle.rust_reference.specs.Error as error
 use Rattle.rust_reference.specs.Error.{Result, Ok, Err, UnsupportedIpVersion, InvalidPacket, returnIf, _>>=_, _>>_}
 use Rattle.rust_reference.specs.Number.{outcomeBy}
 use Rattle.rust_reference.specs.Values.{index, range, same, «u16_at»}
 use Rattle.rust_reference.specs.Answers.{tpduOf}
 use Rattle.rust_reference.specs.Measurement as rust
-use Rattle.rust_reference.proofs.Branches.{unless, row, two-rows, as-it-is}
+use Rattle.rust_reference.proofs.Branches.{unless, row, two-rows, no-row, late, as-it-is}
 use Rattle.rust_reference.proofs.Checksums.{of-one, of-two}
-use Rattle.rust_reference.proofs.Told.{compared-bytes, compared-whole}
+use Rattle.rust_reference.proofs.Compared.{version-is, filled-as, compare-whole}
+use Rattle.rust_reference.proofs.Told.{compared-bytes, compared-whole, compared-filled}
 
 -- a u16 is the field of two bytes
 u16-is : (l : List ℕ) (at : ℕ) → «u16_at» l at ≡ field 2 at l
@@ -118,7 +122,7 @@ module _ {A B : Type 0} (value : A → B) (k : rust.UdpSegment → Result A) (u 
       by false e = rw (le-ltb (length u) 8 h, length-is, e, rust.«parse_udp_segment») (rw (u16-is u 0, u16-is u 2, payload-is) (g e))
 
 -- the sums of the UDP part
-module _ (src dst u : List ℕ) (p : Bytes src) (q : Bytes dst) (b : Bytes u) (short : length u < 65536) where
+module _ (src dst u : List ℕ) (p : Bytes src) (q : Bytes dst) (b : Bytes u) (short : length u < 65536) (fills : field 2 4 u ≡ length u) where
   pseudo4-is : rust.«ipv4_pseudo» src dst u ≡ pseudoHeader V4 src dst (length u)
   unfolding rust.«ipv4_pseudo» pseudoHeader
   pseudo4-is =
@@ -132,19 +136,19 @@ module _ (src dst u : List ℕ) (p : Bytes src) (q : Bytes dst) (b : Bytes u) (s
       rw e (append-assoc (src ++ dst ++ bigEndian 4 (length u)) (0 ∷ 0 ∷ 0 ∷ []) (17 ∷ []) ∙ append-assoc (src ++ dst) (bigEndian 4 (length u)) (0 ∷ 0 ∷ 0 ∷ 17 ∷ []))
 
   sum4-is : length src ≡ 4 → length dst ≡ 4 → not (eqb (rust.«checksum_udp_ipv4_including_checksum» src dst u) 0) ≡ sumWrong V4 src dst u
-  unfolding rust.«checksum_udp_ipv4_including_checksum» sumWrong covered pseudoHeader
+  unfolding rust.«checksum_udp_ipv4_including_checksum» pseudoHeader
   sum4-is h k =
       let l : length (pseudoHeader V4 src dst (length u)) ≡ 12 = simp length-append (omega arith) in
-      rw pseudo4-is
+      rw (pseudo4-is, filled-sum V4 src dst u fills)
       (ap (λ (n : ℕ). not (eqb n 0))
       (of-two (pseudoHeader V4 src dst (length u)) u
       (bytes-append (src ++ dst) (0 ∷ 17 ∷ bigEndian 2 (length u)) (bytes-append src dst p q) (omega arith)) b (omega arith) (omega arith)))
 
   sum6-is : length src ≡ 16 → length dst ≡ 16 → not (eqb (rust.«checksum_udp_ipv6_including_checksum» src dst u) 0) ≡ sumWrong V6 src dst u
-  unfolding rust.«checksum_udp_ipv6_including_checksum» sumWrong covered pseudoHeader
+  unfolding rust.«checksum_udp_ipv6_including_checksum» pseudoHeader
   sum6-is h k =
       let l : length (pseudoHeader V6 src dst (length u)) ≡ 40 = simp length-append (omega arith) in
-      rw pseudo6-is
+      rw (pseudo6-is, filled-sum V6 src dst u fills)
       (ap (λ (n : ℕ). not (eqb n 0))
       (of-two (pseudoHeader V6 src dst (length u)) u
       (bytes-append (src ++ dst) (bigEndian 4 (length u) ++ (0 ∷ 0 ∷ 0 ∷ 17 ∷ [])) (bytes-append src dst p q) (omega arith)) b (omega arith) (omega arith)))
@@ -169,22 +173,61 @@ rest6 src dst u = do
   measurement ← rust.decode (segment .payload)
   Ok (record { flow = rust.Ipv6 src dst (segment .src-port) (segment .dst-port); measurement = measurement })
 
-module _ (src dst u : List ℕ) (p : Bytes src) (q : Bytes dst) (b : Bytes u) (short : length u < 65536) (long : 8 ≤ length u) where
+module _ (src dst u : List ℕ) (p : Bytes src) (q : Bytes dst) (b : Bytes u) (short : length u < 65536) (long : 8 ≤ length u) (fills : field 2 4 u ≡ length u) where
   udp4 : length src ≡ 4 → length dst ≡ 4 → outcomeBy tpduOf (rest4 src dst u) ≡ told (readUdp V4 src dst u)
   unfolding rest4 readUdp udpCauses readProbe
   udp4 h k =
       parsed tpduOf _ u _ _ long
       (λ right. row as-it-is tpduOf (not (eqb («u16_at» u 6) 0) && not (eqb (rust.«checksum_udp_ipv4_including_checksum» src dst u) 0)) _ 12 _ [] (readProbe V4 src dst u) refl
-      (ap₂ (λ (x : ℕ) (y : Bool). not (eqb x 0) && y) (u16-is u 6) (sum4-is src dst u p q b short h k))
-      (λ c. probed tpduOf _ (payload u) (payload-bytes u b) _ (λ w. refl) ∙ ap told (passes (readProbe V4 src dst u) none)))
+      (ap₂ (λ (x : ℕ) (y : Bool). not (eqb x 0) && y) (u16-is u 6) (sum4-is src dst u p q b short fills h k))
+      (λ c. probed tpduOf _ (payload u) (payload-bytes u b) _ (λ w. refl) ∙ ap told (passes (readProbe V4 src dst u) none))
+      ∙ ap told (no-row 11 ((not (unsummed u) && sumWrong V4 src dst u ⇒ 12) ∷ []) (readProbe V4 src dst u) (and-right (unsummed u) false refl)))
 
+  -- the Rust judges 10 last, but a length that fills its part is right
   udp6 : length src ≡ 16 → length dst ≡ 16 → outcomeBy tpduOf (rest6 src dst u) ≡ told (readUdp V6 src dst u)
   unfolding rest6 readUdp udpCauses readProbe
   udp6 h k =
-      row as-it-is tpduOf (eqb («u16_at» u 6) 0) _ 11 _ _ _ refl (ap (λ (x : ℕ). eqb x 0) (u16-is u 6))
-      (λ z. row as-it-is tpduOf (not (eqb (rust.«checksum_udp_ipv6_including_checksum» src dst u) 0)) _ 12 _ _ _ refl (sum6-is src dst u p q b short h k)
+      let right = length-fits u (omega (arith, fills), omega (arith, fills)) in
+      row as-it-is tpduOf (eqb («u16_at» u 6) 0) _ 11 _ _ _ refl (ap (λ (x : ℕ). eqb x 0) (u16-is u 6) ∙ sym (and-true (unsummed u)))
+      (λ z. row as-it-is tpduOf (not (eqb (rust.«checksum_udp_ipv6_including_checksum» src dst u) 0)) _ 12 _ [] (readProbe V6 src dst u) refl
+      (sum6-is src dst u p q b short fills h k ∙ ap (λ (t : Bool). not t && sumWrong V6 src dst u) (sym z ∙ and-true (unsummed u)))
       (λ c. parsed tpduOf _ u [] (readProbe V6 src dst u) long
-      (λ right. probed tpduOf _ (payload u) (payload-bytes u b) _ (λ w. refl) ∙ ap told (passes (readProbe V6 src dst u) none))))
+      (λ right. probed tpduOf _ (payload u) (payload-bytes u b) _ (λ w. refl) ∙ ap told (passes (readProbe V6 src dst u) none))
+      ∙ ap told (sym (no-row 10 [] (readProbe V6 src dst u) right))))
+      ∙ ap told (no-row 10 _ (readProbe V6 src dst u) right)
+    where
+      and-true : (t : Bool) → t && true ≡ t
+      and-true true = refl
+      and-true false = refl
+
+-- every refusal of the Rust's UDP reader comes after 38
+module _ {A : Type 0} (value : A → DecodedTpdu) where
+  parse-late : (k : rust.UdpSegment → Result A) (u : List ℕ) → 8 ≤ length u
+      → ((segment : rust.UdpSegment) → dueOfAFragment (outcomeBy value (k segment)) ≡ refused 38) → dueOfAFragment (outcomeBy value (_>>=_ (rust.«parse_udp_segment» u) k)) ≡ refused 38
+  unfolding rust.«parse_udp_segment»
+  parse-late k u h g = by (ltb («u16_at» u 4) 8 || ltb (length u) («u16_at» u 4)) refl
+    where
+      by : (t : Bool) → ltb («u16_at» u 4) 8 || ltb (length u) («u16_at» u 4) ≡ t → dueOfAFragment (outcomeBy value (_>>=_ (rust.«parse_udp_segment» u) k)) ≡ refused 38
+      by true e = rw (le-ltb (length u) 8 h, e, rust.«parse_udp_segment»)
+      by false e = rw (le-ltb (length u) 8 h, e, rust.«parse_udp_segment») (g _)
+
+  decode-late : (k : MeasurementHeader → Result A) (body : List ℕ)
+      → ((header : MeasurementHeader) → dueOfAFragment (outcomeBy value (k header)) ≡ refused 38) → dueOfAFragment (outcomeBy value (_>>=_ (rust.decode body) k)) ≡ refused 38
+  unfolding rust.decode
+  decode-late k body g = by (ltb (length body) 24) refl (not (same (range body 0 8) rust.«MEASUREMENT_MAGIC»)) refl
+    where
+      by : (t : Bool) → ltb (length body) 24 ≡ t → (s : Bool) → not (same (range body 0 8) rust.«MEASUREMENT_MAGIC») ≡ s
+          → dueOfAFragment (outcomeBy value (_>>=_ (rust.decode body) k)) ≡ refused 38
+      by true e s f = rw (e, rust.decode)
+      by false e true f = rw (e, f, rust.decode)
+      by false e false f = rw (e, f, rust.decode) (g _)
+
+part-late : (src dst u : List ℕ) → 8 ≤ length u → dueOfAFragment (outcomeBy tpduOf (rest4 src dst u)) ≡ refused 38
+unfolding rest4
+part-late src dst u h =
+    parse-late tpduOf _ u h
+    (λ segment. late dueOfAFragment tpduOf (not (eqb («u16_at» u 6) 0) && not (eqb (rust.«checksum_udp_ipv4_including_checksum» src dst u) 0)) _ _ refl
+    (decode-late tpduOf _ (segment .payload) (λ header. refl)))
 
 -- tests that are written in two ways
 quarter : (k : ℕ) → ltb (k * 4) 20 ≡ ltb k 5
@@ -209,32 +252,40 @@ module _ (p : List ℕ) (b : Bytes p) where
       let e : header - 0 ≡ header = omega arith in
       rw e (ap (λ (n : ℕ). not (eqb n 0)) (of-one (take header p) (bytes-take header p b) (omega (arith, length-take header p))))
 
-  read4 : 20 ≤ length p → header + 8 ≤ «u16_at» p 2 → «u16_at» p 2 ≤ length p
-      → outcomeBy tpduOf (rest4 (bytesAt 4 12 p) (bytesAt 4 16 p) part4)
-      ≡ told (readUdp V4 (bytesAt 4 12 p) (bytesAt 4 16 p) (take (field 2 2 p - ihl p * 4) (drop (ihl p * 4) p)))
+  read4 : HeaderRight (ihl p) (field 2 2 p) p → field 2 4 (partIn V4 p) ≡ length (partIn V4 p)
+      → outcomeBy tpduOf (rest4 (bytesAt 4 12 p) (bytesAt 4 16 p) part4) ≡ told (onward4 p)
   unfolding ihl
-  read4 h k l =
-      let n = length-take («u16_at» p 2 - header) (drop header p) in
+  read4 h fills =
+      let n = length-take (field 2 2 p - header) (drop header p) in
       let m = length-drop header p in
-      udp4 (bytesAt 4 12 p) (bytesAt 4 16 p) part4 (bytes-at 4 12 p b) (bytes-at 4 16 p b)
-      (bytes-take («u16_at» p 2 - header) (drop header p) (bytes-drop header p b)) (omega (arith, u16-below p 2 b)) (omega arith) refl refl
-      ∙ ap (λ (n : ℕ). told (readUdp V4 (bytesAt 4 12 p) (bytesAt 4 16 p) (take (n - header) (drop header p)))) (u16-is p 2)
+      rw (u16-is p 2)
+      (udp4 (bytesAt 4 12 p) (bytesAt 4 16 p) (partIn V4 p) (bytes-at 4 12 p b) (bytes-at 4 16 p b)
+      (bytes-take (field 2 2 p - header) (drop header p) (bytes-drop header p b)) (omega (arith, u16-is p 2, u16-below p 2 b, h .not-5)) (omega (arith, h .not-5)) fills refl refl)
 
   -- 3 to 7 beside the rows of these numbers, and then 38 and the UDP part beside the Rust's UDP part
   ipv4-read : (due : Outcome DecodedTpdu → Outcome DecodedTpdu) → ((n : ℕ) → ltb n 8 ≡ true → due (refused n) ≡ refused n)
-      → due (told (onward4 p)) ≡ told (firstCause ((isFragment p ⇒ 38) ∷ []) (onward4 p))
+      → (HeaderRight (ihl p) (field 2 2 p) p
+      → due (outcomeBy tpduOf (rest4 (bytesAt 4 12 p) (bytesAt 4 16 p) part4)) ≡ told (firstCause ((isFragment p ⇒ 38) ∷ []) (onward4 p)))
       → due (outcomeBy tpduOf (rust.«decode_ipv4_measurement» p)) ≡ told (readIpv4 p)
   unfolding rust.«decode_ipv4_measurement» readIpv4 ipv4Causes rest4
-  ipv4-read due early late =
+  ipv4-read due early onward =
       row due tpduOf (ltb (length p) 20) _ 3 _ _ _ (early 3 refl) refl
       (λ c3. two-rows due tpduOf (ltb header 20 || ltb (length p) (header + 8)) (ltb (ihl p) 5) (ltb (length p) (ihl p * 4 + 8)) _ 4 39 _ _ _ (early 4 refl) (early 4 refl) test4
-      (λ c39. row due tpduOf (ltb («u16_at» p 2) (header + 8) || ltb (length p) («u16_at» p 2)) _ 5 _ _ _ (early 5 refl) test5
+      (λ c4 c39. row due tpduOf (ltb («u16_at» p 2) (header + 8) || ltb (length p) («u16_at» p 2)) _ 5 _ _ _ (early 5 refl) test5
       (λ c5. row due tpduOf (not (eqb (index p 9) 17)) _ 6 _ _ _ (early 6 refl) refl
       (λ c6. row due tpduOf (not (eqb (rust.checksum (range p 0 header ∷ [])) 0)) _ 7 _ ((isFragment p ⇒ 38) ∷ []) (onward4 p) (early 7 refl) header-sum
       (λ c7.
-      let low = or-neither (ltb («u16_at» p 2) (header + 8)) (ltb (length p) («u16_at» p 2)) (test5 ∙ c5) in
-      ap due (read4 (ltb-false (length p) 20 c3) (ltb-false («u16_at» p 2) (header + 8) (low .0)) (ltb-false (length p) («u16_at» p 2) (low .1)))
-      ∙ late)))))
+      let low = or-neither (ltb (field 2 2 p) (ihl p * 4 + 8)) (ltb (length p) (field 2 2 p)) c5 in
+      let sum = checksumOf (take (ihl p * 4) p) in
+      onward
+      (record {
+        not-3 = ltb-false (length p) 20 c3;
+        not-4 = ltb-false (ihl p) 5 c4;
+        not-39 = ltb-false (length p) (ihl p * 4 + 8) c39;
+        not-5 = (ltb-false (field 2 2 p) (ihl p * 4 + 8) (low .0), ltb-false (length p) (field 2 2 p) (low .1));
+        not-6 = eqb-true (index p 9) 17 (not-false (eqb (index p 9) 17) c6);
+        not-7 = verifies (take (ihl p * 4) p) (eqb-true sum 0 (not-false (eqb sum 0) c7));
+      }))))))
     where
       test4 : ltb header 20 || ltb (length p) (header + 8) ≡ ltb (ihl p) 5 || ltb (length p) (ihl p * 4 + 8)
       test4 = unfold ihl in rw (quarter (index p 0 % 16))
@@ -242,49 +293,55 @@ module _ (p : List ℕ) (b : Bytes p) where
       test5 : ltb («u16_at» p 2) (header + 8) || ltb (length p) («u16_at» p 2) ≡ ltb (field 2 2 p) (ihl p * 4 + 8) || ltb (length p) (field 2 2 p)
       test5 = unfold ihl in rw (u16-is p 2)
 
-  of-whole : isFragment p ≡ false → outcomeBy tpduOf (rust.«decode_ipv4_measurement» p) ≡ told (readIpv4 p)
+  of-whole : isFragment p ≡ false → (HeaderRight (ihl p) (field 2 2 p) p → field 2 4 (partIn V4 p) ≡ length (partIn V4 p))
+      → outcomeBy tpduOf (rust.«decode_ipv4_measurement» p) ≡ told (readIpv4 p)
   unfolding firstCause
-  of-whole h = ipv4-read as-it-is (λ n l. refl) (rw (h, firstCause))
+  of-whole h fills = ipv4-read as-it-is (λ n l. refl) (λ right. read4 right (fills right) ∙ rw (h, firstCause))
 
   -- of a fragment, whatever the UDP part is, 38 comes before it
   of-fragment : isFragment p ≡ true → dueOfAFragment (outcomeBy tpduOf (rust.«decode_ipv4_measurement» p)) ≡ told (readIpv4 p)
-  unfolding firstCause
-  of-fragment h = ipv4-read dueOfAFragment (λ n l. rw (l, dueOfAFragment)) (after (onward4 p) (part-by V4 _ _ _) ∙ rw (h, firstCause))
-    where
-      after : (o : Outcome DecodedTpdu) → ((n : ℕ) → o ≡ refused n → among n partNumbers ≡ true) → dueOfAFragment (told o) ≡ refused 38
-      after (refused n) by =
-          let late : ltb (asTheRustTells n) 8 ≡ false = not-true (ltb (asTheRustTells n) 8) (of-each (λ m. not (ltb (asTheRustTells m) 8)) partNumbers refl n (by n refl)) in
-          rw (late, dueOfAFragment)
-      after (gives x) by = refl
+  unfolding firstCause ihl
+  of-fragment h =
+      ipv4-read dueOfAFragment (λ n l. rw (l, dueOfAFragment))
+      (λ right.
+      let n = length-take («u16_at» p 2 - header) (drop header p) in
+      let m = length-drop header p in
+      part-late (bytesAt 4 12 p) (bytesAt 4 16 p) part4 (omega (arith, u16-is p 2, right .not-5)) ∙ rw (h, firstCause))
 
   abbrev part6 : List ℕ
   part6 = range p 40 (40 + «u16_at» p 4)
 
-  read6 : 48 ≤ length p → 8 ≤ «u16_at» p 4 → 40 + «u16_at» p 4 ≤ length p
-      → outcomeBy tpduOf (rest6 (range p 8 24) (range p 24 40) part6) ≡ told (readUdp V6 (bytesAt 16 8 p) (bytesAt 16 24 p) (take (field 2 4 p) (drop 40 p)))
-  read6 h k l =
-      let e : 40 + «u16_at» p 4 - 40 ≡ «u16_at» p 4 = omega arith in
-      let n = length-take («u16_at» p 4) (drop 40 p) in
+  read6 : 48 ≤ length p → 8 ≤ «u16_at» p 4 → 40 + «u16_at» p 4 ≤ length p → field 2 4 (partIn V6 p) ≡ length (partIn V6 p)
+      → outcomeBy tpduOf (rest6 (range p 8 24) (range p 24 40) part6) ≡ told (onward6 p)
+  read6 h k l fills =
+      let e : 40 + «u16_at» p 4 - 40 ≡ field 2 4 p = omega (arith, u16-is p 4) in
+      let n = length-take (field 2 4 p) (drop 40 p) in
       let m = length-drop 40 p in
       rw (range-is p 8 16 (omega arith), range-is p 24 16 (omega arith), e)
-      (udp6 (bytesAt 16 8 p) (bytesAt 16 24 p) (take («u16_at» p 4) (drop 40 p)) (bytes-at 16 8 p b) (bytes-at 16 24 p b)
-      (bytes-take («u16_at» p 4) (drop 40 p) (bytes-drop 40 p b)) (omega (arith, u16-below p 4 b)) (omega arith) refl refl
-      ∙ ap (λ (n : ℕ). told (readUdp V6 (bytesAt 16 8 p) (bytesAt 16 24 p) (take n (drop 40 p)))) (u16-is p 4))
+      (udp6 (bytesAt 16 8 p) (bytesAt 16 24 p) (partIn V6 p) (bytes-at 16 8 p b) (bytes-at 16 24 p b)
+      (bytes-take (field 2 4 p) (drop 40 p) (bytes-drop 40 p b)) (omega (arith, u16-is p 4, u16-below p 4 b)) (omega (arith, u16-is p 4)) fills refl refl)
 
-  ipv6-read : outcomeBy tpduOf (rust.«decode_ipv6_measurement» p) ≡ told (readIpv6 p)
+  ipv6-read : (Ipv6Right p → field 2 4 (partIn V6 p) ≡ length (partIn V6 p)) → getD p 0 0 / 16 ≡ 6
+      → outcomeBy tpduOf (rust.«decode_ipv6_measurement» p) ≡ told (readIpv6 p)
   unfolding rust.«decode_ipv6_measurement» readIpv6 ipv6Causes rest6
-  ipv6-read =
+  ipv6-read fills six =
       row as-it-is tpduOf (ltb (length p) 48) _ 8 _ _ _ refl refl
       (λ c8. row as-it-is tpduOf (not (eqb (index p 6) 17)) _ 6 _ _ _ refl refl
-      (λ c6. row as-it-is tpduOf (ltb (length p) (40 + «u16_at» p 4) || ltb («u16_at» p 4) 8) _ 9 _ [] onward refl test9
+      (λ c6. row as-it-is tpduOf (ltb (length p) (40 + «u16_at» p 4) || ltb («u16_at» p 4) 8) _ 9 _ [] (onward6 p) refl test9
       (λ c9.
-      let low = or-neither (ltb (length p) (40 + «u16_at» p 4)) (ltb («u16_at» p 4) 8) (test9 ∙ c9) in
-      read6 (ltb-false (length p) 48 c8) (ltb-false («u16_at» p 4) 8 (low .1)) (ltb-false (length p) (40 + «u16_at» p 4) (low .0))
-      ∙ ap told (passes onward none))))
+      let low = or-neither (ltb (field 2 4 p) 8) (ltb (length p) (field 2 4 p + 40)) c9 in
+      let least = ltb-false (field 2 4 p) 8 (low .0) in
+      let most = ltb-false (length p) (field 2 4 p + 40) (low .1) in
+      read6 (ltb-false (length p) 48 c8) (omega (arith, u16-is p 4, least)) (omega (arith, u16-is p 4, most))
+      (fills
+      (record {
+        is-ipv6 = six;
+        not-8 = ltb-false (length p) 48 c8;
+        not-6 = eqb-true (index p 6) 17 (not-false (eqb (index p 6) 17) c6);
+        not-9 = (least, most);
+      }))
+      ∙ ap told (passes (onward6 p) none))))
     where
-      onward : Outcome DecodedTpdu
-      onward = readUdp V6 (bytesAt 16 8 p) (bytesAt 16 24 p) (take (field 2 4 p) (drop 40 p))
-
       test9 : ltb (length p) (40 + «u16_at» p 4) || ltb («u16_at» p 4) 8 ≡ ltb (field 2 4 p) 8 || ltb (length p) (field 2 4 p + 40)
       test9 =
           let e : 40 + field 2 4 p ≡ field 2 4 p + 40 = omega arith in
@@ -304,8 +361,12 @@ decoded p c =
         ]) ≡ told (readOf p)
     by h true e u f =
         let four = eqb-true (index p 0 / 16) 4 e in
-        of-whole p (compared-bytes p c) (compared-whole p c four) ∙ ap told (read-as-ipv4 p four)
-    by h false e true f = ipv6-read p (compared-bytes p c) ∙ ap told (past-2-ipv6 p refl (past-1 p (tpdu-rows p) h) (eqb-true (index p 0 / 16) 6 f))
+        let whole = compared-whole p c four in
+        of-whole p (compared-bytes p c) whole (λ right. compared-filled p c V4 (four, no-earlier-cause p right, λ f. true-not-false (sym (is-fragment p (compared-bytes p c) f) ∙ whole)))
+        ∙ ap told (read-as-ipv4 p four)
+    by h false e true f =
+        let six = eqb-true (index p 0 / 16) 6 f in
+        ipv6-read p (compared-bytes p c) (compared-filled p c V6) six ∙ ap told (past-2-ipv6 p refl (past-1 p (tpdu-rows p) h) six)
     by h false e false f = ap told (row-2 p refl (past-1 p (tpdu-rows p) h) (eqb-false (index p 0 / 16) 4 e) (eqb-false (index p 0 / 16) 6 f))
 
 pub decoded-fragment : DecodeFragment
@@ -313,3 +374,14 @@ unfolding rust.«decode_measurement_tpdu»
 decoded-fragment p b v f =
     rw (ne-eqb (length p) 0 (ipv4-not-empty p v), eq-eqb (index p 0 / 16) 4 v, rust.«decode_measurement_tpdu»)
     (of-fragment p b (is-fragment p b f) ∙ ap told (read-as-ipv4 p v))
+
+-- a packet without padding is compared
+pub decoded-padded : DecodePadded
+decoded-padded v source destination segment padding p whole c d =
+    let fills : field 2 4 (partIn v whole) ≡ length (partIn v whole) = rw (d .part-is, append-nil segment) (d .udp-length) in
+    let compared = compare-whole whole (d .bytes) (not-a-fragment v (d .reaches)) (filled-as whole v (version-is whole v (d .reaches)) fills) in
+    (compared, decoded whole compared ∙ ap told (all-padding-ignored v source destination segment [] padding whole p d c))
+  where
+    not-a-fragment : (v : IpVersion) → ReachesUdp v whole → NoFragment whole
+    not-a-fragment V4 r e = r .2
+    not-a-fragment V6 r e = absurd (omega (arith, r .is-ipv6, e))

@@ -15,7 +15,7 @@ use Rattle.measurement_reading.specs.Read.{versionOf, isFragment}
 use Rattle.rust_reference.specs.Error as error
 use Rattle.rust_reference.specs.Error.{Context, Reason, Field, DataplaneTestkitError, Result, Ok, Err, Truncated, UnsupportedIpVersion, InvalidPacket, Overflow, TimestampReversed, GtpuEncode, InvalidReflectorCapacity, InvalidReflectorSession, ReflectorSessionConflict, ReflectorSessionCapacityExceeded}
 use Rattle.rust_reference.specs.Number.{truncatedNumber, invalidNumber, overflowNumber, errorNumber, outcomeBy}
-use Rattle.rust_reference.specs.Compared.{Compared, asTheRustTells, told}
+use Rattle.rust_reference.specs.Compared.{Filled, Compared, asTheRustTells, told}
 use Rattle.rust_reference.specs.Sessions.{outcomeTo}
 
 -- ---- the Rust's numbers
@@ -138,3 +138,8 @@ compared-bytes tpdu c = search
 
 pub compared-whole : (tpdu : List ℕ) → Compared tpdu → versionOf tpdu ≡ 4 → isFragment tpdu ≡ false
 compared-whole tpdu c = search
+
+-- and its UDP length fills its part
+
+pub compared-filled : (tpdu : List ℕ) → Compared tpdu → Filled tpdu
+compared-filled tpdu c = search

@@ -1,10 +1,10 @@
 -- Demand 2: "where no refusal marked added is due, the results equal the Rust's". Each ported function of the Rust has
 -- a claim of its name: its result, with errors as numbers, is that of document 01's definition, which our call's
--- contract names. Compared.antt says what is compared, which since document 02, job 1, is not every T-PDU. proofs/
--- proves each claim.
+-- contract names. Compared.antt says what is compared, which since document 02, jobs 1 and 6, is not every T-PDU.
+-- proofs/ proves each claim.
 use Prim.Native.Nat.{ℕ, _%_, _≤_}
 use mathlib.Core.Path.{_≡_}
-use mathlib.Core.List.{List, [], _∷_, flatten, map}
+use mathlib.Core.List.{List, [], _∷_, _++_, flatten, map}
 use mathlib.Core.Logic.{_⊎_}
 use mathlib.Core.Bool.{Bool, true}
 use lib.ListN.{length}
@@ -20,9 +20,11 @@ use Rattle.measurement.specs.Probe.{probe}
 use Rattle.measurement.specs.Flow.{reversedOf, InRange}
 use Rattle.measurement.specs.Answer.{writing, writingOf}
 use Rattle.measurement.specs.declared.InnerIpFlow.{InnerIpFlow}
+use Rattle.measurement.specs.declared.IpVersion.{IpVersion}
 use Rattle.measurement.specs.declared.MeasurementHeader.{MeasurementHeader}
 use Rattle.measurement_packet.specs.Packet.{buildOf}
 use Rattle.measurement_reading.specs.Fragments.{IsIpv4, Fragment}
+use Rattle.measurement_reading.specs.Padding.{ReachesUdp, Carries}
 use Rattle.measurement_reading.specs.Read.{readOf}
 use Rattle.measurement_damage.specs.Echo.{echoOf}
 use Rattle.plan.specs.Plan.{intervalOf, judgePlan}
@@ -54,7 +56,7 @@ use Rattle.rust_reference.specs.Runs.{Call, Typed, answerTo, afterCall, 
 use Rattle.rust_reference.specs.Runs.{rustAfter}
 use Rattle.rust_reference.specs.Map.{Option}
 use Rattle.rust_reference.specs.Number.{errorNumber, outcomeBy, outcomeOf}
-use Rattle.rust_reference.specs.Compared.{Compared, ComparedReturn, ComparedMessage, dueOfAFragment}
+use Rattle.rust_reference.specs.Compared.{Filled, Compared, ComparedReturn, ComparedMessage, dueOfAFragment}
 use Rattle.rust_reference.specs.Compared.{asTheRustTells, told}
 use Rattle.rust_reference.specs.Answers.{rustFlow, tpduOf, inBuffer, toldWriting, headersOf, packetsInBuffer}
 use Rattle.rust_reference.specs.Answers.{toldGenerating, reportOf}
@@ -89,15 +91,21 @@ NoneAdded o = (n : ℕ) → Added n → o ≡ refused n → ⊥
 abbrev pub NoFragment : List ℕ → Type 0
 NoFragment tpdu = IsIpv4 tpdu → Fragment tpdu → ⊥
 
--- Every T-PDU that is not an IPv4 fragment, alone, in a message that returns and in one that is echoed, and no
--- fragment; every payload of at most 65,535 bytes in a message that is routed; every other message, whatever its
--- payload; 39 as 4, and each other of our numbers as itself.
+-- Every T-PDU that is not an IPv4 fragment and whose UDP length fills its part, alone, in a message that returns and in
+-- one that is echoed, and no other; so every built packet, whatever stands behind it, and every T-PDU that is refused
+-- before its UDP part is judged. Every payload of at most 65,535 bytes in a message that is routed; every other
+-- message, whatever its payload; 39 as 4, and each other of our numbers as itself.
 pub record WhatIsCompared : Type 0 where
-  pub every-tpdu : (tpdu : List ℕ) → Bytes tpdu → NoFragment tpdu → Compared tpdu
+  pub every-tpdu : (tpdu : List ℕ) → Bytes tpdu → NoFragment tpdu → Filled tpdu → Compared tpdu
   pub no-fragment : (tpdu : List ℕ) → Compared tpdu → NoFragment tpdu
-  pub every-return : (messageType : ℕ) (payload : List ℕ) → Bytes payload → NoFragment payload
+  pub no-other-length : (tpdu : List ℕ) → Compared tpdu → Filled tpdu
+  pub every-built : (flow : InnerIpFlow) (sequence time : ℕ) → InRange flow sequence time
+      → (behind : List ℕ) → Bytes behind → Compared (buildOf flow sequence time ++ behind)
+  pub every-unjudged : (tpdu : List ℕ) → Bytes tpdu → NoFragment tpdu → ((v : IpVersion) → ReachesUdp v tpdu → ⊥)
+      → Compared tpdu
+  pub every-return : (messageType : ℕ) (payload : List ℕ) → Bytes payload → NoFragment payload → Filled payload
       → ComparedReturn messageType payload
-  pub every-echoed : (message : GtpuMessage) (payload : List ℕ) → Bytes payload → NoFragment payload
+  pub every-echoed : (message : GtpuMessage) (payload : List ℕ) → Bytes payload → NoFragment payload → Filled payload
       → ComparedMessage Echo message payload
   pub every-routed : (message : GtpuMessage) (payload : List ℕ) → length payload ≤ 65535
       → ComparedMessage Route message payload
@@ -151,6 +159,13 @@ DecodeMeasurementTpdu = (tpdu : List ℕ) → Compared tpdu
 abbrev pub DecodeFragment : Type 0
 DecodeFragment = (tpdu : List ℕ) → Bytes tpdu → IsIpv4 tpdu → Fragment tpdu
     → dueOfAFragment (outcomeBy tpduOf (measurement.«decode_measurement_tpdu» tpdu)) ≡ told (readOf tpdu)
+
+-- A padded packet, which is not compared, is read as the Rust reads a packet with the same addresses and the same UDP
+-- segment and no padding, which is compared.
+abbrev pub DecodePadded : Type 0
+DecodePadded = (v : IpVersion) (source destination segment padding tpdu whole : List ℕ)
+    → Carries v source destination segment padding tpdu → Carries v source destination segment [] whole
+    → Compared whole × (outcomeBy tpduOf (measurement.«decode_measurement_tpdu» whole) ≡ told (readOf tpdu))
 
 abbrev pub EchoTpdu : Type 0
 EchoTpdu = (tpdu : List ℕ) → Compared tpdu → (buffer : List ℕ) → NoneAdded (writingOf (echoOf tpdu) buffer .outcome)
@@ -351,6 +366,7 @@ pub record EqualsTheRust : Type 0 where
   pub «build_measurement_tpdu» : BuildMeasurementTpdu
   pub «decode_measurement_tpdu» : DecodeMeasurementTpdu
   pub decode-fragment : DecodeFragment
+  pub decode-padded : DecodePadded
   pub «echo_tpdu» : EchoTpdu
   pub «validate_error_indication_ies» : ValidateErrorIndicationIes
   pub «interval_ns» : IntervalNs

@@ -8,17 +8,25 @@ use lib.Dec.{eqb, ltb}
 use lib.ListN.{length}
 use Rattle.error.specs.Number.{invalidIpv4Ihl, ipv4Fragment, truncatedIpv4UdpPacket}
 use Rattle.error.specs.Outcome.{Outcome, refused, gives}
-use Rattle.field.specs.Field.{Bytes}
+use Rattle.field.specs.Field.{Bytes, field}
+use Rattle.measurement.specs.Layout.{udpLength}
+use Rattle.measurement.specs.declared.IpVersion.{IpVersion}
+use Rattle.measurement_reading.specs.Padding.{ReachesUdp, partIn}
 use Rattle.measurement_reading.specs.Read.{versionOf, isFragment}
 use Rattle.gtpu.specs.Message.{gtpuMsgGpdu}
 use Rattle.gtpu.specs.declared.GtpuMessage.{GtpuMessage}
 use Rattle.reflector_answer.specs.declared.ReflectorPolicy.{ReflectorPolicy}
 use Rattle.reflector_answer.specs.declared.ReflectorPolicy.the-variants.{Echo, Route}
 
--- Every T-PDU, whatever its bytes and its length, that is not an IPv4 fragment: "The comparison with the Rust excludes
--- these packets" (document 02, job 1).
+-- "limited to segments whose UDP length fills their part" (document 02, job 6): where a UDP part is judged, because no
+-- cause before 10 refuses the packet, the length in its UDP header is the part's own.
+abbrev pub Filled : List ℕ → Type 0
+Filled tpdu = (v : IpVersion) → ReachesUdp v tpdu → field 2 udpLength (partIn v tpdu) ≡ length (partIn v tpdu)
+
+-- Every T-PDU, whatever its bytes and its length, that is not an IPv4 fragment ("The comparison with the Rust excludes
+-- these packets", document 02, job 1) and whose UDP part is filled, if it has one.
 abbrev pub Compared : List ℕ → Type 0
-Compared tpdu = Bytes tpdu × (versionOf tpdu ≡ 4 → isFragment tpdu ≡ false)
+Compared tpdu = Bytes tpdu × (versionOf tpdu ≡ 4 → isFragment tpdu ≡ false) × Filled tpdu
 
 -- What is due of ours for a fragment, where the Rust says this of it: 1 to 7 come before 38, and everything else after
 -- it.

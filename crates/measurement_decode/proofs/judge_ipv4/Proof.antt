@@ -182,17 +182,17 @@ ipv4-address-sum-requires-2 c κs = search needs
 add-addresses : tie.Need-add-addresses
 add-addresses c = search needs
 
-sub-judge-ipv4-udp : tie.Need-sub-judge-ipv4-udp
-sub-judge-ipv4-udp c = search needs
+sub-judge-udp : tie.Need-sub-judge-udp
+sub-judge-udp c = search needs
 
-part-judge-ipv4-udp-start : tie.Need-part-judge-ipv4-udp-start
-part-judge-ipv4-udp-start c = search needs
+part-judge-udp-start : tie.Need-part-judge-udp-start
+part-judge-udp-start c = search needs
 
-part-judge-ipv4-udp-end : tie.Need-part-judge-ipv4-udp-end
-part-judge-ipv4-udp-end c = search needs
+part-judge-udp-end : tie.Need-part-judge-udp-end
+part-judge-udp-end c = search needs
 
-judge-ipv4-udp-requires : tie.Need-judge-ipv4-udp-requires
-judge-ipv4-udp-requires c κs = search needs
+judge-udp-requires : tie.Need-judge-udp-requires
+judge-udp-requires c κs = search needs
 
 returns-9 : tie.Need-returns-9
 unfolding ihl addressLength
@@ -206,7 +206,7 @@ returns-9 c =
     let w = e6 .before .before .before .before in
     let l = w .before .before .before in
     let p = l .before .before .before .before .args .tpdu .now in
-    c .judge-ipv4-udp .ensures (bytesAt 4 12 p) (bytesAt 4 16 p)
+    c .judge-udp .ensures (bytesAt 4 12 p) (bytesAt 4 16 p)
     (addresses V4 p 12 16 20 (x .ipv4-address-sum .result) (y .ipv4-address-sum2 .result) (omega arith) (omega arith) (x .ipv4-address-sum .ensures .0) (y .ipv4-address-sum2 .ensures .0))
     ∙ ap outcomeNumber (rest-ipv4 p (l .low-half .ensures .0) (w .read-u16 .ensures) (past-38 p (left-38 e7) (sym (f .is-fragment .ensures) ∙ e8 .if8 .left)))
 
@@ -242,8 +242,8 @@ judge-ipv4-spec =
     part-ipv4-address-sum-end-2
     ipv4-address-sum-requires-2
     add-addresses
-    sub-judge-ipv4-udp
-    part-judge-ipv4-udp-start
-    part-judge-ipv4-udp-end
-    judge-ipv4-udp-requires
+    sub-judge-udp
+    part-judge-udp-start
+    part-judge-udp-end
+    judge-udp-requires
     returns-9)

@@ -83,17 +83,17 @@ ipv6-address-sum-requires-2 c κs = search needs
 add-addresses : tie.Need-add-addresses
 add-addresses c = search needs
 
-sub-judge-ipv6-udp : tie.Need-sub-judge-ipv6-udp
-sub-judge-ipv6-udp c = search needs
+sub-judge-udp : tie.Need-sub-judge-udp
+sub-judge-udp c = search needs
 
-part-judge-ipv6-udp-start : tie.Need-part-judge-ipv6-udp-start
-part-judge-ipv6-udp-start c = search needs
+part-judge-udp-start : tie.Need-part-judge-udp-start
+part-judge-udp-start c = search needs
 
-part-judge-ipv6-udp-end : tie.Need-part-judge-ipv6-udp-end
-part-judge-ipv6-udp-end c = search needs
+part-judge-udp-end : tie.Need-part-judge-udp-end
+part-judge-udp-end c = search needs
 
-judge-ipv6-udp-requires : tie.Need-judge-ipv6-udp-requires
-judge-ipv6-udp-requires c κs = search needs
+judge-udp-requires : tie.Need-judge-udp-requires
+judge-udp-requires c κs = search needs
 
 returns-5 : tie.Need-returns-5
 unfolding addressLength
@@ -106,7 +106,7 @@ returns-5 c =
     let e2 = w .before in
     let e1 = e2 .before .before in
     let p = e1 .before .before .args .tpdu .now in
-    c .judge-ipv6-udp .ensures (bytesAt 16 8 p) (bytesAt 16 24 p)
+    c .judge-udp .ensures (bytesAt 16 8 p) (bytesAt 16 24 p)
     (addresses V6 p 8 24 40 (x .ipv6-address-sum .result) (y .ipv6-address-sum2 .result) (omega arith) (omega arith) (x .ipv6-address-sum .ensures .0) (y .ipv6-address-sum2 .ensures .0))
     ∙ ap outcomeNumber (rest-ipv6 p (w .read-u16 .ensures) (past-9 p (w .read-u16 .ensures) (left-9 e2) (e3 .if3 .left) (e4 .if4 .left)))
 
@@ -131,8 +131,8 @@ judge-ipv6-spec =
     part-ipv6-address-sum-end-2
     ipv6-address-sum-requires-2
     add-addresses
-    sub-judge-ipv6-udp
-    part-judge-ipv6-udp-start
-    part-judge-ipv6-udp-end
-    judge-ipv6-udp-requires
+    sub-judge-udp
+    part-judge-udp-start
+    part-judge-udp-end
+    judge-udp-requires
     returns-5)
