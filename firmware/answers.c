@@ -244,16 +244,19 @@ static void cut_packets(void)
     expect("IHL 4, 20 bytes", refusal(20), TESTKIT_INVALID_IPV4_IHL);
 }
 
-/* Gives the IPv4 T-PDU in `packet` these flags and this fragment offset, 16 bits in all, and a right header checksum. */
-static void set_flags(uint16_t flags)
+/* Sets a word of an IPv4 header and makes the header's checksum right. */
+static void set_header_word(uint8_t *header, size_t at, uint16_t word)
 {
-    packet[6] = (uint8_t)(flags >> 8);
-    packet[7] = (uint8_t)flags;
-    packet[10] = packet[11] = 0;
-    uint16_t sum = testkit_checksum(copy(packet, 20), 20);
-    packet[10] = (uint8_t)(sum >> 8);
-    packet[11] = (uint8_t)sum;
+    header[at] = (uint8_t)(word >> 8);
+    header[at + 1] = (uint8_t)word;
+    header[10] = header[11] = 0;
+    uint16_t sum = testkit_checksum(copy(header, 20), 20);
+    header[10] = (uint8_t)(sum >> 8);
+    header[11] = (uint8_t)sum;
 }
+
+/* Gives the IPv4 T-PDU in `packet` these flags and this fragment offset, 16 bits in all. */
+static void set_flags(uint16_t flags) { set_header_word(packet, 6, flags); }
 
 /* Fragments: by the flag, by the offset, or by both. The reserved bit and Don't Fragment make none. */
 static void fragments(void)
@@ -275,6 +278,36 @@ static void fragments(void)
     expect("a fragment with a UDP length of 0", refusal(52), TESTKIT_IPV4_FRAGMENT);
     packet[10] ^= 1;
     expect("a fragment with a wrong header checksum", refusal(52), TESTKIT_INVALID_IPV4_HEADER_CHECKSUM);
+}
+
+/* The T-PDU in `packet` as a switch pads it: the bytes behind it are counted by the IP header and not by UDP's. */
+static void padded_packets(uint8_t version)
+{
+    uint8_t padded[PACKET + 3], echo[PACKET];
+    size_t length = make(version, 5), udp = length - 32;
+    testkit_echo(copy(packet, length), length, out, PACKET);
+    memcpy(echo, out, length);
+    for (size_t padding = 0; padding <= 3; padding++) {
+        size_t all = length + padding;
+        memcpy(padded, packet, length);
+        memset(padded + length, 0x5A, padding);
+        if (version == 4)
+            set_header_word(padded, 2, (uint16_t)all);
+        else
+            padded[5] = (uint8_t)(32 + padding);
+        compare_testkit_written(
+            "echo, padded", testkit_echo(copy(padded, all), all, out, PACKET), written_as(0, length));
+        expect_bytes("the echo, padded", out, echo, length);
+        padded[length - 1] ^= 1;
+        compare_testkit_written(
+            "echo, padded and damaged", testkit_echo(copy(padded, all), all, out, PACKET),
+            written_as(TESTKIT_INVALID_UDP_CHECKSUM, 0));
+        padded[udp + 5] = (uint8_t)(33 + padding);
+        padded[udp + 6] = padded[udp + 7] = 0;
+        compare_testkit_written(
+            "echo, a UDP length past the part", testkit_echo(copy(padded, all), all, out, PACKET),
+            written_as(TESTKIT_INVALID_UDP_LENGTH, 0));
+    }
 }
 
 static void generator(void)
@@ -1079,6 +1112,8 @@ int main(int argc, char **argv)
     packets(6);
     cut_packets();
     fragments();
+    padded_packets(4);
+    padded_packets(6);
     generator();
     element_lists();
     open_sheet(&one);

@@ -371,9 +371,9 @@ static void measure_options(void)
     }
 }
 
-/* Packets with a cause that single bits do not show, since the checksum is judged before it. The UDP checksum covers
- * the whole part behind the IP header, so what one field loses another gets. Of an IPv4 header, two words that were 0
- * and add up to 0xFFFF leave the checksum right. */
+/* Packets with a cause that single bits do not show, since the checksum is judged before it: what the sum loses the
+ * source port gets. The UDP length counts twice in it, in the pseudo-header too, and says how many bytes it covers. Of
+ * an IPv4 header, two words that were 0 and add up to 0xFFFF leave the checksum right. */
 static void measure_hidden_causes(uint64_t probe)
 {
     size_t udp = version == 4 ? 20 : 40;
@@ -384,12 +384,11 @@ static void measure_hidden_causes(uint64_t probe)
             memcpy(word, in + udp + 8, 2);
             memcpy(in + udp + 8, in + udp + 10, 2);
             memcpy(in + udp + 10, word, 2);
-        } else if (cause == 1) { /* a probe of 23 bytes: the UDP length to the source port */
+        } else if (cause == 1) { /* a probe of 23 bytes, and its last byte as padding */
             in[udp + 5] -= 1;
-            in[udp + 1] += 1;
+            in[udp + 1] += 2 + in[udp + 31];
         } else if (cause == 2) { /* a UDP length of 7 */
             in[udp + 5] -= 25;
-            in[udp + 1] += 25;
         } else if (cause == 3) { /* a UDP checksum of 0: not verified in IPv4 */
             in[udp + 6] = in[udp + 7] = 0;
         } else { /* a fragment: More Fragments, and the rest of 0xFFFF as identification */

@@ -110,7 +110,7 @@
  */
 #define TESTKIT_VERSION_MAJOR 3
 #define TESTKIT_VERSION_MINOR 1
-#define TESTKIT_VERSION_PATCH 0
+#define TESTKIT_VERSION_PATCH 1
 #define TESTKIT_VERSION (TESTKIT_VERSION_MAJOR * 65536 + TESTKIT_VERSION_MINOR * 256 + TESTKIT_VERSION_PATCH)
 
 #ifdef __cplusplus
@@ -254,14 +254,14 @@ enum testkit_stack {
     TESTKIT_STACK_VALIDATE_ELEMENTS = 624,
     TESTKIT_STACK_RECORD_SENT = 240,
     TESTKIT_STACK_RECORD_SENT_PLAN = 288,
-    TESTKIT_STACK_RECORD_RECEIVED_TPDU = 328,
-    TESTKIT_STACK_RECORD_RECEIVED_TPDUS = 312,
+    TESTKIT_STACK_RECORD_RECEIVED_TPDU = 280,
+    TESTKIT_STACK_RECORD_RECEIVED_TPDUS = 248,
     TESTKIT_STACK_RECORD_RETURN_GTPU_DATAGRAM = 736,
     TESTKIT_STACK_REPORT = 140,
     TESTKIT_STACK_JUDGE_REPORT = 48,
     TESTKIT_STACK_REGISTER_SESSION = 184,
     TESTKIT_STACK_REMOVE_SESSION = 128,
-    TESTKIT_STACK_HANDLE_DATAGRAM = 792
+    TESTKIT_STACK_HANDLE_DATAGRAM = 752
 };
 
 /* The version of the archive. A program compares it with TESTKIT_VERSION when it starts. */
@@ -311,9 +311,9 @@ struct testkit_written testkit_build(
     uint8_t *out, size_t out_length);
 
 /*
- * Writes the echo of a T-PDU: source and destination exchanged, address and port, the probe kept, IPv4 options and
- * payload past the probe left out. `tpdu` is the packet as it came, from its IP header on; bytes past the length that
- * it claims are ignored. `out` gets 52 or 72 bytes; TESTKIT_IPV6_TPDU_BYTES are always enough.
+ * Writes the echo of a T-PDU: source and destination exchanged, address and port, the probe kept, IPv4 options, payload
+ * past the probe and padding left out. `tpdu` is the packet as it came, from its IP header on; bytes past the length
+ * that it claims are ignored. `out` gets 52 or 72 bytes; TESTKIT_IPV6_TPDU_BYTES are always enough.
  * Refuses as testkit_decode, then by TESTKIT_OUTPUT_TOO_SHORT (15).
  */
 struct testkit_written testkit_echo(const uint8_t *tpdu, size_t tpdu_length, uint8_t *out, size_t out_length);
@@ -337,8 +337,10 @@ struct testkit_tpdu {
  *   TESTKIT_IPV4_FRAGMENT (38), TESTKIT_INVALID_UDP_LENGTH (10), TESTKIT_INVALID_UDP_CHECKSUM (12);
  * of IPv6,
  *   TESTKIT_TRUNCATED_IPV6_UDP_PACKET (8), TESTKIT_PAYLOAD_IS_NOT_UDP (6), TESTKIT_INVALID_IPV6_PAYLOAD_LENGTH (9),
- *   TESTKIT_IPV6_UDP_CHECKSUM_IS_ZERO (11), TESTKIT_INVALID_UDP_CHECKSUM (12), TESTKIT_INVALID_UDP_LENGTH (10);
+ *   TESTKIT_INVALID_UDP_LENGTH (10), TESTKIT_IPV6_UDP_CHECKSUM_IS_ZERO (11), TESTKIT_INVALID_UDP_CHECKSUM (12);
  * then, of both, TESTKIT_TRUNCATED_MEASUREMENT_HEADER (13), TESTKIT_MEASUREMENT_MAGIC_MISMATCH (14).
+ * 12 and 13 count as many bytes as the UDP length says. What the IP header's length has beyond these is padding, and is
+ * ignored.
  */
 struct testkit_tpdu testkit_decode(const uint8_t *tpdu, size_t tpdu_length, uint8_t src[16], uint8_t dst[16]);
 

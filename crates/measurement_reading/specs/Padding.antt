@@ -67,8 +67,8 @@ SumRight v tpdu =
     let part : List ℕ = partIn v tpdu in
     ((v ≡ V4) × (field 2 6 part ≡ 0)) ⊎ ((field 2 6 part ≡ 0 → ⊥) × Sums v tpdu)
 
--- What is read: RFC 768 has the ports in bytes 0 to 3; behind the UDP header's 8 bytes and the tag's 8 the probe has its
--- sequence and its send time.
+-- What is read: RFC 768 has the ports in bytes 0 to 3; behind the UDP header's 8 bytes and the tag's 8 the probe has
+-- its sequence and its send time.
 abbrev pub valuesIn : IpVersion → List ℕ → DecodedTpdu
 valuesIn v tpdu =
     let part : List ℕ = partIn v tpdu in

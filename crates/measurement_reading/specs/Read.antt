@@ -39,8 +39,8 @@ lengthWrong part = ltb (field 2 udpLength part) udpHeaderBytes || ltb (length pa
 unfoldable pub covered : List ℕ → List ℕ
 covered part = take (field 2 udpLength part) part
 
--- "take the UDP header's own length for the pseudo-header, and the sum over that many bytes" (document 02, job 6, of RFC
--- 768 and RFC 8200, section 8.1): that sum is not right.
+-- "RFC 768 and RFC 8200 section 8.1 take the UDP header's own length for the pseudo-header, and the sum over that many
+-- bytes" (document 02, job 6): that sum is not right.
 unfoldable pub sumWrong : IpVersion → List ℕ → List ℕ → List ℕ → Bool
 sumWrong v source destination part =
     not (eqb (checksumOf (pseudoHeader v source destination (field 2 udpLength part) ++ covered part)) 0)

@@ -3,7 +3,7 @@
 // side by side, and by running both (compare/).
 ghost use Rattle.rust_reference.specs.Claims.{EqualsTheRust};
 
-// Carries demand 2: where no added refusal is due, and what is read is no fragment and has no padding, the results equal
+// Carries demand 2: where no added refusal is due and what is read is compared (specs/Compared.antt), the results equal
 // the Rust's.
 pub fn equals_the_rust()
     ensures { λ _. ⌜ EqualsTheRust ⌝ }

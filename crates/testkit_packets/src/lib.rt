@@ -27,12 +27,12 @@ pub const VERSION_MAJOR: u32 = 3;
 
 pub const VERSION_MINOR: u32 = 1;
 
-pub const VERSION_PATCH: u32 = 0;
+pub const VERSION_PATCH: u32 = 1;
 
 // The version in one number.
 #[no_mangle]
 pub extern "C" fn testkit_version() -> u32
-    ensures { λ r. ⌜ r ≡ versionOf 3 1 0 ⌝ }
+    ensures { λ r. ⌜ r ≡ versionOf 3 1 1 ⌝ }
 {
     VERSION_MAJOR * 65536 + VERSION_MINOR * 256 + VERSION_PATCH
 }
