@@ -223,11 +223,14 @@ static void packets(uint8_t version)
         written_as(TESTKIT_OUTPUT_TOO_SHORT, 0));
 }
 
-/* The number by which the first `length` bytes of `packet` are refused. */
-static uint8_t refusal(size_t length)
+/* The number by which a T-PDU is refused, or 0. */
+static uint8_t number_of(const uint8_t *tpdu, size_t length)
 {
-    return testkit_decode(copy(packet, length), length, read_src, read_dst).number;
+    return testkit_decode(copy(tpdu, length), length, read_src, read_dst).number;
 }
+
+/* That of the first `length` bytes of `packet`. */
+static uint8_t refusal(size_t length) { return number_of(packet, length); }
 
 /* A packet that ends before its UDP header does, and an IHL below 5, be the packet cut or not. */
 static void cut_packets(void)
@@ -244,15 +247,18 @@ static void cut_packets(void)
     expect("IHL 4, 20 bytes", refusal(20), TESTKIT_INVALID_IPV4_IHL);
 }
 
+static void set_word(uint8_t *bytes, uint16_t word)
+{
+    bytes[0] = (uint8_t)(word >> 8);
+    bytes[1] = (uint8_t)word;
+}
+
 /* Sets a word of an IPv4 header and makes the header's checksum right. */
 static void set_header_word(uint8_t *header, size_t at, uint16_t word)
 {
-    header[at] = (uint8_t)(word >> 8);
-    header[at + 1] = (uint8_t)word;
-    header[10] = header[11] = 0;
-    uint16_t sum = testkit_checksum(copy(header, 20), 20);
-    header[10] = (uint8_t)(sum >> 8);
-    header[11] = (uint8_t)sum;
+    set_word(header + at, word);
+    set_word(header + 10, 0);
+    set_word(header + 10, testkit_checksum(copy(header, 20), 20));
 }
 
 /* Gives the IPv4 T-PDU in `packet` these flags and this fragment offset, 16 bits in all. */
@@ -280,6 +286,24 @@ static void fragments(void)
     expect("a fragment with a wrong header checksum", refusal(52), TESTKIT_INVALID_IPV4_HEADER_CHECKSUM);
 }
 
+/* A padded T-PDU with its UDP length one more and one less, the sum kept right by the source port. The length counts
+ * twice in the sum, in the pseudo-header too; a byte more is the upper half of a word, a byte less a lower half. */
+static void other_udp_lengths(uint8_t version, const uint8_t *padded, size_t all)
+{
+    uint8_t other[PACKET + 3];
+    size_t udp = version == 4 ? 20 : 40;
+    memcpy(other, padded, all);
+    other[udp + 5] = 33;
+    set_word(other + udp, (uint16_t)(1001 + 0xFFFF - 2 - 256 * padded[udp + 32]));
+    expect("a UDP length of 33", number_of(other, all), TESTKIT_ACCEPTED);
+    other[udp + 32] ^= 1;
+    expect("a UDP length of 33, damaged", number_of(other, all), TESTKIT_INVALID_UDP_CHECKSUM);
+    memcpy(other, padded, all);
+    other[udp + 5] = 31;
+    set_word(other + udp, (uint16_t)(1001 + 2 + padded[udp + 31]));
+    expect("a UDP length of 31", number_of(other, all), TESTKIT_TRUNCATED_MEASUREMENT_HEADER);
+}
+
 /* The T-PDU in `packet` as a switch pads it: the bytes behind it are counted by the IP header and not by UDP's. */
 static void padded_packets(uint8_t version)
 {
@@ -295,9 +319,12 @@ static void padded_packets(uint8_t version)
             set_header_word(padded, 2, (uint16_t)all);
         else
             padded[5] = (uint8_t)(32 + padding);
+        memset(out, 0xA5, PACKET);
         compare_testkit_written(
             "echo, padded", testkit_echo(copy(padded, all), all, out, PACKET), written_as(0, length));
         expect_bytes("the echo, padded", out, echo, length);
+        if (padding > 0)
+            other_udp_lengths(version, padded, all);
         padded[length - 1] ^= 1;
         compare_testkit_written(
             "echo, padded and damaged", testkit_echo(copy(padded, all), all, out, PACKET),

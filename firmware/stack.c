@@ -371,9 +371,9 @@ static void measure_options(void)
     }
 }
 
-/* Packets with a cause that single bits do not show, since the checksum is judged before it: what the sum loses the
- * source port gets. The UDP length counts twice in it, in the pseudo-header too, and says how many bytes it covers. Of
- * an IPv4 header, two words that were 0 and add up to 0xFFFF leave the checksum right. */
+/* Packets with a cause that single bits do not show: for most of them the checksum is judged before it, so what the sum
+ * loses the source port gets. The UDP length counts twice in it, in the pseudo-header too, and says how many bytes it
+ * covers. Of an IPv4 header, two words that were 0 and add up to 0xFFFF leave the checksum right. */
 static void measure_hidden_causes(uint64_t probe)
 {
     size_t udp = version == 4 ? 20 : 40;
@@ -387,7 +387,7 @@ static void measure_hidden_causes(uint64_t probe)
         } else if (cause == 1) { /* a probe of 23 bytes, and its last byte as padding */
             in[udp + 5] -= 1;
             in[udp + 1] += 2 + in[udp + 31];
-        } else if (cause == 2) { /* a UDP length of 7 */
+        } else if (cause == 2) { /* a UDP length of 7, which is judged before the checksum */
             in[udp + 5] -= 25;
         } else if (cause == 3) { /* a UDP checksum of 0: not verified in IPv4 */
             in[udp + 6] = in[udp + 7] = 0;

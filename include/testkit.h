@@ -339,8 +339,8 @@ struct testkit_tpdu {
  *   TESTKIT_TRUNCATED_IPV6_UDP_PACKET (8), TESTKIT_PAYLOAD_IS_NOT_UDP (6), TESTKIT_INVALID_IPV6_PAYLOAD_LENGTH (9),
  *   TESTKIT_INVALID_UDP_LENGTH (10), TESTKIT_IPV6_UDP_CHECKSUM_IS_ZERO (11), TESTKIT_INVALID_UDP_CHECKSUM (12);
  * then, of both, TESTKIT_TRUNCATED_MEASUREMENT_HEADER (13), TESTKIT_MEASUREMENT_MAGIC_MISMATCH (14).
- * 12 and 13 count as many bytes as the UDP length says. What the IP header's length has beyond these is padding, and is
- * ignored.
+ * 12 and 13 look only at as many bytes as the UDP length says. What the IP header counts beyond these is padding, and
+ * is ignored.
  */
 struct testkit_tpdu testkit_decode(const uint8_t *tpdu, size_t tpdu_length, uint8_t src[16], uint8_t dst[16]);
 

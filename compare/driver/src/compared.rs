@@ -77,6 +77,10 @@ fn is_refused_before_udp(tpdu: &[u8]) -> bool {
 /// has it is not compared.
 pub const NOT_COMPARED: &[u8] = &[IPV4_FRAGMENT];
 
+/// The number of a cause that the Rust judges and that no compared T-PDU has: a UDP length that fills its
+/// part is neither under 8 nor past the part.
+pub const NEVER_COMPARED: &[u8] = &[INVALID_UDP_LENGTH];
+
 /// `dueOfAFragment`: the number by which ours has to refuse a fragment, where the Rust's reader
 /// answers `rust`, 0 if it reads it. 1 to 7 are judged before 38, and everything else after it.
 fn due_of_a_fragment(rust: u8) -> u8 {

@@ -6,9 +6,9 @@ use std::collections::{BTreeMap, BTreeSet};
 
 use testkit_open::traffic::TrafficPlan;
 
-use crate::compared::{compared, told_apart};
+use crate::compared::{compared, told_apart, NEVER_COMPARED};
 use crate::gtpu::any_elements;
-use crate::numbers::{in_the_rust, INVALID_UDP_LENGTH};
+use crate::numbers::in_the_rust;
 use crate::observer::{any_call, any_contents, Call};
 use crate::ours::{Values, DIRTY_ADDRESS};
 use crate::ours_traffic::{Counts, Noted, Report, RunSheet};
@@ -53,8 +53,8 @@ pub struct Sample {
 ///
 /// # Panics
 ///
-/// If a number for a cause at which the Rust refuses is not among the answers of all of it, but for 10:
-/// a T-PDU that has it is not compared, since its UDP length does not fill its part.
+/// If a number for a cause at which the Rust refuses is not among the answers of all of it, but for those
+/// that no compared T-PDU has.
 pub fn sample(seed: u64, first: u8) -> Sample {
     let mut sample = Sample {
         seed,
@@ -80,7 +80,7 @@ pub fn sample(seed: u64, first: u8) -> Sample {
     sample.draw(HANDLE_DATAGRAM, 4, 6, draw_handle);
     if first == 0 {
         let mut due = in_the_rust();
-        due.remove(&INVALID_UDP_LENGTH);
+        due.retain(|number| !NEVER_COMPARED.contains(number));
         due.insert(0);
         let numbers: BTreeSet<u8> = sample.seen.keys().map(|&(_, number, _)| number).collect();
         assert_eq!(numbers, due, "the numbers of the sample");

@@ -159,7 +159,7 @@ fn each_word(packet: &[u8], each: &mut impl FnMut(&[u8])) {
 }
 
 /// Every length of the packet with every length of UDP, from 0 to beyond the packet's own, the
-/// checksums made right as the RFCs have it and as the Rust has it.
+/// checksums made right as the RFCs have it and as the Rust has it; and then with a wrong UDP checksum.
 fn each_two_lengths(packet: &[u8], each: &mut impl FnMut(&[u8])) {
     let most = packet.len() as u16 + 2;
     for length in 0..=most {
@@ -171,6 +171,9 @@ fn each_two_lengths(packet: &[u8], each: &mut impl FnMut(&[u8])) {
                 sum_again(&mut changed, covered);
                 each(&changed);
             }
+            let place = part_at(packet) + 6;
+            changed[place] ^= 1;
+            each(&changed);
         }
     }
 }

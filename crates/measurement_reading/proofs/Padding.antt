@@ -142,7 +142,7 @@ module _ (segment padding : List ℕ) (has-header : 8 ≤ length segment) (whole
   field-same : (at : ℕ) → at + 2 ≤ length segment → field 2 at u ≡ field 2 at segment
   field-same at h = ap valueOf (in-front 2 at h)
 
-  udp-length : field 2 4 u ≡ length segment
+  pub udp-length : field 2 4 u ≡ length segment
   udp-length = field-same 4 (omega arith) ∙ whole
 
   length-same : lengthWrong u ≡ lengthWrong segment
@@ -187,6 +187,8 @@ all-padding-ignored v source destination segment padding other p q c d =
 pub padding-examples : PaddingExamples
 unfolding sumOf folding foldOf checksumOf pseudoHeader measurementMagic padded readOf tpduCauses ihl isFragment ipv4Causes readIpv4 ipv6Causes readIpv6 readUdp readProbe udpCauses probeCauses sumWrong covered lengthWrong payload firstCause
 padding-examples = record {
+  other-sums-4 = record { whole-part = refl; last-word = refl };
+  other-sums-6 = record { whole-part = refl; last-word = refl };
   even-4 = refl;
   odd-4 = refl;
   unsummed-4 = refl;

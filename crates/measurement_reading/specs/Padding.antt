@@ -83,9 +83,9 @@ valuesIn v tpdu =
       measurement = record { sequence = field 8 16 part; «send_timestamp_ns» = field 8 24 part };
     }
 
--- Every answer, where a UDP part is judged. One of these six always holds and no two do, so the order is 10, 11, 12,
--- 13, 14 in both versions, but for 11 in IPv4. "13 counts only the bytes within the UDP length": the UDP header has 8
--- and the probe 24, which begins with the tag "OPCDPTK1".
+-- Every answer, where a UDP part is judged. Of these six cases exactly one is a packet's, so the order is 10, 11, 12,
+-- 13, 14 in both versions, but that IPv4 has no 11. "13 counts only the bytes within the UDP length": the UDP header
+-- has 8 and the probe 24, which begins with the tag "OPCDPTK1".
 pub record AnswerByRfcs (v : IpVersion) (tpdu : List ℕ) : Type 0 where
   pub bad-length : (LengthRight (partIn v tpdu) → ⊥) → readOf tpdu ≡ refused 10
   pub no-checksum : LengthRight (partIn v tpdu) → v ≡ V6 → field 2 6 (partIn v tpdu) ≡ 0 → readOf tpdu ≡ refused 11
@@ -156,10 +156,17 @@ exampleOf v source destination = record {
   measurement = record { sequence = 7; «send_timestamp_ns» = 1000000 };
 }
 
--- The IPv4 checksums are 0x6f83, 0x7080 and 0x6fc5 over 32, 33 and 31 bytes, each with that length, 0x6f92 over the
--- whole part with the length 34, and 0x6f92 again over 33 bytes with the padding byte behind them in the last word;
--- those of IPv6 are 0x8981, 0x8a7e, 0x89c3, 0x8990 and 0x8990.
+-- Where the sum is right over other bytes: over the whole part, with its length, and over 33 bytes with the padding
+-- byte behind them in the last word.
+pub record OtherSums (v : IpVersion) (source destination : List ℕ) (checksum : ℕ) : Type 0 where
+  pub whole-part : Verifies (pseudoHeader v source destination 34 ++ partOf34 32 checksum)
+  pub last-word : Verifies (pseudoHeader v source destination 33 ++ partOf34 33 checksum)
+
+-- The IPv4 checksums over 32, 33 and 31 bytes, each with that length, are 0x6f83, 0x7080 and 0x6fc5, and 0x6f92 is the
+-- one of `OtherSums`; those of IPv6 are 0x8981, 0x8a7e, 0x89c3 and 0x8990.
 pub record PaddingExamples : Type 0 where
+  pub other-sums-4 : OtherSums V4 (10 ∷ 0 ∷ 0 ∷ 1 ∷ []) (10 ∷ 0 ∷ 0 ∷ 2 ∷ []) 0x6f92
+  pub other-sums-6 : OtherSums V6 (0xfd ∷ replicate 14 0 ++ (1 ∷ [])) (0xfd ∷ replicate 14 0 ++ (2 ∷ [])) 0x8990
   pub even-4 : readOf (padded4 32 0x6f83) ≡ gives (exampleOf V4 (10 ∷ 0 ∷ 0 ∷ 1 ∷ []) (10 ∷ 0 ∷ 0 ∷ 2 ∷ []))
   pub odd-4 : readOf (padded4 33 0x7080) ≡ readOf (padded4 32 0x6f83)
   pub unsummed-4 : readOf (padded4 32 0) ≡ readOf (padded4 32 0x6f83)

@@ -1,7 +1,7 @@
--- Reading a T-PDU: document 01, leaf 4. Each cause of refusal is a row, and the rows stand in the order of that leaf:
--- "IPv4 3, 4, 5, 6, 7, 10, 12, 13, 14; IPv6 8, 6, 9, 11, 12, 10, 13, 14. Number 1, then 2, come before both."
--- Document 02 has 39 "directly after 4" (job 3) and 38 "directly after 7" (job 1), and "In IPv6 the order becomes 10,
--- 11, 12" (job 6).
+-- Reading a T-PDU: document 01, leaf 4. Each cause of refusal is a row, and the rows stand in the order of that leaf,
+-- "IPv4 3, 4, 5, 6, 7, 10, 12, 13, 14; IPv6 8, 6, 9, 11, 12, 10, 13, 14. Number 1, then 2, come before both.", as
+-- document 02 has changed it: 39 stands "directly after 4" (job 3) and 38 "directly after 7" (job 1), and "In IPv6 the
+-- order becomes 10, 11, 12" (job 6).
 use Prim.Native.Nat.{ℕ, _+_, _-_, _*_, _/_, _%_, _^_}
 use mathlib.Core.List.{List, [], _∷_, _++_}
 use mathlib.Core.Bool.{Bool, true, false, not, _||_, _&&_}

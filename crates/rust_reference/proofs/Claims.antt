@@ -5,7 +5,7 @@ use Rattle.rust_reference.proofs.Compared.{all-compared, added-is-ours}
 use Rattle.rust_reference.proofs.Building.{encoded, build}
 use Rattle.rust_reference.proofs.Capacity.{new-multi}
 use Rattle.rust_reference.proofs.Checksums.{of-parts}
-use Rattle.rust_reference.proofs.Decoding.{decoded, decoded-fragment, decoded-padded}
+use Rattle.rust_reference.proofs.Decoding.{decoded, decoded-fragment, decoded-padded, decoded-wrong-length, decoded-differs}
 use Rattle.rust_reference.proofs.Echoing.{turned-round, echoed}
 use Rattle.rust_reference.proofs.Elements.{validate}
 use Rattle.rust_reference.proofs.Generating.{interval-ns, generated}
@@ -29,6 +29,8 @@ equals-the-rust = record {
   «decode_measurement_tpdu» = decoded;
   decode-fragment = decoded-fragment;
   decode-padded = decoded-padded;
+  decode-wrong-length = decoded-wrong-length;
+  decode-differs = decoded-differs;
   «echo_tpdu» = echoed;
   «validate_error_indication_ies» = validate;
   «interval_ns» = interval-ns;

@@ -1,11 +1,11 @@
 -- Every T-PDU that is not a fragment and whose UDP length fills its part is compared, 39 as 4, and each other number as itself; and what is added is ours.
-use Prim.Native.Nat.{ℕ}
+use Prim.Native.Nat.{ℕ, _-_, _*_, _%_}
 use native.Mathlib.Omega.{arith}
 use mathlib.Core.Path.{_≡_, refl, sym, ap, _∙_}
-use mathlib.Core.List.{List, _++_}
+use mathlib.Core.List.{List, [], _∷_, _++_}
 use mathlib.Core.Logic.{inl, inr}
 use mathlib.Core.Bool.{Bool, true, false}
-use lib.ListN.{length}
+use lib.ListN.{length, drop, getD, length-append, length-take, length-drop}
 use borrow.Author.Tests.{ne-eqb}
 use Rattle.error.proofs.Tests.{true-not-false}
 use Rattle.field.specs.Field.{Bytes, field}
@@ -17,11 +17,11 @@ use Rattle.measurement.specs.declared.IpVersion.{IpVersion}
 use Rattle.measurement.specs.declared.IpVersion.the-variants.{V4, V6}
 use Rattle.measurement_packet.specs.Packet.{ipv4, ipv4Header, ipv6, ipHeader, udp, udpSegment, buildOf}
 use Rattle.measurement_packet.proofs.Built.{packet, packet-bytes}
-use Rattle.measurement_reading.specs.Padding.{ReachesUdp, partIn}
+use Rattle.measurement_reading.specs.Padding.{ReachesUdp, partIn, LengthRight, Carries}
 use Rattle.measurement_reading.specs.Read.{versionOf, isFragment}
 use Rattle.measurement_reading.proofs.Rows.{fragment-tested}
-use Rattle.measurement_reading.proofs.Fragments.{is-fragment}
-use Rattle.measurement_reading.proofs.Padding.{no-fragment}
+use Rattle.measurement_reading.proofs.Fragments.{is-fragment, length-is}
+use Rattle.measurement_reading.proofs.Padding.{no-fragment, udp-length}
 use Rattle.reflector_answer.specs.declared.ReflectorPolicy.{ReflectorPolicy}
 use Rattle.reflector_answer.specs.declared.ReflectorPolicy.the-variants.{Echo, SinkAndCount, Route}
 use Rattle.rust_reference.specs.Compared.{Filled, Compared, asTheRustTells}
@@ -69,11 +69,34 @@ every-built f s t g behind b = (
   built-filled (f .src) (f .dst) (f .«src_port») (f .«dst_port») s t behind (f .version),
 )
 
+no-padding : (v : IpVersion) (source destination segment padding tpdu : List ℕ) → Carries v source destination segment padding tpdu → Compared tpdu → padding ≡ []
+no-padding v source destination segment padding tpdu c compared = empty padding (omega (arith, same, length-append segment padding))
+  where
+    same : length segment ≡ length (segment ++ padding)
+    same = sym (udp-length segment padding (c .has-header) (c .udp-length)) ∙ rw (c .part-is) at (compared .2 v (c .reaches))
+
+    empty : (l : List ℕ) → length l ≡ 0 → l ≡ []
+    empty [] e = refl
+    empty (x ∷ l) e = absurd (omega arith)
+
+-- a part has 8 bytes or more
+length-right : (v : IpVersion) (tpdu : List ℕ) → ReachesUdp v tpdu → field 2 4 (partIn v tpdu) ≡ length (partIn v tpdu) → LengthRight (partIn v tpdu)
+length-right V4 tpdu (is-4, right, whole) fills =
+    let header = getD tpdu 0 0 % 16 * 4 in
+    let n = length-take (field 2 2 tpdu - header) (drop header tpdu) in
+    let m = length-drop header tpdu in
+    (omega (arith, fills, right .not-5, length-is tpdu, n, m), omega (arith, fills))
+length-right V6 tpdu right fills =
+    let n = length-take (field 2 4 tpdu) (drop 40 tpdu) in
+    let m = length-drop 40 tpdu in
+    (omega (arith, fills, right .not-9, n, m), omega (arith, fills))
+
 pub all-compared : WhatIsCompared
 all-compared = record {
   every-tpdu = compare-whole;
   no-fragment = λ tpdu c v f. true-not-false (sym (is-fragment tpdu (c .0) f) ∙ c .1 v);
-  no-other-length = λ tpdu c. c .2;
+  no-padding = no-padding;
+  no-wrong-length = λ v tpdu r bad c. bad (length-right v tpdu r (c .2 v r));
   every-built = every-built;
   every-unjudged = λ tpdu b n unjudged. compare-whole tpdu b n (λ v r. absurd (unjudged v r));
   every-return = λ messageType payload b n f is. compare-whole payload b n f;

@@ -13,8 +13,9 @@ use Rattle.error.proofs.Causes.{none, passes}
 use Rattle.error.proofs.Tests.{true-not-false, or-neither, and-right}
 use Rattle.field.specs.Field.{Bytes, bigEndian, valueOf, bytesAt, field}
 use Rattle.field.proofs.Fields.{bytes-take, bytes-drop, bytes-append, bytes-at, byte-of, value-injective, bytesAt-drop, front-bytes, same-as-itself}
-use Rattle.checksum.specs.Sum.{checksumOf}
+use Rattle.checksum.specs.Sum.{sumOf, folding, foldOf, checksumOf}
 use Rattle.checksum.proofs.Carries.{split}
+use Rattle.measurement.specs.Flow.{padded}
 use Rattle.measurement.specs.Pseudo.{pseudoHeader}
 use Rattle.measurement.specs.Probe.{measurementMagic}
 use Rattle.measurement.specs.declared.DecodedTpdu.{DecodedTpdu}
@@ -23,17 +24,17 @@ use Rattle.measurement.specs.declared.IpVersion.{IpVersion}
 use Rattle.measurement.specs.declared.IpVersion.the-variants.{V4, V6}
 use Rattle.measurement_reading.specs.Fragments.{HeaderRight}
 use Rattle.measurement_reading.specs.Padding.{Ipv6Right, ReachesUdp, partIn}
-use Rattle.measurement_reading.specs.Read.{payload, lengthWrong, sumWrong, probeCauses, unsummed, udpCauses, readProbe, readUdp, ihl, isFragment, ipv4Causes, readIpv4, ipv6Causes, readIpv6, readOf}
-use Rattle.measurement_reading.proofs.Rows.{onward4, onward6, tpdu-rows, row-1, past-1, row-2, past-2-ipv6, ipv4-not-empty, read-as-ipv4}
+use Rattle.measurement_reading.specs.Read.{payload, lengthWrong, covered, sumWrong, probeCauses, unsummed, udpCauses, readProbe, readUdp, ihl, isFragment, ipv4Causes, readIpv4, ipv6Causes, readIpv6, tpduCauses, readOf}
+use Rattle.measurement_reading.proofs.Rows.{length-right, onward4, onward6, tpdu-rows, row-1, past-1, row-2, past-2-ipv6, ipv4-not-empty, read-as-ipv4}
 use Rattle.measurement_reading.proofs.Accept.{verifies}
 use Rattle.measurement_reading.proofs.Fragments.{is-fragment, no-earlier-cause}
-use Rattle.measurement_reading.proofs.Padding.{length-fits, filled-sum, all-padding-ignored}
-use Rattle.rust_reference.specs.Claims.{NoFragment, DecodeMeasurementTpdu, DecodeFragment, DecodePadded}
+use Rattle.measurement_reading.proofs.Padding.{no-fragment, length-fits, filled-sum, all-padding-ignored}
+use Rattle.rust_reference.specs.Claims.{NoFragment, DecodeMeasurementTpdu, DecodeFragment, DecodePadded, DecodeWrongLength, DecodeDiffers}
 use Rattle.rust_reference.specs.Compared.{dueOfAFragment, told}
 use Rattle.rust_reference.specs.Error as error
 use Rattle.rust_reference.specs.Error.{Result, Ok, Err, UnsupportedIpVersion, InvalidPacket, returnIf, _>>=_, _>>_}
 use Rattle.rust_reference.specs.Number.{outcomeBy}
-use Rattle.rust_reference.specs.Values.{index, range, same, «u16_at»}
+use Rattle.rust_reference.specs.Values.{index, range, same, «u16_at», «wrapping_add»}
 use Rattle.rust_reference.specs.Answers.{tpduOf}
 use Rattle.rust_reference.specs.Measurement as rust
 use Rattle.rust_reference.proofs.Branches.{unless, row, two-rows, no-row, late, as-it-is}
@@ -173,24 +174,24 @@ rest6 src dst u = do
   measurement ← rust.decode (segment .payload)
   Ok (record { flow = rust.Ipv6 src dst (segment .src-port) (segment .dst-port); measurement = measurement })
 
-module _ (src dst u : List ℕ) (p : Bytes src) (q : Bytes dst) (b : Bytes u) (short : length u < 65536) (long : 8 ≤ length u) (fills : field 2 4 u ≡ length u) where
+module _ (src dst u : List ℕ) (p : Bytes src) (q : Bytes dst) (b : Bytes u) (short : length u < 65536) (long : 8 ≤ length u) (fills : lengthWrong u ≡ false → field 2 4 u ≡ length u) where
   udp4 : length src ≡ 4 → length dst ≡ 4 → outcomeBy tpduOf (rest4 src dst u) ≡ told (readUdp V4 src dst u)
   unfolding rest4 readUdp udpCauses readProbe
   udp4 h k =
       parsed tpduOf _ u _ _ long
       (λ right. row as-it-is tpduOf (not (eqb («u16_at» u 6) 0) && not (eqb (rust.«checksum_udp_ipv4_including_checksum» src dst u) 0)) _ 12 _ [] (readProbe V4 src dst u) refl
-      (ap₂ (λ (x : ℕ) (y : Bool). not (eqb x 0) && y) (u16-is u 6) (sum4-is src dst u p q b short fills h k))
+      (ap₂ (λ (x : ℕ) (y : Bool). not (eqb x 0) && y) (u16-is u 6) (sum4-is src dst u p q b short (fills right) h k))
       (λ c. probed tpduOf _ (payload u) (payload-bytes u b) _ (λ w. refl) ∙ ap told (passes (readProbe V4 src dst u) none))
       ∙ ap told (no-row 11 ((not (unsummed u) && sumWrong V4 src dst u ⇒ 12) ∷ []) (readProbe V4 src dst u) (and-right (unsummed u) false refl)))
 
   -- the Rust judges 10 last, but a length that fills its part is right
-  udp6 : length src ≡ 16 → length dst ≡ 16 → outcomeBy tpduOf (rest6 src dst u) ≡ told (readUdp V6 src dst u)
+  udp6 : field 2 4 u ≡ length u → length src ≡ 16 → length dst ≡ 16 → outcomeBy tpduOf (rest6 src dst u) ≡ told (readUdp V6 src dst u)
   unfolding rest6 readUdp udpCauses readProbe
-  udp6 h k =
-      let right = length-fits u (omega (arith, fills), omega (arith, fills)) in
+  udp6 filled h k =
+      let right = length-fits u (omega (arith, filled), omega (arith, filled)) in
       row as-it-is tpduOf (eqb («u16_at» u 6) 0) _ 11 _ _ _ refl (ap (λ (x : ℕ). eqb x 0) (u16-is u 6) ∙ sym (and-true (unsummed u)))
       (λ z. row as-it-is tpduOf (not (eqb (rust.«checksum_udp_ipv6_including_checksum» src dst u) 0)) _ 12 _ [] (readProbe V6 src dst u) refl
-      (sum6-is src dst u p q b short fills h k ∙ ap (λ (t : Bool). not t && sumWrong V6 src dst u) (sym z ∙ and-true (unsummed u)))
+      (sum6-is src dst u p q b short filled h k ∙ ap (λ (t : Bool). not t && sumWrong V6 src dst u) (sym z ∙ and-true (unsummed u)))
       (λ c. parsed tpduOf _ u [] (readProbe V6 src dst u) long
       (λ right. probed tpduOf _ (payload u) (payload-bytes u b) _ (λ w. refl) ∙ ap told (passes (readProbe V6 src dst u) none))
       ∙ ap told (sym (no-row 10 [] (readProbe V6 src dst u) right))))
@@ -252,7 +253,7 @@ module _ (p : List ℕ) (b : Bytes p) where
       let e : header - 0 ≡ header = omega arith in
       rw e (ap (λ (n : ℕ). not (eqb n 0)) (of-one (take header p) (bytes-take header p b) (omega (arith, length-take header p))))
 
-  read4 : HeaderRight (ihl p) (field 2 2 p) p → field 2 4 (partIn V4 p) ≡ length (partIn V4 p)
+  read4 : HeaderRight (ihl p) (field 2 2 p) p → (lengthWrong (partIn V4 p) ≡ false → field 2 4 (partIn V4 p) ≡ length (partIn V4 p))
       → outcomeBy tpduOf (rest4 (bytesAt 4 12 p) (bytesAt 4 16 p) part4) ≡ told (onward4 p)
   unfolding ihl
   read4 h fills =
@@ -293,7 +294,7 @@ module _ (p : List ℕ) (b : Bytes p) where
       test5 : ltb («u16_at» p 2) (header + 8) || ltb (length p) («u16_at» p 2) ≡ ltb (field 2 2 p) (ihl p * 4 + 8) || ltb (length p) (field 2 2 p)
       test5 = unfold ihl in rw (u16-is p 2)
 
-  of-whole : isFragment p ≡ false → (HeaderRight (ihl p) (field 2 2 p) p → field 2 4 (partIn V4 p) ≡ length (partIn V4 p))
+  of-whole : isFragment p ≡ false → (HeaderRight (ihl p) (field 2 2 p) p → lengthWrong (partIn V4 p) ≡ false → field 2 4 (partIn V4 p) ≡ length (partIn V4 p))
       → outcomeBy tpduOf (rust.«decode_ipv4_measurement» p) ≡ told (readIpv4 p)
   unfolding firstCause
   of-whole h fills = ipv4-read as-it-is (λ n l. refl) (λ right. read4 right (fills right) ∙ rw (h, firstCause))
@@ -319,7 +320,7 @@ module _ (p : List ℕ) (b : Bytes p) where
       let m = length-drop 40 p in
       rw (range-is p 8 16 (omega arith), range-is p 24 16 (omega arith), e)
       (udp6 (bytesAt 16 8 p) (bytesAt 16 24 p) (partIn V6 p) (bytes-at 16 8 p b) (bytes-at 16 24 p b)
-      (bytes-take (field 2 4 p) (drop 40 p) (bytes-drop 40 p b)) (omega (arith, u16-is p 4, u16-below p 4 b)) (omega (arith, u16-is p 4)) fills refl refl)
+      (bytes-take (field 2 4 p) (drop 40 p) (bytes-drop 40 p b)) (omega (arith, u16-is p 4, u16-below p 4 b)) (omega (arith, u16-is p 4)) (λ right. fills) fills refl refl)
 
   ipv6-read : (Ipv6Right p → field 2 4 (partIn V6 p) ≡ length (partIn V6 p)) → getD p 0 0 / 16 ≡ 6
       → outcomeBy tpduOf (rust.«decode_ipv6_measurement» p) ≡ told (readIpv6 p)
@@ -362,7 +363,7 @@ decoded p c =
     by h true e u f =
         let four = eqb-true (index p 0 / 16) 4 e in
         let whole = compared-whole p c four in
-        of-whole p (compared-bytes p c) whole (λ right. compared-filled p c V4 (four, no-earlier-cause p right, λ f. true-not-false (sym (is-fragment p (compared-bytes p c) f) ∙ whole)))
+        of-whole p (compared-bytes p c) whole (λ right l. compared-filled p c V4 (four, no-earlier-cause p right, λ f. true-not-false (sym (is-fragment p (compared-bytes p c) f) ∙ whole)))
         ∙ ap told (read-as-ipv4 p four)
     by h false e true f =
         let six = eqb-true (index p 0 / 16) 6 f in
@@ -385,3 +386,13 @@ decoded-padded v source destination segment padding p whole c d =
     not-a-fragment : (v : IpVersion) → ReachesUdp v whole → NoFragment whole
     not-a-fragment V4 r e = r .2
     not-a-fragment V6 r e = absurd (omega (arith, r .is-ipv6, e))
+
+pub decoded-wrong-length : DecodeWrongLength
+unfolding rust.«decode_measurement_tpdu»
+decoded-wrong-length p b (v, right, whole) bad =
+    rw (ne-eqb (length p) 0 (ipv4-not-empty p v), eq-eqb (index p 0 / 16) 4 v, rust.«decode_measurement_tpdu»)
+    (of-whole p b (no-fragment p b whole) (λ h fits. absurd (bad (length-right (partIn V4 p) fits))) ∙ ap told (read-as-ipv4 p v))
+
+pub decoded-differs : DecodeDiffers
+unfolding rust.«decode_measurement_tpdu» rust.«decode_ipv4_measurement» rust.«parse_udp_segment» rust.decode rust.«checksum_udp_ipv4_including_checksum» rust.«ipv4_pseudo» rust.checksum rust.«add_parts» rust.«add_part» «wrapping_add» rust.«while_carries» sumOf folding foldOf checksumOf pseudoHeader measurementMagic padded readOf tpduCauses ihl isFragment ipv4Causes readIpv4 readUdp readProbe udpCauses probeCauses sumWrong covered lengthWrong payload firstCause
+decoded-differs = record { refused-by-the-rust = refl; read-by-the-rust = refl }

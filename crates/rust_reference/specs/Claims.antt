@@ -21,10 +21,11 @@ use Rattle.measurement.specs.Flow.{reversedOf, InRange}
 use Rattle.measurement.specs.Answer.{writing, writingOf}
 use Rattle.measurement.specs.declared.InnerIpFlow.{InnerIpFlow}
 use Rattle.measurement.specs.declared.IpVersion.{IpVersion}
+use Rattle.measurement.specs.declared.IpVersion.the-variants.{V4}
 use Rattle.measurement.specs.declared.MeasurementHeader.{MeasurementHeader}
 use Rattle.measurement_packet.specs.Packet.{buildOf}
 use Rattle.measurement_reading.specs.Fragments.{IsIpv4, Fragment}
-use Rattle.measurement_reading.specs.Padding.{ReachesUdp, Carries}
+use Rattle.measurement_reading.specs.Padding.{ReachesUdp, partIn, LengthRight, Carries, padded4}
 use Rattle.measurement_reading.specs.Read.{readOf}
 use Rattle.measurement_damage.specs.Echo.{echoOf}
 use Rattle.plan.specs.Plan.{intervalOf, judgePlan}
@@ -91,14 +92,18 @@ NoneAdded o = (n : ℕ) → Added n → o ≡ refused n → ⊥
 abbrev pub NoFragment : List ℕ → Type 0
 NoFragment tpdu = IsIpv4 tpdu → Fragment tpdu → ⊥
 
--- Every T-PDU that is not an IPv4 fragment and whose UDP length fills its part, alone, in a message that returns and in
--- one that is echoed, and no other; so every built packet, whatever stands behind it, and every T-PDU that is refused
--- before its UDP part is judged. Every payload of at most 65,535 bytes in a message that is routed; every other
--- message, whatever its payload; 39 as 4, and each other of our numbers as itself.
+-- Compared is every T-PDU that is not an IPv4 fragment and whose UDP length fills its part, alone, in a message that
+-- returns and in one that is echoed: so every built packet, whatever stands behind it, and every T-PDU that is refused
+-- before its UDP part is judged. No fragment is, no padded packet, and none whose UDP length is under 8 or past its
+-- part. So is every payload of at most 65,535 bytes in a message that is routed, and every other message, whatever its
+-- payload. 39 is compared as 4, and each other of our numbers as itself.
 pub record WhatIsCompared : Type 0 where
   pub every-tpdu : (tpdu : List ℕ) → Bytes tpdu → NoFragment tpdu → Filled tpdu → Compared tpdu
   pub no-fragment : (tpdu : List ℕ) → Compared tpdu → NoFragment tpdu
-  pub no-other-length : (tpdu : List ℕ) → Compared tpdu → Filled tpdu
+  pub no-padding : (v : IpVersion) (source destination segment padding tpdu : List ℕ)
+      → Carries v source destination segment padding tpdu → Compared tpdu → padding ≡ []
+  pub no-wrong-length : (v : IpVersion) (tpdu : List ℕ) → ReachesUdp v tpdu → (LengthRight (partIn v tpdu) → ⊥)
+      → Compared tpdu → ⊥
   pub every-built : (flow : InnerIpFlow) (sequence time : ℕ) → InRange flow sequence time
       → (behind : List ℕ) → Bytes behind → Compared (buildOf flow sequence time ++ behind)
   pub every-unjudged : (tpdu : List ℕ) → Bytes tpdu → NoFragment tpdu → ((v : IpVersion) → ReachesUdp v tpdu → ⊥)
@@ -166,6 +171,18 @@ abbrev pub DecodePadded : Type 0
 DecodePadded = (v : IpVersion) (source destination segment padding tpdu whole : List ℕ)
     → Carries v source destination segment padding tpdu → Carries v source destination segment [] whole
     → Compared whole × (outcomeBy tpduOf (measurement.«decode_measurement_tpdu» whole) ≡ told (readOf tpdu))
+
+-- In IPv4 the Rust refuses a UDP length that is under 8 or past its part, which is not compared, by 10 as we do. In
+-- IPv6 it judges 11 and 12 first.
+abbrev pub DecodeWrongLength : Type 0
+DecodeWrongLength = (tpdu : List ℕ) → Bytes tpdu → ReachesUdp V4 tpdu → (LengthRight (partIn V4 tpdu) → ⊥)
+    → outcomeBy tpduOf (measurement.«decode_measurement_tpdu» tpdu) ≡ told (readOf tpdu)
+
+-- Where the two differ: packets of `PaddingExamples` that we read and refuse, and that the Rust refuses and reads.
+pub record DecodeDiffers : Type 0 where
+  pub refused-by-the-rust : outcomeBy tpduOf (measurement.«decode_measurement_tpdu» (padded4 32 0x6f83)) ≡ refused 12
+  pub read-by-the-rust : outcomeBy tpduOf (measurement.«decode_measurement_tpdu» (padded4 32 0x6f92))
+      ≡ readOf (padded4 32 0x6f83)
 
 abbrev pub EchoTpdu : Type 0
 EchoTpdu = (tpdu : List ℕ) → Compared tpdu → (buffer : List ℕ) → NoneAdded (writingOf (echoOf tpdu) buffer .outcome)
@@ -367,6 +384,8 @@ pub record EqualsTheRust : Type 0 where
   pub «decode_measurement_tpdu» : DecodeMeasurementTpdu
   pub decode-fragment : DecodeFragment
   pub decode-padded : DecodePadded
+  pub decode-wrong-length : DecodeWrongLength
+  pub decode-differs : DecodeDiffers
   pub «echo_tpdu» : EchoTpdu
   pub «validate_error_indication_ies» : ValidateErrorIndicationIes
   pub «interval_ns» : IntervalNs
