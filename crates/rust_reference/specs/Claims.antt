@@ -94,9 +94,9 @@ NoFragment tpdu = IsIpv4 tpdu → Fragment tpdu → ⊥
 
 -- Compared is every T-PDU that is not an IPv4 fragment and whose UDP length fills its part, alone, in a message that
 -- returns and in one that is echoed: so every built packet, whatever stands behind it, and every T-PDU that is refused
--- before its UDP part is judged. No fragment is, no padded packet, and none whose UDP length is under 8 or past its
--- part. So is every payload of at most 65,535 bytes in a message that is routed, and every other message, whatever its
--- payload. 39 is compared as 4, and each other of our numbers as itself.
+-- before its UDP part is judged. Compared are also every payload of at most 65,535 bytes in a message that is routed,
+-- and every other message, whatever its payload. Not compared is any fragment, any padded packet, and any packet whose
+-- UDP length is under 8 or past its part. 39 is compared as 4, and each other of our numbers as itself.
 pub record WhatIsCompared : Type 0 where
   pub every-tpdu : (tpdu : List ℕ) → Bytes tpdu → NoFragment tpdu → Filled tpdu → Compared tpdu
   pub no-fragment : (tpdu : List ℕ) → Compared tpdu → NoFragment tpdu
@@ -178,7 +178,7 @@ abbrev pub DecodeWrongLength : Type 0
 DecodeWrongLength = (tpdu : List ℕ) → Bytes tpdu → ReachesUdp V4 tpdu → (LengthRight (partIn V4 tpdu) → ⊥)
     → outcomeBy tpduOf (measurement.«decode_measurement_tpdu» tpdu) ≡ told (readOf tpdu)
 
--- Where the two differ: packets of `PaddingExamples` that we read and refuse, and that the Rust refuses and reads.
+-- Two packets of `PaddingExamples`: we read the first and refuse the second by 12, and the Rust does the reverse.
 pub record DecodeDiffers : Type 0 where
   pub refused-by-the-rust : outcomeBy tpduOf (measurement.«decode_measurement_tpdu» (padded4 32 0x6f83)) ≡ refused 12
   pub read-by-the-rust : outcomeBy tpduOf (measurement.«decode_measurement_tpdu» (padded4 32 0x6f92))
