@@ -10,3 +10,4 @@ pub mod Attained
 pub mod Cases
 pub mod Batches
 pub mod Malformed
+pub mod Forecast

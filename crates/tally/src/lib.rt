@@ -6,6 +6,7 @@ ghost use Rattle.tally.specs.Cases.{EightCases};
 ghost use Rattle.tally.specs.Batches.{Batches};
 ghost use Rattle.tally.specs.Malformed.{MalformedFirst};
 ghost use Rattle.tally.specs.Generated.{PacketsReadBack};
+ghost use Rattle.tally.specs.Forecast.{ForecastIsTheGenerators};
 
 // Demand 3, whole.
 pub fn demand_3()
@@ -35,4 +36,9 @@ pub fn malformed_sheet_is_refused()
 // Each packet that a plan generates reads back, at its place, to its flow, sequence and time.
 pub fn every_packet_reads_back()
     ensures { λ _. ⌜ PacketsReadBack ⌝ }
+{}
+
+// The forecast's refusals and figures are the generator's.
+pub fn forecast_is_the_generators()
+    ensures { λ _. ⌜ ForecastIsTheGenerators ⌝ }
 {}

@@ -2,11 +2,15 @@
 use Prim.Native.Nat.{ℕ, _+_, _*_}
 use mathlib.Core.Path.{_≡_}
 use mathlib.Core.List.{List}
+use mathlib.Core.Bool.{true, false}
+use mathlib.Core.Option.{some, none}
 use Rattle.error.specs.Outcome.{Outcome, refused, gives}
 use Rattle.measurement.specs.Flow.{versionNumbered, versionNumber}
 use Rattle.measurement.specs.declared.InnerIpFlow.{InnerIpFlow}
 use Rattle.measurement_decode.specs.declared.TpduNumbers.{TpduNumbers}
 use Rattle.traffic.specs.Generate.{Generating}
+use Rattle.forecast.specs.Forecast.{Size}
+use Rattle.testkit_packets.specs.declared.TestkitPlanForecast.{TestkitPlanForecast}
 use Rattle.testkit_packets.specs.declared.TestkitTpdu.{TestkitTpdu}
 use Rattle.testkit_packets.specs.declared.TestkitWritten.{TestkitWritten}
 
@@ -27,6 +31,27 @@ flowOf version src dst sourcePort destinationPort = record {
 abbrev pub writtenNumbers : Outcome ℕ → TestkitWritten
 writtenNumbers (refused n) = record { number = n; bytes = 0 }
 writtenNumbers (gives bytes) = record { number = 0; bytes = bytes }
+
+-- 0 and the size of a plan, with zeros for a last packet that there is not; or a refusal's number and zeros.
+abbrev pub forecastNumbers : Outcome Size → TestkitPlanForecast
+forecastNumbers (refused n) =
+    record { number = n; «has_last» = false; bytes = 0; «last_sequence» = 0; «last_send_timestamp_ns» = 0 }
+forecastNumbers (gives size) = elim (size .last) [
+  | none ↦ record {
+    number = 0;
+    «has_last» = false;
+    bytes = size .bytes;
+    «last_sequence» = 0;
+    «last_send_timestamp_ns» = 0;
+  }
+  | some last ↦ record {
+    number = 0;
+    «has_last» = true;
+    bytes = size .bytes;
+    «last_sequence» = last .sequence;
+    «last_send_timestamp_ns» = last .«send_timestamp_ns»;
+  }
+]
 
 -- What reading answers, as C has it.
 abbrev pub testkitTpdu : TpduNumbers → TestkitTpdu

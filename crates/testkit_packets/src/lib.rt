@@ -1,6 +1,7 @@
 // The C interface to packets: each call under the prefix `testkit_`, on numbers and lent buffers, with the call's own
 // contract. A slice passes as a pointer and a length, an address as a pointer to its bytes, the generator's next
 // sequence as a pointer to it. A refusal is its number, and 0 is none.
+use forecast::PlanForecast;
 use gtpu::ElementsChecked;
 use measurement::InnerIpFlow;
 use measurement::Written;
@@ -13,26 +14,30 @@ ghost use Rattle.error.specs.Outcome.{outcomeNumber};
 ghost use Rattle.checksum.specs.Sum.{sumOf, foldOf, checksumOf};
 ghost use Rattle.checksum.specs.Claims.{Undamaged};
 ghost use Rattle.measurement.specs.Answer.{writtenMeans, writing, writingOf};
+ghost use Rattle.measurement.specs.Flow.{versionNumbered};
 ghost use Rattle.measurement_packet.specs.Packet.{buildOf};
 ghost use Rattle.measurement_reading.specs.Read.{readOf};
 ghost use Rattle.measurement_damage.specs.Echo.{echoOf};
 ghost use Rattle.measurement_decode.specs.Numbers.{tpduNumbers, sourceLeft, destinationLeft};
 ghost use Rattle.traffic.specs.Generate.{generateOf};
+ghost use Rattle.forecast.specs.Forecast.{forecastOf};
+ghost use Rattle.forecast.specs.Answer.{forecastMeans};
 ghost use Rattle.gtpu.specs.Element.{elementsOf};
 ghost use Rattle.testkit_packets.specs.Interface.{versionOf, flowOf, writtenNumbers, testkitTpdu, GeneratedStep};
+ghost use Rattle.testkit_packets.specs.Interface.{forecastNumbers};
 
 // The version of the interface. The major version rises if a program may have to be changed, otherwise the minor if
 // something was added, otherwise the patch (include/testkit.h).
 pub const VERSION_MAJOR: u32 = 3;
 
-pub const VERSION_MINOR: u32 = 1;
+pub const VERSION_MINOR: u32 = 2;
 
-pub const VERSION_PATCH: u32 = 1;
+pub const VERSION_PATCH: u32 = 0;
 
 // The version in one number.
 #[no_mangle]
 pub extern "C" fn testkit_version() -> u32
-    ensures { λ r. ⌜ r ≡ versionOf 3 1 1 ⌝ }
+    ensures { λ r. ⌜ r ≡ versionOf 3 2 0 ⌝ }
 {
     VERSION_MAJOR * 65536 + VERSION_MINOR * 256 + VERSION_PATCH
 }
@@ -53,6 +58,17 @@ pub struct TestkitTpdu {
     pub dst_port: u16,
     pub sequence: u64,
     pub send_timestamp_ns: u64,
+}
+
+// What a plan will be: 0 and its bytes, with the last packet's sequence and send time where it has one; or a refusal's
+// number and zeros.
+#[repr(C)]
+pub struct TestkitPlanForecast {
+    pub number: u8,
+    pub has_last: bool,
+    pub bytes: usize,
+    pub last_sequence: u64,
+    pub last_send_timestamp_ns: u64,
 }
 
 // A writer's answer in numbers.
@@ -178,6 +194,50 @@ pub extern "C" fn testkit_generate(
         dst_port: dst_port,
     };
     written_numbers(traffic::generate_from(next_sequence, flow, plan, out))
+}
+
+// A forecast in numbers.
+fn forecast_numbers(answer: PlanForecast) -> TestkitPlanForecast
+    ensures { λ r. ⌜ r ≡ forecastNumbers (forecastMeans answer) ⌝ }
+{
+    match answer {
+        PlanForecast::Packets(packets) => {
+            let last = packets.last;
+            TestkitPlanForecast {
+                number: 0,
+                has_last: true,
+                bytes: packets.bytes,
+                last_sequence: last.sequence,
+                last_send_timestamp_ns: last.send_timestamp_ns,
+            }
+        }
+        PlanForecast::Empty => TestkitPlanForecast {
+            number: 0,
+            has_last: false,
+            bytes: 0,
+            last_sequence: 0,
+            last_send_timestamp_ns: 0,
+        },
+        PlanForecast::Refused(number) => TestkitPlanForecast {
+            number: number,
+            has_last: false,
+            bytes: 0,
+            last_sequence: 0,
+            last_send_timestamp_ns: 0,
+        },
+    }
+}
+
+// `forecast::forecast`
+#[no_mangle]
+pub extern "C" fn testkit_forecast(
+    version: u8,
+    plan: TrafficPlan,
+    next_sequence: u64,
+) -> TestkitPlanForecast
+    ensures { λ r. ⌜ r ≡ forecastNumbers (forecastOf (versionNumbered version) plan «next_sequence») ⌝ }
+{
+    forecast_numbers(forecast::forecast(measurement::version_of(version), plan, next_sequence))
 }
 
 // `gtpu::validate_error_indication_ies`

@@ -16,7 +16,7 @@ ghost use Rattle.traffic.specs.Generate.{firstSequence, endToEnd, genera
 ghost use Rattle.traffic.specs.Fits.{Fits};
 
 // The length of each packet.
-fn packet_length(version: IpVersion) -> usize
+pub fn packet_length(version: IpVersion) -> usize
     ensures { λ r. ⌜ r ≡ ipHeaderLength version + 32 ⌝ }
 {
     match version {

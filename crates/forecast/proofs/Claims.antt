@@ -1,0 +1,67 @@
+-- The claims of specs/Claims.antt, proved.
+use Prim.Native.Nat.{ℕ, _+_, _-_, _*_, _≤_}
+use native.Mathlib.Omega.{arith}
+use native.Mathlib.Nat.{zero-mul}
+use mathlib.Core.Path.{_≡_, refl, sym, ap, _∙_}
+use mathlib.Core.List.{List}
+use mathlib.Core.Option.{some, none}
+use Rattle.error.specs.Outcome.{Outcome, refused, gives}
+use Rattle.error.proofs.Causes.{refused-gives}
+use Rattle.measurement.specs.declared.IpVersion.the-variants.{V6}
+use Rattle.measurement.specs.declared.MeasurementHeader.{MeasurementHeader}
+use Rattle.measurement_packet.specs.Packet.{ipHeaderLength}
+use Rattle.plan.specs.Plan.{rateCauses, timeAt, packetsFrom, packetsOf, leaving, causesAt, causesFrom, firstPlanCause, judgePackets, planCauses, judgePlan}
+use Rattle.plan.specs.Claims.{Acceptable, planOf}
+use Rattle.plan.proofs.Judged.{plan-accepted}
+use Rattle.plan.proofs.Claims.{accepted-if-acceptable, same-refusal, plan-numbers}
+use Rattle.forecast.specs.Forecast.{lastOf, sizeOf, forecastOf}
+use Rattle.forecast.specs.Claims.{LastOfPackets, NoPackets, ForecastNumbers, Examples}
+use Rattle.forecast.proofs.Size.{none-last, some-last, forecast-refused, forecast-accepted}
+
+pub last-of-packets : LastOfPackets
+last-of-packets version plan next a h =
+    let count : ℕ = plan .«packet_count» in
+    let e : next + (count - 1) ≡ next + count - 1 = omega arith in
+    sym (forecast-accepted plan next version _ (some-last plan next h) (accepted-if-acceptable plan next a))
+    ∙ ap (λ (s : ℕ). gives (record { bytes = count * (ipHeaderLength version + 32); last = some (record { sequence = s; «send_timestamp_ns» = timeAt plan (count - 1) }) })) e
+
+pub no-packets : NoPackets
+no-packets version plan next z p l =
+    let a : Acceptable plan next = record {
+      rate-positive = p;
+      rate-within = l;
+      count-within = omega arith;
+      sequences = λ k h. absurd (omega arith);
+      times = λ k h. absurd (omega arith);
+    } in
+    sym (forecast-accepted plan next version none (none-last plan next z) (accepted-if-acceptable plan next a))
+    ∙ ap (λ (n : ℕ). gives (record { bytes = n; last = none }))
+    (ap (λ (x : ℕ). x * (ipHeaderLength version + 32)) z ∙ zero-mul (ipHeaderLength version + 32))
+
+pub forecast-numbers : ForecastNumbers
+forecast-numbers version plan next n e = judged-as (judgePlan plan next .outcome) refl
+  where
+    judged-as : (o : Outcome (List MeasurementHeader)) → judgePlan plan next .outcome ≡ o → (16 ≤ n) × (n ≤ 20)
+    judged-as (refused m) q =
+        let same : n ≡ m = same-refusal (forecast-refused plan next version m q ∙ e) in
+        rw same (plan-numbers plan next m q)
+    judged-as (gives packets) q =
+        absurd (refused-gives (sym (forecast-accepted plan next version _ refl (plan-accepted plan next packets q .1) ∙ e)))
+
+pub examples : Examples
+unfolding forecastOf sizeOf lastOf ipHeaderLength judgePlan judgePackets planCauses rateCauses leaving firstPlanCause causesFrom causesAt packetsOf packetsFrom
+examples = record {
+  largest = last-of-packets V6 (planOf 2048 1000000000 0) 0 (record {
+    rate-positive = omega arith;
+    rate-within = omega arith;
+    count-within = omega arith;
+    sequences = λ k h. omega arith;
+    times = λ k h. omega arith;
+  }) (omega arith);
+  highest = refl;
+  too-many = refl;
+  tie = refl;
+  time-first = refl;
+  none-at-top = refl;
+  none-at-no-rate = refl;
+}

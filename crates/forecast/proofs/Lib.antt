@@ -1,0 +1,4 @@
+-- The size of a plan's packets, the code's answers, and the claims.
+pub mod Size
+pub mod Answers
+pub mod Claims

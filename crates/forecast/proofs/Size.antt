@@ -1,0 +1,50 @@
+-- The size of a plan's packets: how many they are, and the last of them.
+use Prim.Native.Nat.{ℕ, zero, suc, _+_, _-_, _*_, _<_}
+use native.Mathlib.Omega.{arith}
+use mathlib.Core.Path.{_≡_, refl, sym, ap, ap₂, _∙_}
+use mathlib.Core.Option.{Option, some, none}
+use lib.ListN.{length}
+use Rattle.error.specs.Outcome.{refused, gives}
+use Rattle.measurement.specs.declared.IpVersion.{IpVersion}
+use Rattle.measurement.specs.declared.MeasurementHeader.{MeasurementHeader}
+use Rattle.measurement_packet.specs.Packet.{ipHeaderLength}
+use Rattle.plan.specs.Plan.{packetAt, packetsFrom, packetsOf, Judged, judgePlan}
+use Rattle.plan.specs.Claims.{accepted}
+use Rattle.plan.specs.declared.TrafficPlan.{TrafficPlan}
+use Rattle.forecast.specs.Forecast.{lastOf, sizeOf, forecastOf}
+
+module _ (plan : TrafficPlan) (next : ℕ) where
+  packets-count : (n k : ℕ) → length (packetsFrom plan next n k) ≡ n
+  unfolding packetsFrom
+  packets-count zero k = refl
+  packets-count (suc n) k = ap suc (packets-count n (suc k))
+
+  last-from : (n k m : ℕ) → m ≡ k + n → lastOf (packetsFrom plan next (suc n) k) ≡ some (packetAt plan next m)
+  unfolding packetsFrom lastOf
+  last-from zero k m e = let same : k ≡ m = omega arith in ap (λ (x : ℕ). some (packetAt plan next x)) same
+  last-from (suc n) k m e = last-from n (suc k) m (omega arith)
+
+  pub none-last : plan .«packet_count» ≡ 0 → lastOf (packetsOf plan next) ≡ none
+  unfolding packetsOf packetsFrom lastOf
+  none-last e = ap (λ (n : ℕ). lastOf (packetsFrom plan next n 0)) e
+
+  pub some-last : 0 < plan .«packet_count» → lastOf (packetsOf plan next) ≡ some (packetAt plan next (plan .«packet_count» - 1))
+  unfolding packetsOf
+  some-last h =
+      let count : ℕ = plan .«packet_count» in
+      let e : count ≡ suc (count - 1) = omega arith in
+      ap (λ (n : ℕ). lastOf (packetsFrom plan next n 0)) e ∙ last-from (count - 1) 0 (count - 1) (omega arith)
+
+  module _ (version : IpVersion) where
+    pub forecast-refused : (n : ℕ) → judgePlan plan next .outcome ≡ refused n → refused n ≡ forecastOf version plan next
+    unfolding forecastOf
+    forecast-refused n e = rw (e, forecastOf)
+
+    pub forecast-accepted : (last : Option MeasurementHeader) → lastOf (packetsOf plan next) ≡ last → judgePlan plan next ≡ accepted plan next
+        → gives (record { bytes = plan .«packet_count» * (ipHeaderLength version + 32); last = last }) ≡ forecastOf version plan next
+    unfolding forecastOf sizeOf packetsOf
+    forecast-accepted last l e =
+        let given : judgePlan plan next .outcome ≡ gives (packetsOf plan next) = ap (λ (j : Judged). j .outcome) e in
+        let n : plan .«packet_count» ≡ length (packetsOf plan next) = sym (packets-count (plan .«packet_count») 0) in
+        ap₂ (λ (n : ℕ) (x : Option MeasurementHeader). gives (record { bytes = n * (ipHeaderLength version + 32); last = x })) n (sym l)
+        ∙ rw (given, forecastOf)

@@ -1,0 +1,4 @@
+-- How big a plan will be, what the call's answer means, and what is claimed of it.
+pub mod Forecast
+pub mod Answer
+pub mod Claims
