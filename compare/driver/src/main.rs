@@ -45,7 +45,7 @@ const PARTS: &[(&str, Run)] = &[
     ("echo of echo", SeedAndRounds(measurement::echoing_twice)),
     ("damage, every one of some packets", Long(measurement::damaged_packets)),
     ("damage, random packets", SeedAndRounds(measurement::damaged_random_packets)),
-    ("generator", SeedAndRounds(traffic::generating)),
+    ("generator and forecast", SeedAndRounds(traffic::generating)),
     ("runs of plans on one engine", SeedAndRounds(traffic::runs)),
     ("element walk", SeedAndRounds(gtpu::elements)),
     ("element walk, 256 KiB of stack", Fixed(gtpu::deep_lists)),

@@ -22,8 +22,7 @@ const DIRT: u8 = 0xa5;
 /// Of the damaged packets that both sides refuse to read, one in this many is echoed.
 const ECHO_SAMPLE: u64 = 64;
 
-/// Random and extreme probes into buffers of every kind. Ours is lent junk behind each IPv4
-/// address, and for IPv6 any version but 4.
+/// Random and extreme probes into buffers of every kind.
 pub fn building(seed: u64, rounds: u64) -> Part {
     let mut part = Part::new("calls");
     let mut random = Random::new(seed);
@@ -35,20 +34,27 @@ pub fn building(seed: u64, rounds: u64) -> Part {
             let due = probe.flow.source.is_ipv4().then_some(Word(0));
             part.case(&tpdu, checksums(&tpdu), (due, Word(0xffff)));
         }
-        let mut values = Values::from(probe);
-        if values.version == 4 {
-            values.src[4..].copy_from_slice(&random.bytes(12));
-            values.dst[4..].copy_from_slice(&random.bytes(12));
-        } else if random.below(2) == 0 {
-            values.version = match random.any_u8() {
-                4 => 6,
-                version => version,
-            };
-        }
+        let values = spoiled(&mut random, probe);
         let tpdu = build(probe);
         writes(&mut part, &tpdu, Ok(&tpdu), |out| ours::build(&values, out));
     }
     part
+}
+
+/// A probe as a call of ours is handed it, with what the call must not look at: bytes in an IPv4 address
+/// past the 4 that count; and any version but 4 for IPv6.
+pub fn spoiled(random: &mut Random, probe: Probe) -> Values {
+    let mut values = Values::from(probe);
+    if values.version == 4 {
+        values.src[4..].copy_from_slice(&random.bytes(12));
+        values.dst[4..].copy_from_slice(&random.bytes(12));
+    } else if random.below(2) == 0 {
+        values.version = match random.any_u8() {
+            4 => 6,
+            version => version,
+        };
+    }
+    values
 }
 
 /// Wild packets, read by both. Each cause of a refusal must have been met, in both versions. Where a

@@ -17,6 +17,7 @@ unsafe extern "C" {
         out: *mut u8,
         out_length: usize,
     ) -> Written;
+    fn testkit_forecast(version: u8, plan: Plan, next_sequence: u64) -> Forecast;
     fn testkit_validate_elements(payload: *const u8, length: usize) -> u8;
     fn testkit_record_sent(
         sequences: *mut u64,
@@ -124,6 +125,18 @@ struct Plan {
     packet_count: u64,
     target_rate_pps: u64,
     first_send_timestamp_ns: u64,
+}
+
+/// C's `struct testkit_plan_forecast`: 0 and the bytes of a plan, with what its last packet says where
+/// it has one; or the number of a refusal and zeros.
+#[repr(C)]
+#[derive(Debug, Clone, Copy, Default, PartialEq, Eq)]
+pub struct Forecast {
+    pub number: u8,
+    pub has_last: bool,
+    pub bytes: usize,
+    pub last_sequence: u64,
+    pub last_send_timestamp_ns: u64,
 }
 
 /// C's `struct testkit_counts`: what stands beside the columns of a run sheet.
@@ -238,6 +251,18 @@ impl Engine {
         Self {
             next_sequence: first_sequence,
         }
+    }
+
+    /// How big a plan will be that starts at the engine's next sequence. Of `first` only the version and
+    /// the send time count.
+    pub fn forecast(&self, first: &Values, packet_count: u64, target_rate_pps: u64) -> Forecast {
+        let plan = Plan {
+            packet_count,
+            target_rate_pps,
+            first_send_timestamp_ns: first.send_timestamp_ns,
+        };
+        // SAFETY: the call is handed values, and lent nothing.
+        unsafe { testkit_forecast(first.version, plan, self.next_sequence) }
     }
 
     /// Writes the packets of a plan, end to end, and moves the next sequence on. `first` is what

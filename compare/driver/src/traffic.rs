@@ -1,12 +1,14 @@
-//! Our generator against the Rust's: plans at every boundary, random ones, and runs of plans on one
-//! engine.
+//! Our generator and our forecast against the Rust's generator: plans at every boundary, random ones,
+//! and runs of plans on one engine. The Rust has no forecast: what is due of ours is the refusal, or the
+//! bytes and the last packet, of the plan that the Rust generates.
 
 use testkit_open::traffic::{GeneratedPacket, TrafficPlan};
 
 use crate::compared::Answer;
+use crate::measurement::spoiled;
 use crate::numbers::*;
 use crate::ours::{Values, Written};
-use crate::ours_traffic;
+use crate::ours_traffic::{self, Forecast};
 use crate::part::Part;
 use crate::random::Random;
 use crate::rust_side::measurement::{build, Probe};
@@ -113,8 +115,9 @@ fn near_top(random: &mut Random, count: u64, step: u64) -> Vec<u64> {
     starts
 }
 
-/// Holds the packets of a plan against what is due, in an output that is longer than need be, just
-/// long enough, one byte short and empty; where a refusal is due, in a long and an empty one.
+/// Holds a plan against what is due, forecast and generated: in an output that is longer than the
+/// forecast says, of just that length, one byte short and empty; where the forecast refuses, in a long
+/// and an empty one.
 fn generates(
     part: &mut Part,
     seen: &mut Seen,
@@ -124,19 +127,25 @@ fn generates(
     rate: u64,
 ) {
     let mut rust = Engine::with_first_sequence(first.sequence);
-    let packets = packets(&mut rust, first, count, rate);
-    let rooms = match &packets {
-        Ok(bytes) if bytes.is_empty() => vec![80, 0],
-        Ok(bytes) => vec![bytes.len() + 80, bytes.len(), bytes.len() - 1, 0],
-        Err(_) => vec![
+    let due = Due::of(due_packets(&mut rust, first, count, rate), &rust);
+    let fresh = ours_traffic::Engine::with_first_sequence(first.sequence);
+    let rooms = match fresh.forecast(&Values::from(first), count, rate) {
+        Forecast {
+            number: 0,
+            bytes: 0,
+            ..
+        } => vec![80, 0],
+        Forecast {
+            number: 0, bytes, ..
+        } => vec![bytes + 80, bytes, bytes - 1, 0],
+        _ => vec![
             count.min(MOST_PACKETS) as usize * build(first).len() + 80,
             0,
         ],
     };
-    let due = Due::of(packets, &rust);
     for room in rooms {
-        let mut ours = ours_traffic::Engine::with_first_sequence(first.sequence);
-        let plan = spoiled(random, first, count, rate);
+        let mut ours = fresh;
+        let plan = (spoiled(random, first), count, rate);
         generates_on(part, seen, &mut ours, plan, &due, room);
     }
 }
@@ -155,55 +164,73 @@ fn run(part: &mut Part, seen: &mut Seen, random: &mut Random) {
             (_, plan) => plan,
         };
         let before = rust.next_sequence();
-        let packets = packets(&mut rust, first, count, rate);
-        let room = match &packets {
-            Ok(bytes) => bytes.len().saturating_sub(random.below(4) / 3),
-            Err(_) => 80,
+        let packets = due_packets(&mut rust, first, count, rate);
+        let plan = (spoiled(random, first), count, rate);
+        let forecast = ours.forecast(&plan.0, count, rate);
+        let room = match forecast.number {
+            0 => forecast.bytes.saturating_sub(random.below(4) / 3),
+            _ => 80,
         };
-        if packets.as_ref().is_ok_and(|bytes| room < bytes.len()) {
+        if room < due_forecast(&packets).bytes {
             rust = Engine::with_first_sequence(before); // the Rust has no 15
         }
         let due = Due::of(packets, &rust);
-        let first = Probe {
-            sequence: before,
-            ..first
-        };
-        let plan = spoiled(random, first, count, rate);
         generates_on(part, seen, &mut ours, plan, &due, room);
     }
 }
 
-/// What is due of a plan: its packets end to end or a number, and the next sequence afterwards.
+/// What is due of a plan: its forecast; its packets end to end or a number; and the next sequence
+/// afterwards.
 struct Due {
+    forecast: Forecast,
     packets: Outcome<Vec<u8>>,
     next_sequence: u64,
 }
 
 impl Due {
-    fn of(packets: Outcome<Vec<u8>>, rust: &Engine) -> Self {
-        let next_sequence = rust.next_sequence();
+    /// By the packets that the Rust's engine generated, and the next sequence that it has now.
+    fn of(packets: Outcome<Vec<GeneratedPacket>>, rust: &Engine) -> Self {
         Self {
-            packets,
-            next_sequence,
+            forecast: due_forecast(&packets),
+            packets: packets
+                .map(|packets| packets.into_iter().flat_map(|packet| packet.tpdu).collect()),
+            next_sequence: rust.next_sequence(),
         }
+    }
+}
+
+/// The forecast that is due of a plan with these packets.
+fn due_forecast(packets: &Outcome<Vec<GeneratedPacket>>) -> Forecast {
+    let packets = match packets {
+        Err(number) => {
+            return Forecast {
+                number: *number,
+                ..Forecast::default()
+            }
+        }
+        Ok(packets) => packets,
+    };
+    let bytes = packets.iter().map(|packet| packet.tpdu.len()).sum();
+    match packets.last() {
+        None => Forecast {
+            bytes,
+            ..Forecast::default()
+        },
+        Some(last) => Forecast {
+            number: 0,
+            has_last: true,
+            bytes,
+            last_sequence: last.sequence,
+            last_send_timestamp_ns: last.send_timestamp_ns,
+        },
     }
 }
 
 /// A plan as our engine is handed it: what its first packet says, its count and its rate.
 type Plan = (Values, u64, u64);
 
-/// The plan, with bytes in its IPv4 addresses past the 4 that count.
-fn spoiled(random: &mut Random, first: Probe, count: u64, rate: u64) -> Plan {
-    let mut values = Values::from(first);
-    if values.version == 4 {
-        values.src[4..].copy_from_slice(&random.bytes(12));
-        values.dst[4..].copy_from_slice(&random.bytes(12));
-    }
-    (values, count, rate)
-}
-
-/// Holds one call on our engine, lent `room` bytes, against what is due: the answer, every byte of
-/// the output and of what lies past it, and the next sequence in the engine, on refusals too.
+/// Holds our engine, lent `room` bytes, against what is due: the forecast, the generator's answer, every
+/// byte of the output and of what lies past it, and the next sequence in the engine, on refusals too.
 fn generates_on(
     part: &mut Part,
     seen: &mut Seen,
@@ -213,6 +240,7 @@ fn generates_on(
     room: usize,
 ) {
     let before = ours.next_sequence;
+    let forecast = ours.forecast(&first, count, rate);
     let mut out = vec![DIRT; room + BEYOND];
     let written = ours.generate(&first, count, rate, &mut out[..room]);
 
@@ -232,15 +260,14 @@ fn generates_on(
     let plan = [before, count, rate, first.send_timestamp_ns].map(u64::to_be_bytes);
     part.case(
         plan.as_flattened(),
-        (written.told(), ours.next_sequence, wrong_packet),
-        (Written { number, bytes }.due(&[]), next_sequence, None),
+        (forecast, written.told(), ours.next_sequence, wrong_packet),
+        (
+            due.forecast,
+            Written { number, bytes }.due(&[]),
+            next_sequence,
+            None,
+        ),
     );
-}
-
-/// The packets that are due, end to end, by the Rust's engine, which moves on.
-fn packets(engine: &mut Engine, first: Probe, count: u64, rate: u64) -> Outcome<Vec<u8>> {
-    let packets = due_packets(engine, first, count, rate)?;
-    Ok(packets.into_iter().flat_map(|packet| packet.tpdu).collect())
 }
 
 /// The packets of a plan by the Rust's engine, which moves on, or the number that is due. A count

@@ -4,6 +4,7 @@
 mod words;
 
 use evidence::PacketContinuityReport;
+use forecast::PlanForecast;
 use reflector_answer::ReflectorState;
 use report::Reported;
 use scenario::Scenario;
@@ -24,9 +25,17 @@ fn byte_column(byte: u8) -> [u8; 2048]
     [byte; 2048]
 }
 
+// Prints what stands before a run, where the format is text.
+fn print_before(s: &Scenario, forecast: PlanForecast) {
+    if scenario::first(s, scenario::FORMAT) == scenario::TEXT {
+        rehearsal_lines::print_before(s, forecast);
+    }
+}
+
 // Prints a run in the format that the scenario asks for.
 fn print_run(
     s: &Scenario,
+    forecast: PlanForecast,
     r: PacketContinuityReport,
     verdict: Verdict,
     state: ReflectorState,
@@ -40,6 +49,7 @@ fn print_run(
     match scenario::first(s, scenario::FORMAT) {
         scenario::JSON => rehearsal_records::print_json(
             s,
+            forecast,
             r,
             verdict,
             state,
@@ -76,6 +86,8 @@ fn rehearse(s: &Scenario) -> u64 {
     let mut marks = byte_column(0);
     let mut fates = byte_column(probe_fate::LOST);
     let mut refusals = [0; 64];
+    let forecast = rehearsal_run::forecast(s);
+    print_before(s, forecast);
     let run = rehearsal_run::rehearse(
         s,
         &mut sequences,
@@ -92,6 +104,7 @@ fn rehearse(s: &Scenario) -> u64 {
             let verdict = verdict::judge(r);
             print_run(
                 s,
+                forecast,
                 r,
                 verdict,
                 run.state,

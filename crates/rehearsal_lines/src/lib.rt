@@ -2,6 +2,9 @@
 mod timeline;
 
 use evidence::PacketContinuityReport;
+use forecast::PlanForecast;
+use forecast::PlannedPackets;
+use measurement::MeasurementHeader;
 use reflector_answer::ReflectorState;
 use scenario::Scenario;
 use verdict::Verdict;
@@ -21,6 +24,34 @@ fn print_plan(s: &Scenario) {
     print_counted(scenario::first(s, scenario::COUNT), b" probe");
     text::print_count(b", ", scenario::first(s, scenario::RATE));
     text::print(b" per second\n");
+}
+
+fn print_last(last: MeasurementHeader) {
+    text::print_count(b"last probe ", last.sequence);
+    text::print(b" at ");
+    text::print_milliseconds(last.send_timestamp_ns);
+}
+
+fn print_size(packets: PlannedPackets) {
+    text::print_count(b"forecast:  ", packets.bytes as u64);
+    text::print(b" bytes, ");
+    print_last(packets.last);
+    text::print(b"\n");
+}
+
+// How big the plan will be. A plan that is refused has no size; accepted words have none without a probe.
+fn print_forecast(forecast: PlanForecast) {
+    match forecast {
+        PlanForecast::Packets(packets) => print_size(packets),
+        PlanForecast::Empty => text::print(b"forecast:  0 bytes, no probe\n"),
+        PlanForecast::Refused(number) => (),
+    }
+}
+
+// What stands before the run: the plan, and how big it will be.
+pub fn print_before(s: &Scenario, forecast: PlanForecast) {
+    print_plan(s);
+    print_forecast(forecast);
 }
 
 fn microseconds(s: &Scenario, word: usize) -> u64 {
@@ -102,7 +133,7 @@ fn print_refusals(refusals: &[u64; 64]) {
     }
 }
 
-// All lines. `fates` has what became of each probe.
+// The other lines. `fates` has what became of each probe.
 pub fn print_rehearsal(
     s: &Scenario,
     r: PacketContinuityReport,
@@ -112,7 +143,6 @@ pub fn print_rehearsal(
     refusals: &[u64; 64],
 ) {
     let budget = r.budget;
-    print_plan(s);
     print_way(s);
     print_windows(s);
     report_lines::print_budget(budget);

@@ -1,4 +1,5 @@
-// The packets of a rehearsal, by an engine (leaf 5).
+// The packets of a rehearsal, by an engine (leaf 5), and how big they will be.
+use forecast::PlanForecast;
 use measurement::InnerIpFlow;
 use measurement::Written;
 use plan::TrafficPlan;
@@ -6,6 +7,8 @@ use traffic::TrafficEngine;
 ghost use mathlib.Core.Path.{_≡_};
 ghost use Rattle.measurement.specs.Answer.{writtenMeans};
 ghost use Rattle.traffic.specs.Generate.{generateOf};
+ghost use Rattle.forecast.specs.Answer.{forecastMeans};
+ghost use Rattle.forecast.specs.Forecast.{forecastOf};
 
 // The plan's packets, by an engine that is lent its own record. The first has sequence 1.
 pub fn generate(flow: InnerIpFlow, plan: TrafficPlan, out: &mut [u8]) -> Written
@@ -14,4 +17,12 @@ pub fn generate(flow: InnerIpFlow, plan: TrafficPlan, out: &mut [u8]) -> Written
 {
     let mut engine = TrafficEngine::with_first_sequence(1);
     engine.generate(flow, plan, out)
+}
+
+// How big the plan will be, from that first sequence on.
+pub fn forecast(flow: InnerIpFlow, plan: TrafficPlan) -> PlanForecast
+    ensures { λ r. ⌜ forecastMeans r ≡ forecastOf (flow .version) plan 1 ⌝ }
+{
+    let version = flow.version;
+    forecast::forecast(version, plan, 1)
 }

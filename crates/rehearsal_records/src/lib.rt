@@ -5,6 +5,9 @@ pub mod csv;
 mod fate;
 
 use evidence::PacketContinuityReport;
+use forecast::PlanForecast;
+use forecast::PlannedPackets;
+use measurement::MeasurementHeader;
 use reflector_answer::ReflectorState;
 use scenario::Scenario;
 use verdict::Verdict;
@@ -19,6 +22,23 @@ fn print_plan(s: &Scenario, window_start_ns: u64) {
     print_word_number(b", \"rate\": ", s, scenario::RATE);
     text::print_count(b",\n  \"first_send_timestamp_ns\": ", window_start_ns);
     text::print(b"},\n");
+}
+
+fn print_size(packets: PlannedPackets) {
+    let last = packets.last;
+    text::print_count(b"\"forecast\": {\"bytes\": ", packets.bytes as u64);
+    text::print_count(b", \"last_sequence\": ", last.sequence);
+    text::print_count(b",\n  \"last_send_timestamp_ns\": ", last.send_timestamp_ns);
+    text::print(b"},\n");
+}
+
+// How big the plan was to be: null where it was refused or has no probe, to which accepted words never lead.
+fn print_forecast(forecast: PlanForecast) {
+    match forecast {
+        PlanForecast::Packets(packets) => print_size(packets),
+        PlanForecast::Empty => text::print(b"\"forecast\": null,\n"),
+        PlanForecast::Refused(number) => text::print(b"\"forecast\": null,\n"),
+    }
 }
 
 // A window: null, or its first and its last probe.
@@ -153,6 +173,7 @@ fn print_probes(
 // The object.
 pub fn print_json(
     s: &Scenario,
+    forecast: PlanForecast,
     r: PacketContinuityReport,
     verdict: Verdict,
     state: ReflectorState,
@@ -165,6 +186,7 @@ pub fn print_json(
 ) {
     let budget = r.budget;
     print_plan(s, r.window_start_ns);
+    print_forecast(forecast);
     print_path(s);
     report_json::print_budget(budget);
     report_json::print_report(r);

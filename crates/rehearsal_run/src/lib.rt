@@ -2,6 +2,7 @@
 // scenario says, and what came back is recorded in the order of arrival. Packets, echoes, the run sheet and the report
 // come from the proved calls; this crate itself is proved only to be safe and to end.
 use evidence::PacketContinuityBudget;
+use forecast::PlanForecast;
 use measurement::Written;
 use observer::ObserverCounts;
 use observer::Recording;
@@ -130,6 +131,11 @@ fn travel(
         fates,
         refusals,
     )
+}
+
+// How big the plan will be, before anything is generated.
+pub fn forecast(s: &Scenario) -> PlanForecast {
+    rehearsal_packets::forecast(rehearsal_reflector::flow(probe_delivery::ip(s)), plan_of(s))
 }
 
 // The plan's packets, and their length.

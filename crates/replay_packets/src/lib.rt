@@ -1,6 +1,7 @@
 // The calls on packets, each on a record of the data: whether it answers what the Rust answered, and leaves every byte
 // of the output as the record has it.
 use plan::TrafficPlan;
+use testkit_packets::TestkitPlanForecast;
 use testkit_packets::TestkitTpdu;
 use testkit_packets::TestkitWritten;
 
@@ -106,8 +107,40 @@ fn generate_into(s: &[u8], next_sequence: &mut u64, room: usize, out: &mut [u8])
     )
 }
 
+fn forecast_of(s: &[u8]) -> TestkitPlanForecast {
+    testkit_packets::testkit_forecast(
+        replay_data::byte(s, 0),
+        traffic_plan(s),
+        replay_data::number(s, 61),
+    )
+}
+
+// Whether a forecast has the last of these bytes' packets: its sequence is one below the next, and it ends with its
+// time. Without a byte there is no last packet.
+fn same_last(forecast: TestkitPlanForecast, bytes: usize, s: &[u8]) -> bool {
+    if bytes == 0 {
+        return !forecast.has_last;
+    }
+    forecast.has_last
+        && std::num::wrapping_add_u64(forecast.last_sequence, 1) == replay_data::number(s, 69)
+        && forecast.last_send_timestamp_ns == replay_data::number(s, replay_data::after(71, bytes))
+}
+
+// Whether a plan was forecast as the record has it generated: refused by the same number; but where that is 15, as
+// having more bytes than the output.
+fn same_forecast(number: u8, s: &[u8]) -> bool {
+    let forecast = forecast_of(s);
+    if number == 15 {
+        return forecast.number == 0 && replay_data::rest(s, 79).len() < forecast.bytes;
+    }
+    let bytes = replay_data::word(s, 77) as usize;
+    replay_data::same_number(forecast.number, number)
+        && forecast.bytes == bytes
+        && same_last(forecast, bytes, s)
+}
+
 // A flow as above; count, rate, first time and next sequence; the next sequence afterwards; how many bytes are written;
-// and the output afterwards.
+// and the output afterwards. The plan is forecast too.
 pub fn generate(number: u8, s: &[u8]) -> bool {
     let due = replay_data::rest(s, 79);
     let mut next_sequence = replay_data::number(s, 61);
@@ -116,6 +149,7 @@ pub fn generate(number: u8, s: &[u8]) -> bool {
     same_written(written, number, replay_data::word(s, 77))
         && next_sequence == replay_data::number(s, 69)
         && replay_data::same_output(&out, due)
+        && same_forecast(number, s)
 }
 
 // The elements of an Error Indication.
