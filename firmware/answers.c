@@ -387,6 +387,61 @@ static void generator(void)
     expect("the next sequence", *next_sequence, 75);
 }
 
+static struct testkit_plan_forecast forecast_as(
+    uint8_t number, bool has_last, size_t bytes, uint64_t last_sequence, uint64_t last_send_timestamp_ns)
+{
+    struct testkit_plan_forecast made;
+    made.number = number;
+    made.has_last = has_last;
+    made.bytes = bytes;
+    made.last_sequence = last_sequence;
+    made.last_send_timestamp_ns = last_send_timestamp_ns;
+    return made;
+}
+
+/* Forecasts, and the generator in a buffer of the size that was forecast, and of one byte less. */
+static void forecasts(uint8_t version)
+{
+    size_t length = version == 4 ? TESTKIT_IPV4_TPDU_BYTES : TESTKIT_IPV6_TPDU_BYTES;
+    struct testkit_plan plan = plan_of(3, 250, 17);
+    struct testkit_plan_forecast forecast = testkit_forecast(version, plan, 70);
+    uint8_t *bytes = (uint8_t *)lend(forecast.bytes);
+    struct testkit_tpdu last;
+    compare_testkit_plan_forecast("forecast", forecast, forecast_as(0, true, 3 * length, 72, 17 + 2 * 4000000));
+    *next_sequence = 70;
+    compare_testkit_written(
+        "generate, a byte less than forecast",
+        testkit_generate(version, src, dst, 1, 2, plan, next_sequence, bytes, forecast.bytes - 1),
+        written_as(TESTKIT_OUTPUT_TOO_SHORT, 0));
+    compare_testkit_written(
+        "generate, as forecast",
+        testkit_generate(version, src, dst, 1, 2, plan, next_sequence, bytes, forecast.bytes),
+        written_as(0, forecast.bytes));
+    expect("the next sequence", *next_sequence, forecast.last_sequence + 1);
+    last = testkit_decode(copy(bytes + forecast.bytes - length, length), length, read_src, read_dst);
+    expect("the last sequence", last.sequence, forecast.last_sequence);
+    expect("the last send time", last.send_timestamp_ns, forecast.last_send_timestamp_ns);
+
+    compare_testkit_plan_forecast(
+        "forecast, nothing, at the top", testkit_forecast(version, plan_of(0, 250, 17), UINT64_MAX),
+        forecast_as(0, false, 0, 0, 0));
+    compare_testkit_plan_forecast(
+        "forecast, nothing, no rate", testkit_forecast(version, plan_of(0, 0, 17), UINT64_MAX),
+        forecast_as(TESTKIT_TARGET_RATE_IS_ZERO, false, 0, 0, 0));
+    compare_testkit_plan_forecast(
+        "forecast, high rate", testkit_forecast(version, plan_of(2049, 1000000001, 17), 70),
+        forecast_as(TESTKIT_TARGET_RATE_EXCEEDS_RESOLUTION, false, 0, 0, 0));
+    compare_testkit_plan_forecast(
+        "forecast, too many", testkit_forecast(version, plan_of(2049, 250, UINT64_MAX), UINT64_MAX),
+        forecast_as(TESTKIT_TOO_MANY_PACKETS, false, 0, 0, 0));
+    compare_testkit_plan_forecast(
+        "forecast, at the top and late", testkit_forecast(version, plan_of(3, 250, UINT64_MAX), UINT64_MAX - 1),
+        forecast_as(TESTKIT_SEQUENCE_OVERFLOW, false, 0, 0, 0));
+    compare_testkit_plan_forecast(
+        "forecast, late", testkit_forecast(version, plan_of(3, 250, UINT64_MAX), UINT64_MAX - 2),
+        forecast_as(TESTKIT_SEND_TIMESTAMP_OVERFLOW, false, 0, 0, 0));
+}
+
 static const uint8_t elements[12] = {16, 1, 2, 3, 4, 133, 0, 4, 10, 0, 0, 2};
 
 static void element_lists(void)
@@ -1142,6 +1197,8 @@ int main(int argc, char **argv)
     padded_packets(4);
     padded_packets(6);
     generator();
+    forecasts(4);
+    forecasts(6);
     element_lists();
     open_sheet(&one);
     open_sheet(&two);

@@ -26,7 +26,6 @@ void probe_open(struct probe *probe, struct testkit_socket_addr self, struct tes
     probe->sheet.capacity = ROWS;
     probe->next_sequence = (uint64_t *)lend(sizeof *probe->next_sequence);
     *probe->next_sequence = 1;
-    probe->packets = (uint8_t *)lend(ROWS * TESTKIT_IPV6_TPDU_BYTES);
     probe->near_end = (uint8_t *)lend_filled(near_end, TESTKIT_ADDRESS_BYTES);
     probe->far_end = (uint8_t *)lend_filled(far_end, TESTKIT_ADDRESS_BYTES);
     probe->self = self;
@@ -55,8 +54,28 @@ static void send_message(const struct probe *probe, uint8_t type, uint32_t teid,
     wire_send(probe->self, probe->peer, message, payload, length);
 }
 
+/* What a plan will need, for the crew before the drive and for the buffer: its number. */
+static uint8_t forecast_plan(struct probe *probe, uint8_t version, struct testkit_plan plan)
+{
+    struct testkit_plan_forecast forecast = testkit_forecast(version, plan, *probe->next_sequence);
+    if (forecast.number != TESTKIT_ACCEPTED) {
+        printf("  no plan: %s\n", testkit_number_text(forecast.number));
+        return forecast.number;
+    }
+    printf("  forecast: %zu bytes", forecast.bytes);
+    if (forecast.has_last) {
+        printf(
+            ", the last sequence %" PRIu64 ", sent at %" PRIu64 " ns", forecast.last_sequence,
+            forecast.last_send_timestamp_ns);
+    }
+    printf("\n");
+    probe->packets = (uint8_t *)lend(forecast.bytes); /* where memory is fixed: compare, and do without the plan */
+    probe->packets_length = forecast.bytes;
+    return TESTKIT_ACCEPTED;
+}
+
 /* Makes a plan's packets, enters them, and sends each at its time; before them an Echo Request, to see that the peer is
- * there. */
+ * there. A plan that would be refused changes nothing, the next sequence neither. */
 void probe_send_plan(struct probe *probe, uint8_t version, uint64_t packets, uint64_t rate)
 {
     size_t length = version == 4 ? TESTKIT_IPV4_TPDU_BYTES : TESTKIT_IPV6_TPDU_BYTES;
@@ -65,17 +84,17 @@ void probe_send_plan(struct probe *probe, uint8_t version, uint64_t packets, uin
     struct testkit_written written;
     struct testkit_recorded recorded;
 
-    send_message(probe, TESTKIT_GTPU_MSG_ECHO_REQUEST, 0, probe->packets, 0);
     plan.packet_count = packets;
     plan.target_rate_pps = rate;
     plan.first_send_timestamp_ns = wire_now() + 1000000;
-    written = testkit_generate(
-        version, probe->near_end, probe->far_end, 1000, 2000, plan, probe->next_sequence, probe->packets,
-        ROWS * TESTKIT_IPV6_TPDU_BYTES);
-    if (written.number != TESTKIT_ACCEPTED) {
-        printf("  no plan: %s\n", testkit_number_text(written.number));
+    if (forecast_plan(probe, version, plan) != TESTKIT_ACCEPTED) {
         return;
     }
+    send_message(probe, TESTKIT_GTPU_MSG_ECHO_REQUEST, 0, probe->packets, 0);
+    written = testkit_generate(
+        version, probe->near_end, probe->far_end, 1000, 2000, plan, probe->next_sequence, probe->packets,
+        probe->packets_length);
+    expect("the number of a plan that was forecast", written.number, TESTKIT_ACCEPTED);
     expect("the bytes of a plan", written.bytes, packets * length);
     expect("the next sequence", *probe->next_sequence, first + packets);
     recorded = testkit_sheet_record_sent_plan(&probe->sheet, plan, first);

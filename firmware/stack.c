@@ -7,9 +7,9 @@
  * deepest path.
  *
  * What each call answered is printed: firmware/run holds the numbers to the list of refusals that testkit.h has for the
- * call, so that each was met and no other. What else an answer may say (a verdict's reason, a message's outcome, what
- * is to be done with it and why, whether a session was added or removed, whether a report's two verdicts hold) is
- * checked here: exit status 1 where one was never met.
+ * call, so that each was met and no other. What else an answer may say (whether a plan has a last packet, a verdict's
+ * reason, a message's outcome, what is to be done with it and why, whether a session was added or removed, whether a
+ * report's two verdicts hold) is checked here: exit status 1 where one was never met.
  *
  * Inputs. Packets, of both versions: built ones; cut at every length; each single bit turned; with each cause that a
  * checksum would hide, made right by another field; for IPv4 with options, of every IHL; each of these alone, and in
@@ -105,6 +105,11 @@ static void call_generate(void)
     uint64_t next_sequence = plan_sequence;
     note(ENTER(testkit_generate)(version, src, dst, 1, 2, plan, &next_sequence, out, out_length).number, 0);
 }
+static void call_forecast(void)
+{
+    struct testkit_plan_forecast forecast = ENTER(testkit_forecast)(version, plan, plan_sequence);
+    note(forecast.number, forecast.has_last);
+}
 static void call_elements(void) { note(ENTER(testkit_validate_elements)(in, in_length), 0); }
 static void call_sent(void) { note(ENTER(testkit_record_sent)(SHEET, sequence, 7).number, 0); }
 static void call_received(void) { note(ENTER(testkit_record_received_tpdu)(SHEET, 9, in, in_length).number, 0); }
@@ -180,6 +185,7 @@ static struct row {
     {"testkit_decode", call_decode, TESTKIT_STACK_DECODE, BITS(0, 0), 0, 0, {0}},
     {"testkit_echo", call_echo, TESTKIT_STACK_ECHO, BITS(0, 0), 0, 0, {0}},
     {"testkit_generate", call_generate, TESTKIT_STACK_GENERATE, BITS(0, 0), 0, 0, {0}},
+    {"testkit_forecast", call_forecast, TESTKIT_STACK_FORECAST, BITS(0, 1), 0, 0, {0}},
     {"testkit_validate_elements", call_elements, TESTKIT_STACK_VALIDATE_ELEMENTS, BITS(0, 0), 0, 0, {0}},
     {"testkit_record_sent", call_sent, TESTKIT_STACK_RECORD_SENT, BITS(0, 0), 0, 0, {0}},
     {"testkit_record_received_tpdu", call_received, TESTKIT_STACK_RECORD_RECEIVED_TPDU, BITS(0, 0), 0, 0, {0}},
@@ -430,6 +436,7 @@ static void measure_writers(void)
         for (int k = 0; k < 64; k++) {
             plan = (struct testkit_plan){count[k % 4], rate[k / 4 % 4], k / 16 % 2 ? UINT64_MAX - 1 : 0};
             plan_sequence = k / 32 ? UINT64_MAX - 1 : 0;
+            measure(call_forecast);
             out_length = OUT;
             measure(call_generate);
             out_length = 0;

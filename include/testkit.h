@@ -12,9 +12,9 @@
  *
  * What is proved, what is checked, what is only said. Each call is proved to meet its contract, which stands beside its
  * code in crates/testkit_packets, testkit_sheet and testkit_reflector. The contract is what document 01 (docs/SCOPE.md)
- * and the RFCs say; testkit_version, testkit_record_sent_plan, testkit_record_received_tpdus and testkit_judge_report
- * are not in document 01, and have contracts of our own. This header is not proved. firmware/run, which is part of the
- * gate, checks the following:
+ * and the RFCs say; testkit_forecast is in document 02; testkit_version, testkit_record_sent_plan,
+ * testkit_record_received_tpdus and testkit_judge_report are in neither, and have contracts of our own. This header is
+ * not proved. firmware/run, which is part of the gate, checks the following:
  *   - each call and each struct that the archive has, with types and names in their order, against the proved source.
  *     struct testkit_sheet, struct testkit_table and the calls over them are the header's own: each of those calls is
  *     declared as it is defined, and is tried beside the archive's call (firmware/answers.c);
@@ -83,7 +83,7 @@
  *   - each call on a session table searches the used rows one after the other, up to 4,096, whatever the message is. A
  *     G-PDU that is echoed also takes its payload's bytes;
  *   - the report: the used rows;
- *   - testkit_build, the verdict and the version: nothing that grows.
+ *   - testkit_build, the forecast, the verdict and the version: nothing that grows.
  * Times that are handed in are in nanoseconds since whatever moment the caller chose.
  *
  * Threads, signals, interrupts. Calls on different buffers may run at the same time, also one that interrupts another.
@@ -109,8 +109,8 @@
  * where something was added (a call, a number, a field) and a program need only be compiled again; otherwise PATCH.
  */
 #define TESTKIT_VERSION_MAJOR 3
-#define TESTKIT_VERSION_MINOR 1
-#define TESTKIT_VERSION_PATCH 1
+#define TESTKIT_VERSION_MINOR 2
+#define TESTKIT_VERSION_PATCH 0
 #define TESTKIT_VERSION (TESTKIT_VERSION_MAJOR * 65536 + TESTKIT_VERSION_MINOR * 256 + TESTKIT_VERSION_PATCH)
 
 #ifdef __cplusplus
@@ -251,6 +251,7 @@ enum testkit_stack {
     TESTKIT_STACK_ECHO = 472,
     TESTKIT_STACK_DECODE = 216,
     TESTKIT_STACK_GENERATE = 344,
+    TESTKIT_STACK_FORECAST = 16,
     TESTKIT_STACK_VALIDATE_ELEMENTS = 624,
     TESTKIT_STACK_RECORD_SENT = 240,
     TESTKIT_STACK_RECORD_SENT_PLAN = 288,
@@ -360,7 +361,8 @@ struct testkit_plan {
  *   next_sequence       the caller's own record of the sequence that comes next, changed in place. Lend the same place
  *                       for the next plan, also after a refusal, and never restore an older copy. Sequence UINT64_MAX
  *                       is never sent
- *   out                 packet_count * 52 bytes (IPv4) or packet_count * 72 (IPv6); 147456 are enough for every plan
+ *   out                 packet_count * 52 bytes (IPv4) or packet_count * 72 (IPv6), as testkit_forecast tells; 147456
+ *                       are enough for every plan
  * On success *next_sequence rises by packet_count. Refuses by TESTKIT_TARGET_RATE_IS_ZERO (16),
  * TESTKIT_TARGET_RATE_EXCEEDS_RESOLUTION (17), TESTKIT_TOO_MANY_PACKETS (18); then by TESTKIT_SEQUENCE_OVERFLOW (19)
  * before TESTKIT_SEND_TIMESTAMP_OVERFLOW (20) at the first packet that either stops; then by TESTKIT_OUTPUT_TOO_SHORT
@@ -376,6 +378,28 @@ struct testkit_written testkit_generate(
     struct testkit_plan plan,
     uint64_t *next_sequence,
     uint8_t *out, size_t out_length);
+
+/* 0 and how big a plan will be; or a refusal's number and zeros. */
+struct testkit_plan_forecast {
+    uint8_t number;
+    bool has_last;                   /* whether there is a last packet: not where packet_count is 0 */
+    size_t bytes;                    /* of all packets together: the least `out` of testkit_generate */
+    uint64_t last_sequence;          /* of the last packet, else 0 */
+    uint64_t last_send_timestamp_ns; /* of the last packet, else 0 */
+};
+
+/*
+ * How big a plan will be, without building a packet. Nothing is lent, so nothing changes: next_sequence is handed in by
+ * value, and none comes back.
+ *   version       as for testkit_build
+ *   next_sequence what testkit_generate would be lent
+ * With `bytes` bytes or more testkit_generate then writes just these packets, and leaves the next sequence at
+ * last_sequence + 1, or as it was where there is no packet; with fewer it refuses by TESTKIT_OUTPUT_TOO_SHORT, which no
+ * forecast does. Refuses where testkit_generate refuses whatever the buffer, in the same order: by
+ * TESTKIT_TARGET_RATE_IS_ZERO (16), TESTKIT_TARGET_RATE_EXCEEDS_RESOLUTION (17), TESTKIT_TOO_MANY_PACKETS (18); then by
+ * TESTKIT_SEQUENCE_OVERFLOW (19) before TESTKIT_SEND_TIMESTAMP_OVERFLOW (20) at the first packet that either stops.
+ */
+struct testkit_plan_forecast testkit_forecast(uint8_t version, struct testkit_plan plan, uint64_t next_sequence);
 
 /* ---- Elements of a GTP-U Error Indication ---- */
 
