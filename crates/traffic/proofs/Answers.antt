@@ -36,7 +36,7 @@ module _ (bytes : List ℕ) (next after : ℕ) (buffer : List ℕ) where
   placing-fits h = rw (le-ltb (length buffer) (length bytes) h, writing, placing)
 
 -- room for the packets in numbers
-header-short : (v : IpVersion) → ipHeaderLength v ≤ 40
+pub header-short : (v : IpVersion) → ipHeaderLength v ≤ 40
 unfolding ipHeaderLength
 header-short V4 = omega arith
 header-short V6 = omega arith
