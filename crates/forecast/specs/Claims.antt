@@ -41,7 +41,10 @@ pub record Examples : Type 0 where
   pub largest : forecastOf V6 (planOf 2048 1000000000 0) 0
       ≡ gives (record { bytes = 147456; last = some (record { sequence = 2047; «send_timestamp_ns» = 2047 }) })
   pub highest : forecastOf V4 (planOf 2 1 18446744072709551615) 18446744073709551613
-      ≡ gives (record { bytes = 104; last = some (record { sequence = 18446744073709551614; «send_timestamp_ns» = top }) })
+      ≡ gives (record {
+        bytes = 104;
+        last = some (record { sequence = 18446744073709551614; «send_timestamp_ns» = top });
+      })
   pub too-many : forecastOf V4 (planOf 2049 1 0) top ≡ refused 18
   pub tie : forecastOf V4 (planOf 2 1 18446744072709551616) 18446744073709551614 ≡ refused 19
   pub time-first : forecastOf V4 (planOf 2 1 18446744072709551616) 7 ≡ refused 20
