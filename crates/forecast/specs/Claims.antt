@@ -1,5 +1,5 @@
--- What is claimed of the forecast by itself. proofs/Claims.antt proves each claim. That it is the generator's is claimed
--- in the crate tally.
+-- What is claimed of the forecast by itself. proofs/Claims.antt proves each claim. That the forecast is the generator's
+-- is claimed in the crate tally.
 use Prim.Native.Nat.{ℕ, _+_, _-_, _*_, _<_, _≤_}
 use mathlib.Core.Path.{_≡_}
 use mathlib.Core.Option.{some, none}
