@@ -31,8 +31,7 @@ bool wire_receive(struct testkit_socket_addr destination, struct datagram *datag
 struct probe {
     struct testkit_sheet sheet;
     uint64_t *next_sequence; /* outlives runs */
-    uint8_t *packets;        /* the plan's, end to end, in a buffer of the size that was forecast */
-    size_t packets_length;
+    uint8_t *packets;        /* the plan's, end to end: as many bytes as were forecast */
     uint8_t *near_end;       /* the addresses that its T-PDUs carry */
     uint8_t *far_end;
     struct testkit_socket_addr self;

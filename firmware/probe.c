@@ -54,49 +54,48 @@ static void send_message(const struct probe *probe, uint8_t type, uint32_t teid,
     wire_send(probe->self, probe->peer, message, payload, length);
 }
 
-/* What a plan will need, for the crew before the drive and for the buffer: its number. */
-static uint8_t forecast_plan(struct probe *probe, uint8_t version, struct testkit_plan plan)
+/* How big a plan will be, told to the crew before the drive; or why it would be refused. */
+static struct testkit_plan_forecast forecast_plan(uint8_t version, struct testkit_plan plan, uint64_t next_sequence)
 {
-    struct testkit_plan_forecast forecast = testkit_forecast(version, plan, *probe->next_sequence);
+    struct testkit_plan_forecast forecast = testkit_forecast(version, plan, next_sequence);
     if (forecast.number != TESTKIT_ACCEPTED) {
         printf("  no plan: %s\n", testkit_number_text(forecast.number));
-        return forecast.number;
-    }
-    printf("  forecast: %zu bytes", forecast.bytes);
-    if (forecast.has_last) {
+    } else if (!forecast.has_last) {
+        printf("  forecast: no packet\n");
+    } else {
         printf(
-            ", the last sequence %" PRIu64 ", sent at %" PRIu64 " ns", forecast.last_sequence,
-            forecast.last_send_timestamp_ns);
+            "  forecast: %zu bytes, the last sequence %" PRIu64 ", sent at %" PRIu64 " ns\n", forecast.bytes,
+            forecast.last_sequence, forecast.last_send_timestamp_ns);
     }
-    printf("\n");
-    probe->packets = (uint8_t *)lend(forecast.bytes); /* where memory is fixed: compare, and do without the plan */
-    probe->packets_length = forecast.bytes;
-    return TESTKIT_ACCEPTED;
+    return forecast;
 }
 
 /* Makes a plan's packets, enters them, and sends each at its time; before them an Echo Request, to see that the peer is
- * there. A plan that would be refused changes nothing, the next sequence neither. */
+ * there. A plan that is refused is so before anything is sent or changed. */
 void probe_send_plan(struct probe *probe, uint8_t version, uint64_t packets, uint64_t rate)
 {
     size_t length = version == 4 ? TESTKIT_IPV4_TPDU_BYTES : TESTKIT_IPV6_TPDU_BYTES;
     uint64_t first = *probe->next_sequence; /* from before the plan: the sheet wants it */
     struct testkit_plan plan;
+    struct testkit_plan_forecast forecast;
     struct testkit_written written;
     struct testkit_recorded recorded;
 
     plan.packet_count = packets;
     plan.target_rate_pps = rate;
     plan.first_send_timestamp_ns = wire_now() + 1000000;
-    if (forecast_plan(probe, version, plan) != TESTKIT_ACCEPTED) {
+    forecast = forecast_plan(version, plan, first);
+    if (forecast.number != TESTKIT_ACCEPTED) {
         return;
     }
+    probe->packets = (uint8_t *)lend(forecast.bytes); /* firmware whose buffer is fixed compares its length instead */
     send_message(probe, TESTKIT_GTPU_MSG_ECHO_REQUEST, 0, probe->packets, 0);
     written = testkit_generate(
         version, probe->near_end, probe->far_end, 1000, 2000, plan, probe->next_sequence, probe->packets,
-        probe->packets_length);
+        forecast.bytes);
     expect("the number of a plan that was forecast", written.number, TESTKIT_ACCEPTED);
-    expect("the bytes of a plan", written.bytes, packets * length);
-    expect("the next sequence", *probe->next_sequence, first + packets);
+    expect("the bytes of a plan", written.bytes, forecast.bytes);
+    expect("the next sequence", *probe->next_sequence, forecast.has_last ? forecast.last_sequence + 1 : first);
     recorded = testkit_sheet_record_sent_plan(&probe->sheet, plan, first);
     if (recorded.number != TESTKIT_ACCEPTED) {
         printf("  plan not entered: %s\n", testkit_number_text(recorded.number));

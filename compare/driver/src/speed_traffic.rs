@@ -1,5 +1,5 @@
-//! How long the generator, the run sheet, the report and the element walk take, ours and the
-//! unchanged Rust's, for the table of `speed`.
+//! How long the generator, the forecast, the run sheet, the report and the element walk take, ours and
+//! the unchanged Rust's, for the table of `speed`.
 //!
 //! Both sides do the same work in the same process and take turns, each round in the other order.
 //! A time is the median of the rounds. The Rust allocates what it makes, and that is timed; ours
@@ -30,7 +30,7 @@ pub type Timing = (String, f64, f64);
 
 pub fn speed() -> Vec<Timing> {
     let mut timings: Vec<Timing> = [16, 256, 2_048].map(pairs).into();
-    timings.extend([whole_run(), report(), walk(), generator()]);
+    timings.extend([whole_run(), report(), walk(), generator(), forecast()]);
     timings
 }
 
@@ -165,6 +165,29 @@ fn generator() -> Timing {
         || packets(black_box(MOST_ROWS)),
     );
     ("generate, 2,048 IPv4 packets".to_string(), ours, rust)
+}
+
+/// How big a plan of 2,048 IPv4 packets will be. The Rust can tell only by generating it.
+fn forecast() -> Timing {
+    let first = Values::from(ipv4_probe(0));
+    let engine = Engine::with_first_sequence(1);
+    let (ours, rust) = take_turns(
+        || {
+            for _ in 0..REPEATS {
+                black_box(engine.forecast(black_box(&first), MOST_ROWS as u64, 1_000));
+            }
+        },
+        || {
+            let packets = packets(black_box(MOST_ROWS));
+            let bytes: usize = packets.iter().map(|packet| packet.tpdu.len()).sum();
+            let last = packets
+                .last()
+                .map(|packet| (packet.sequence, packet.send_timestamp_ns));
+            (bytes, last)
+        },
+    );
+    let name = "forecast, 2,048 IPv4 packets".to_string();
+    (name, ours / REPEATS as f64, rust)
 }
 
 /// IPv4 packets, one each millisecond.

@@ -126,13 +126,9 @@ fn same_last(forecast: TestkitPlanForecast, bytes: usize, s: &[u8]) -> bool {
         && forecast.last_send_timestamp_ns == replay_data::number(s, replay_data::after(71, bytes))
 }
 
-// Whether a plan was forecast as the record has it generated: refused by the same number; but where that is 15, as
-// having more bytes than the output.
+// Whether a plan is forecast as the record has it generated. No record has 15, by which no forecast refuses.
 fn same_forecast(number: u8, s: &[u8]) -> bool {
     let forecast = forecast_of(s);
-    if number == 15 {
-        return forecast.number == 0 && replay_data::rest(s, 79).len() < forecast.bytes;
-    }
     let bytes = replay_data::word(s, 77) as usize;
     replay_data::same_number(forecast.number, number)
         && forecast.bytes == bytes
