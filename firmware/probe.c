@@ -71,7 +71,8 @@ static struct testkit_plan_forecast forecast_plan(uint8_t version, struct testki
 }
 
 /* Makes a plan's packets, enters them, and sends each at its time; before them an Echo Request, to see that the peer is
- * there. A plan that is refused is so before anything is sent or changed. */
+ * there. A plan that is refused is so before anything is sent or changed. Firmware lends a buffer that it has, if it is
+ * long enough; here each plan is lent as many bytes as were forecast, so that a byte past its end is seen. */
 void probe_send_plan(struct probe *probe, uint8_t version, uint64_t packets, uint64_t rate)
 {
     size_t length = version == 4 ? TESTKIT_IPV4_TPDU_BYTES : TESTKIT_IPV6_TPDU_BYTES;
@@ -88,7 +89,7 @@ void probe_send_plan(struct probe *probe, uint8_t version, uint64_t packets, uin
     if (forecast.number != TESTKIT_ACCEPTED) {
         return;
     }
-    probe->packets = (uint8_t *)lend(forecast.bytes); /* firmware whose buffer is fixed compares its length instead */
+    probe->packets = (uint8_t *)lend(forecast.bytes);
     send_message(probe, TESTKIT_GTPU_MSG_ECHO_REQUEST, 0, probe->packets, 0);
     written = testkit_generate(
         version, probe->near_end, probe->far_end, 1000, 2000, plan, probe->next_sequence, probe->packets,

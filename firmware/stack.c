@@ -7,7 +7,7 @@
  * deepest path.
  *
  * What each call answered is printed: firmware/run holds the numbers to the list of refusals that testkit.h has for the
- * call, so that each was met and no other. What else an answer may say (whether a plan has a last packet, a verdict's
+ * call, so that each was met and no other. What else an answer may say (whether an accepted plan has a packet, a verdict's
  * reason, a message's outcome, what is to be done with it and why, whether a session was added or removed, whether a
  * report's two verdicts hold) is checked here: exit status 1 where one was never met.
  *
@@ -108,7 +108,7 @@ static void call_generate(void)
 static void call_forecast(void)
 {
     struct testkit_plan_forecast forecast = ENTER(testkit_forecast)(version, plan, plan_sequence);
-    note(forecast.number, forecast.has_last);
+    note(forecast.number, forecast.number != 0 ? 0 : 1 + forecast.has_last);
 }
 static void call_elements(void) { note(ENTER(testkit_validate_elements)(in, in_length), 0); }
 static void call_sent(void) { note(ENTER(testkit_record_sent)(SHEET, sequence, 7).number, 0); }
@@ -185,7 +185,7 @@ static struct row {
     {"testkit_decode", call_decode, TESTKIT_STACK_DECODE, BITS(0, 0), 0, 0, {0}},
     {"testkit_echo", call_echo, TESTKIT_STACK_ECHO, BITS(0, 0), 0, 0, {0}},
     {"testkit_generate", call_generate, TESTKIT_STACK_GENERATE, BITS(0, 0), 0, 0, {0}},
-    {"testkit_forecast", call_forecast, TESTKIT_STACK_FORECAST, BITS(0, 1), 0, 0, {0}},
+    {"testkit_forecast", call_forecast, TESTKIT_STACK_FORECAST, BITS(0, 2), 0, 0, {0}},
     {"testkit_validate_elements", call_elements, TESTKIT_STACK_VALIDATE_ELEMENTS, BITS(0, 0), 0, 0, {0}},
     {"testkit_record_sent", call_sent, TESTKIT_STACK_RECORD_SENT, BITS(0, 0), 0, 0, {0}},
     {"testkit_record_received_tpdu", call_received, TESTKIT_STACK_RECORD_RECEIVED_TPDU, BITS(0, 0), 0, 0, {0}},

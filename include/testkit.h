@@ -382,8 +382,8 @@ struct testkit_written testkit_generate(
 /* 0 and how big a plan will be; or a refusal's number and zeros. */
 struct testkit_plan_forecast {
     uint8_t number;
-    bool has_last;                   /* whether there is a last packet: not where packet_count is 0 */
-    size_t bytes;                    /* of all packets together: the least `out` of testkit_generate */
+    bool has_last;                   /* whether there is a last packet: not on a refusal, nor where packet_count is 0 */
+    size_t bytes;                    /* of all packets together: the least out_length of testkit_generate */
     uint64_t last_sequence;          /* of the last packet, else 0 */
     uint64_t last_send_timestamp_ns; /* of the last packet, else 0 */
 };
@@ -392,7 +392,7 @@ struct testkit_plan_forecast {
  * How big a plan will be, without building a packet. Nothing is lent, so nothing changes: next_sequence is handed in by
  * value, and none comes back.
  *   version       as for testkit_build
- *   next_sequence what testkit_generate would be lent
+ *   next_sequence the value that the caller's record has before testkit_generate
  * With `bytes` bytes or more testkit_generate then writes just these packets, and leaves the next sequence at
  * last_sequence + 1, or as it was where there is no packet; with fewer it refuses by TESTKIT_OUTPUT_TOO_SHORT, which no
  * forecast does. Refuses where testkit_generate refuses whatever the buffer, in the same order: by

@@ -34,16 +34,16 @@ pub fn building(seed: u64, rounds: u64) -> Part {
             let due = probe.flow.source.is_ipv4().then_some(Word(0));
             part.case(&tpdu, checksums(&tpdu), (due, Word(0xffff)));
         }
-        let values = spoiled(&mut random, probe);
+        let values = with_junk(&mut random, probe);
         let tpdu = build(probe);
         writes(&mut part, &tpdu, Ok(&tpdu), |out| ours::build(&values, out));
     }
     part
 }
 
-/// A probe as a call of ours is handed it, with what the call must not look at: bytes in an IPv4 address
-/// past the 4 that count; and any version but 4 for IPv6.
-pub fn spoiled(random: &mut Random, probe: Probe) -> Values {
+/// A probe as a call of ours is handed it, with what must change nothing: bytes in an IPv4 address past
+/// the 4 that count; for IPv6, every second time, any version but 4.
+pub fn with_junk(random: &mut Random, probe: Probe) -> Values {
     let mut values = Values::from(probe);
     if values.version == 4 {
         values.src[4..].copy_from_slice(&random.bytes(12));

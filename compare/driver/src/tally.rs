@@ -212,8 +212,10 @@ fn any_packets(random: &mut Random, most: usize) -> Option<Vec<(u64, u64, Vec<u8
     };
     let mut engine = ours_traffic::Engine::with_first_sequence(first.sequence);
     let values = Values::from(first);
-    let mut out = vec![0; engine.forecast(&values, count, rate).bytes];
+    let forecast = engine.forecast(&values, count, rate);
+    let mut out = vec![0; forecast.bytes];
     let written = engine.generate(&values, count, rate, &mut out);
+    assert_eq!(forecast.number, written.number, "a plan was not generated as forecast");
     let size = written.bytes / count.max(1) as usize;
     (written.number == 0).then(|| {
         let interval = 1_000_000_000 / rate;

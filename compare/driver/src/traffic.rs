@@ -5,7 +5,7 @@
 use testkit_open::traffic::{GeneratedPacket, TrafficPlan};
 
 use crate::compared::Answer;
-use crate::measurement::spoiled;
+use crate::measurement::with_junk;
 use crate::numbers::*;
 use crate::ours::{Values, Written};
 use crate::ours_traffic::{self, Forecast};
@@ -145,7 +145,7 @@ fn generates(
     };
     for room in rooms {
         let mut ours = fresh;
-        let plan = (spoiled(random, first), count, rate);
+        let plan = (with_junk(random, first), count, rate);
         generates_on(part, seen, &mut ours, plan, &due, room);
     }
 }
@@ -165,7 +165,7 @@ fn run(part: &mut Part, seen: &mut Seen, random: &mut Random) {
         };
         let before = rust.next_sequence();
         let packets = due_packets(&mut rust, first, count, rate);
-        let plan = (spoiled(random, first), count, rate);
+        let plan = (with_junk(random, first), count, rate);
         let forecast = ours.forecast(&plan.0, count, rate);
         let room = match forecast.number {
             0 => forecast.bytes.saturating_sub(random.below(4) / 3),

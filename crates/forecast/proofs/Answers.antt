@@ -1,11 +1,9 @@
 -- The code's answers mean the forecast.
 use Prim.Native.Nat.{ℕ, _+_, _-_, _*_, _^_, _<_, _≤_}
-use native.Mathlib.Nat.{zero-mul}
-use mathlib.Core.Path.{_≡_, sym, ap, ap₂, _∙_}
-use mathlib.Core.List.{[]}
-use mathlib.Core.Option.{some, none}
+use native.Mathlib.Omega.{arith}
+use mathlib.Core.Path.{_≡_, ap, ap₂, _∙_}
+use mathlib.Core.Option.{some}
 use Rattle.error.specs.Outcome.{gives}
-use Rattle.measurement.specs.declared.InnerIpFlow.{InnerIpFlow}
 use Rattle.measurement.specs.declared.IpVersion.{IpVersion}
 use Rattle.measurement_packet.specs.Packet.{ipHeaderLength}
 use Rattle.plan.specs.Plan.{top, judgePlan}
@@ -14,15 +12,11 @@ use Rattle.plan.specs.declared.Interval.the-variants as interval
 use Rattle.plan.specs.declared.JudgedPlan.{JudgedPlan}
 use Rattle.plan.specs.declared.TrafficPlan.{TrafficPlan}
 use Rattle.plan.proofs.Answers.{answer-refused, answer-accepted, answer-planned, planned-time, planned-fits}
-use Rattle.traffic.proofs.Answers.{all-fits}
+use Rattle.traffic.proofs.Answers.{all-within}
 use Rattle.forecast.specs.Answer.{forecastMeans}
 use Rattle.forecast.specs.Forecast.{forecastOf}
 use Rattle.forecast.specs.declared.PlanForecast.the-variants as answer
-use Rattle.forecast.proofs.Size.{none-last, some-last, forecast-refused, forecast-accepted}
-
--- the forecast asks for no flow; this one has the version
-abbrev some-flow : IpVersion → InnerIpFlow
-some-flow version = record { version = version; src = []; dst = []; «src_port» = 0; «dst_port» = 0 }
+use Rattle.forecast.proofs.Figures.{some-last, forecast-refused, forecast-accepted, forecast-empty}
 
 module _ (version : IpVersion) (plan : TrafficPlan) (next : ℕ) (r : JudgedPlan) (e : Judges plan r (judgePlan plan next)) where
   pub answer-refuses : (n : ℕ) → r .interval ≡ interval.Refused n → forecastMeans (answer.Refused n) ≡ forecastOf version plan next
@@ -30,16 +24,13 @@ module _ (version : IpVersion) (plan : TrafficPlan) (next : ℕ) (r : JudgedPlan
 
   module _ (i : ℕ) (a : r .interval ≡ interval.Nanoseconds i) where
     pub answer-empty : plan .«packet_count» ≡ 0 → forecastMeans answer.Empty ≡ forecastOf version plan next
-    answer-empty z =
-        let n : 0 ≡ plan .«packet_count» * (ipHeaderLength version + 32) = sym (ap (λ (x : ℕ). x * (ipHeaderLength version + 32)) z ∙ zero-mul (ipHeaderLength version + 32)) in
-        ap (λ (x : ℕ). gives (record { bytes = x; last = none })) n
-        ∙ forecast-accepted plan next version none (none-last plan next z) (answer-accepted plan next r e i a .2)
+    answer-empty z = forecast-empty plan next version z (answer-accepted plan next r e i a .2)
 
     planned : next ≤ top → Planned plan i next
     planned low = answer-planned plan next r e i a low
 
     pub bytes-fit : (s : ℕ) → s ≡ ipHeaderLength version + 32 → plan .«packet_count» * s < 2 ^ 64
-    bytes-fit s es = all-fits (some-flow version) (plan .«packet_count») s (answer-accepted plan next r e i a .1 .count-within) es
+    bytes-fit s es = omega (arith, all-within version 2048 (plan .«packet_count») s (answer-accepted plan next r e i a .1 .count-within) es)
 
     pub sequence-fits : next ≤ top → next + plan .«packet_count» ≤ top
     sequence-fits low = planned low .sequences

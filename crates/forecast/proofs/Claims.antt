@@ -1,10 +1,9 @@
 -- The claims of specs/Claims.antt, proved.
 use Prim.Native.Nat.{ℕ, _+_, _-_, _*_, _≤_}
 use native.Mathlib.Omega.{arith}
-use native.Mathlib.Nat.{zero-mul}
 use mathlib.Core.Path.{_≡_, refl, sym, ap, _∙_}
 use mathlib.Core.List.{List}
-use mathlib.Core.Option.{some, none}
+use mathlib.Core.Option.{some}
 use Rattle.error.specs.Outcome.{Outcome, refused, gives}
 use Rattle.error.proofs.Causes.{refused-gives}
 use Rattle.measurement.specs.declared.IpVersion.the-variants.{V6}
@@ -13,10 +12,11 @@ use Rattle.measurement_packet.specs.Packet.{ipHeaderLength}
 use Rattle.plan.specs.Plan.{rateCauses, timeAt, packetsFrom, packetsOf, leaving, causesAt, causesFrom, firstPlanCause, judgePackets, planCauses, judgePlan}
 use Rattle.plan.specs.Claims.{Acceptable, planOf}
 use Rattle.plan.proofs.Judged.{plan-accepted}
-use Rattle.plan.proofs.Claims.{accepted-if-acceptable, same-refusal, plan-numbers}
-use Rattle.forecast.specs.Forecast.{lastOf, sizeOf, forecastOf}
-use Rattle.forecast.specs.Claims.{LastOfPackets, NoPackets, ForecastNumbers, Examples}
-use Rattle.forecast.proofs.Size.{none-last, some-last, forecast-refused, forecast-accepted}
+use Rattle.plan.proofs.Claims.{accepted-if-acceptable, given, same-refusal, plan-numbers}
+use Rattle.traffic.proofs.Answers.{all-within}
+use Rattle.forecast.specs.Forecast.{Figures, lastOf, figuresOf, forecastOf}
+use Rattle.forecast.specs.Claims.{LastOfPackets, NoPackets, EnoughForEvery, ForecastNumbers, Examples}
+use Rattle.forecast.proofs.Figures.{some-last, forecast-refused, forecast-accepted, forecast-empty}
 
 pub last-of-packets : LastOfPackets
 last-of-packets version plan next a h =
@@ -34,9 +34,17 @@ no-packets version plan next z p l =
       sequences = λ k h. absurd (omega arith);
       times = λ k h. absurd (omega arith);
     } in
-    sym (forecast-accepted plan next version none (none-last plan next z) (accepted-if-acceptable plan next a))
-    ∙ ap (λ (n : ℕ). gives (record { bytes = n; last = none }))
-    (ap (λ (x : ℕ). x * (ipHeaderLength version + 32)) z ∙ zero-mul (ipHeaderLength version + 32))
+    sym (forecast-empty plan next version z (accepted-if-acceptable plan next a))
+
+pub enough-for-every : EnoughForEvery
+enough-for-every version plan next figures e = judged-as (judgePlan plan next .outcome) refl
+  where
+    judged-as : (o : Outcome (List MeasurementHeader)) → judgePlan plan next .outcome ≡ o → figures .bytes ≤ 147456
+    judged-as (refused m) q = absurd (refused-gives (forecast-refused plan next version m q ∙ e))
+    judged-as (gives packets) q =
+        let a = plan-accepted plan next packets q in
+        let same = given (forecast-accepted plan next version _ refl (a .1) ∙ e) in
+        omega (arith, ap (λ (f : Figures). f .bytes) same, all-within version 2048 (plan .«packet_count») (ipHeaderLength version + 32) (a .0 .count-within) refl)
 
 pub forecast-numbers : ForecastNumbers
 forecast-numbers version plan next n e = judged-as (judgePlan plan next .outcome) refl
@@ -49,7 +57,7 @@ forecast-numbers version plan next n e = judged-as (judgePlan plan next .outcome
         absurd (refused-gives (sym (forecast-accepted plan next version _ refl (plan-accepted plan next packets q .1) ∙ e)))
 
 pub examples : Examples
-unfolding forecastOf sizeOf lastOf ipHeaderLength judgePlan judgePackets planCauses rateCauses leaving firstPlanCause causesFrom causesAt packetsOf packetsFrom
+unfolding forecastOf figuresOf lastOf ipHeaderLength judgePlan judgePackets planCauses rateCauses leaving firstPlanCause causesFrom causesAt packetsOf packetsFrom
 examples = record {
   largest = last-of-packets V6 (planOf 2048 1000000000 0) 0 (record {
     rate-positive = omega arith;

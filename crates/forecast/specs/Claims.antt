@@ -10,7 +10,7 @@ use Rattle.measurement_packet.specs.Packet.{ipHeaderLength}
 use Rattle.plan.specs.Plan.{top, timeAt}
 use Rattle.plan.specs.Claims.{Acceptable, planOf}
 use Rattle.plan.specs.declared.TrafficPlan.{TrafficPlan}
-use Rattle.forecast.specs.Forecast.{forecastOf}
+use Rattle.forecast.specs.Forecast.{Figures, forecastOf}
 
 -- An acceptable plan in numbers: count packets of 52 bytes (IPv4) or 72 (IPv6), of which the last has the next sequence
 -- + count − 1 and the first time + (count − 1) × interval.
@@ -29,14 +29,19 @@ NoPackets = (version : IpVersion) (plan : TrafficPlan) (next : ℕ) → plan .«
     → 0 < plan .«target_rate_pps» → plan .«target_rate_pps» ≤ 1000000000
     → forecastOf version plan next ≡ gives (record { bytes = 0; last = none })
 
+-- "for buffer sizes too": 147,456 bytes, which 2,048 packets of IPv6 have, are enough for every plan.
+abbrev pub EnoughForEvery : Type 0
+EnoughForEvery = (version : IpVersion) (plan : TrafficPlan) (next : ℕ) (figures : Figures)
+    → forecastOf version plan next ≡ gives figures → figures .bytes ≤ 147456
+
 -- "It refuses with 16 to 20", and by no other number.
 abbrev pub ForecastNumbers : Type 0
 ForecastNumbers = (version : IpVersion) (plan : TrafficPlan) (next n : ℕ)
     → forecastOf version plan next ≡ refused n → (16 ≤ n) × (n ≤ 20)
 
--- The largest plan of all; one that ends one below the top sequence and at the top time; 18 before 19; 19 where 20 is
--- due at the same packet; 20 where it alone is due; no packet at the top sequence; and no packet at rate 0, which is
--- still refused by 16.
+-- 2,048 packets of IPv6; a plan that ends one below the top sequence and at the top time; 18 before 19; 19 where 20 is
+-- due at the same packet; 20 where it alone is due; count 0 at the top sequence, which has 0 bytes; and count 0 at rate
+-- 0, which is still refused by 16.
 pub record Examples : Type 0 where
   pub largest : forecastOf V6 (planOf 2048 1000000000 0) 0
       ≡ gives (record { bytes = 147456; last = some (record { sequence = 2047; «send_timestamp_ns» = 2047 }) })

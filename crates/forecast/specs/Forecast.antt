@@ -12,7 +12,7 @@ use Rattle.plan.specs.Plan.{judgePlan}
 use Rattle.plan.specs.declared.TrafficPlan.{TrafficPlan}
 
 -- "the bytes, the last sequence and the last send time": what the last packet carries, if there is a packet.
-pub record Size : Type 0 where
+pub record Figures : Type 0 where
   pub bytes : ℕ
   pub last : Option MeasurementHeader
 
@@ -22,17 +22,18 @@ lastOf [] = none
 lastOf (x ∷ []) = some x
 lastOf (x ∷ y ∷ l) = lastOf (y ∷ l)
 
--- The size of packets. Each has an IP header, 8 bytes of UDP header and 24 of the probe. "count 0 gives 0 bytes and no
--- last packet."
-unfoldable pub sizeOf : IpVersion → List MeasurementHeader → Size
-sizeOf version packets =
+-- The figures of packets. Each has an IP header, 8 bytes of UDP header and 24 of the probe. "count 0 gives 0 bytes and
+-- no last packet."
+unfoldable pub figuresOf : IpVersion → List MeasurementHeader → Figures
+figuresOf version packets =
     record { bytes = length packets * (ipHeaderLength version + 32); last = lastOf packets }
+
+-- A plan's figures, from how it is judged.
+abbrev pub figuresJudged : IpVersion → Outcome (List MeasurementHeader) → Outcome Figures
+figuresJudged version (refused n) = refused n
+figuresJudged version (gives packets) = gives (figuresOf version packets)
 
 -- "It refuses with 16 to 20 in the generator's order": the plan is judged as for the generator. It "changes nothing":
 -- the next sequence that the judgement has is no part of the outcome.
-unfoldable pub forecastOf : IpVersion → TrafficPlan → ℕ → Outcome Size
-forecastOf version plan next =
-    elim (judgePlan plan next .outcome) [
-      | refused n ↦ refused n
-      | gives packets ↦ gives (sizeOf version packets)
-    ]
+unfoldable pub forecastOf : IpVersion → TrafficPlan → ℕ → Outcome Figures
+forecastOf version plan next = figuresJudged version (judgePlan plan next .outcome)

@@ -8,7 +8,8 @@ use plan::TrafficPlan;
 ghost use mathlib.Core.Path.{_≡_};
 ghost use Rattle.forecast.specs.Forecast.{forecastOf};
 ghost use Rattle.forecast.specs.Answer.{forecastMeans};
-ghost use Rattle.forecast.specs.Claims.{LastOfPackets, NoPackets, ForecastNumbers, Examples};
+ghost use Rattle.forecast.specs.Claims.{LastOfPackets, NoPackets, EnoughForEvery};
+ghost use Rattle.forecast.specs.Claims.{ForecastNumbers, Examples};
 
 // All packets of a plan: how many bytes they have together, and what the last of them carries.
 pub struct PlannedPackets {
@@ -51,10 +52,10 @@ pub fn forecast(version: IpVersion, plan: TrafficPlan, next_sequence: u64) -> Pl
     }
 }
 
-// Carries the size of an accepted plan in numbers, that a plan without packets has no last one, and which numbers
-// refuse.
-pub fn size_in_numbers()
-    ensures { λ _. ⌜ LastOfPackets × NoPackets × ForecastNumbers ⌝ }
+// Carries the figures of an accepted plan in numbers, that a plan without packets has no last one, how many bytes are
+// enough for every plan, and which numbers refuse.
+pub fn figures_of_a_plan()
+    ensures { λ _. ⌜ LastOfPackets × NoPackets × EnoughForEvery × ForecastNumbers ⌝ }
 {}
 
 // Carries the worked examples.

@@ -32,17 +32,17 @@ fn print_last(last: MeasurementHeader) {
     text::print_milliseconds(last.send_timestamp_ns);
 }
 
-fn print_size(packets: PlannedPackets) {
+fn print_figures(packets: PlannedPackets) {
     text::print_count(b"forecast:  ", packets.bytes as u64);
     text::print(b" bytes, ");
     print_last(packets.last);
     text::print(b"\n");
 }
 
-// How big the plan will be. A plan that is refused has no size; accepted words have none without a probe.
+// How big the plan will be. Accepted words always lead to packets.
 fn print_forecast(forecast: PlanForecast) {
     match forecast {
-        PlanForecast::Packets(packets) => print_size(packets),
+        PlanForecast::Packets(packets) => print_figures(packets),
         PlanForecast::Empty => text::print(b"forecast:  0 bytes, no probe\n"),
         PlanForecast::Refused(number) => (),
     }

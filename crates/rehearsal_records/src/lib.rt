@@ -24,7 +24,7 @@ fn print_plan(s: &Scenario, window_start_ns: u64) {
     text::print(b"},\n");
 }
 
-fn print_size(packets: PlannedPackets) {
+fn print_figures(packets: PlannedPackets) {
     let last = packets.last;
     text::print_count(b"\"forecast\": {\"bytes\": ", packets.bytes as u64);
     text::print_count(b", \"last_sequence\": ", last.sequence);
@@ -32,10 +32,10 @@ fn print_size(packets: PlannedPackets) {
     text::print(b"},\n");
 }
 
-// How big the plan was to be: null where it was refused or has no probe, to which accepted words never lead.
+// How big the plan was to be. Accepted words always lead to packets; null stands for anything else.
 fn print_forecast(forecast: PlanForecast) {
     match forecast {
-        PlanForecast::Packets(packets) => print_size(packets),
+        PlanForecast::Packets(packets) => print_figures(packets),
         PlanForecast::Empty => text::print(b"\"forecast\": null,\n"),
         PlanForecast::Refused(number) => text::print(b"\"forecast\": null,\n"),
     }

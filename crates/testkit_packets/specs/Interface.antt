@@ -9,7 +9,7 @@ use Rattle.measurement.specs.Flow.{versionNumbered, versionNumber}
 use Rattle.measurement.specs.declared.InnerIpFlow.{InnerIpFlow}
 use Rattle.measurement_decode.specs.declared.TpduNumbers.{TpduNumbers}
 use Rattle.traffic.specs.Generate.{Generating}
-use Rattle.forecast.specs.Forecast.{Size}
+use Rattle.forecast.specs.Forecast.{Figures}
 use Rattle.testkit_packets.specs.declared.TestkitPlanForecast.{TestkitPlanForecast}
 use Rattle.testkit_packets.specs.declared.TestkitTpdu.{TestkitTpdu}
 use Rattle.testkit_packets.specs.declared.TestkitWritten.{TestkitWritten}
@@ -32,22 +32,20 @@ abbrev pub writtenNumbers : Outcome ℕ → TestkitWritten
 writtenNumbers (refused n) = record { number = n; bytes = 0 }
 writtenNumbers (gives bytes) = record { number = 0; bytes = bytes }
 
--- 0 and the size of a plan, with zeros for a last packet that there is not; or a refusal's number and zeros.
-abbrev pub forecastNumbers : Outcome Size → TestkitPlanForecast
-forecastNumbers (refused n) =
-    record { number = n; «has_last» = false; bytes = 0; «last_sequence» = 0; «last_send_timestamp_ns» = 0 }
-forecastNumbers (gives size) = elim (size .last) [
-  | none ↦ record {
-    number = 0;
-    «has_last» = false;
-    bytes = size .bytes;
-    «last_sequence» = 0;
-    «last_send_timestamp_ns» = 0;
-  }
+-- A forecast where there is no last packet.
+abbrev pub withoutLast : ℕ → ℕ → TestkitPlanForecast
+withoutLast number bytes =
+    record { number = number; «has_last» = false; bytes = bytes; «last_sequence» = 0; «last_send_timestamp_ns» = 0 }
+
+-- 0 and the figures of a plan; or a refusal's number and zeros.
+abbrev pub forecastNumbers : Outcome Figures → TestkitPlanForecast
+forecastNumbers (refused n) = withoutLast n 0
+forecastNumbers (gives figures) = elim (figures .last) [
+  | none ↦ withoutLast 0 (figures .bytes)
   | some last ↦ record {
     number = 0;
     «has_last» = true;
-    bytes = size .bytes;
+    bytes = figures .bytes;
     «last_sequence» = last .sequence;
     «last_send_timestamp_ns» = last .«send_timestamp_ns»;
   }

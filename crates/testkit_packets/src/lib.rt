@@ -24,7 +24,7 @@ ghost use Rattle.forecast.specs.Forecast.{forecastOf};
 ghost use Rattle.forecast.specs.Answer.{forecastMeans};
 ghost use Rattle.gtpu.specs.Element.{elementsOf};
 ghost use Rattle.testkit_packets.specs.Interface.{versionOf, flowOf, writtenNumbers, testkitTpdu, GeneratedStep};
-ghost use Rattle.testkit_packets.specs.Interface.{forecastNumbers};
+ghost use Rattle.testkit_packets.specs.Interface.{withoutLast, forecastNumbers};
 
 // The version of the interface. The major version rises if a program may have to be changed, otherwise the minor if
 // something was added, otherwise the patch (include/testkit.h).
@@ -196,6 +196,19 @@ pub extern "C" fn testkit_generate(
     written_numbers(traffic::generate_from(next_sequence, flow, plan, out))
 }
 
+// A forecast where there is no last packet: 0, or a refusal's number.
+fn without_last(number: u8) -> TestkitPlanForecast
+    ensures { λ r. ⌜ r ≡ withoutLast number 0 ⌝ }
+{
+    TestkitPlanForecast {
+        number,
+        has_last: false,
+        bytes: 0,
+        last_sequence: 0,
+        last_send_timestamp_ns: 0,
+    }
+}
+
 // A forecast in numbers.
 fn forecast_numbers(answer: PlanForecast) -> TestkitPlanForecast
     ensures { λ r. ⌜ r ≡ forecastNumbers (forecastMeans answer) ⌝ }
@@ -211,20 +224,8 @@ fn forecast_numbers(answer: PlanForecast) -> TestkitPlanForecast
                 last_send_timestamp_ns: last.send_timestamp_ns,
             }
         }
-        PlanForecast::Empty => TestkitPlanForecast {
-            number: 0,
-            has_last: false,
-            bytes: 0,
-            last_sequence: 0,
-            last_send_timestamp_ns: 0,
-        },
-        PlanForecast::Refused(number) => TestkitPlanForecast {
-            number: number,
-            has_last: false,
-            bytes: 0,
-            last_sequence: 0,
-            last_send_timestamp_ns: 0,
-        },
+        PlanForecast::Empty => without_last(0),
+        PlanForecast::Refused(number) => without_last(number),
     }
 }
 

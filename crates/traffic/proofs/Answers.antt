@@ -36,16 +36,15 @@ module _ (bytes : List ℕ) (next after : ℕ) (buffer : List ℕ) where
   placing-fits h = rw (le-ltb (length buffer) (length bytes) h, writing, placing)
 
 -- room for the packets in numbers
-pub header-short : (v : IpVersion) → ipHeaderLength v ≤ 40
+header-short : (v : IpVersion) → ipHeaderLength v ≤ 40
 unfolding ipHeaderLength
 header-short V4 = omega arith
 header-short V6 = omega arith
 
-pub all-fits : (flow : InnerIpFlow) (n s : ℕ) → n ≤ 2048 → s ≡ size flow → n * s < 2 ^ 64
-all-fits flow n s h e =
-    let l : s ≤ 72 = omega (arith, header-short (flow .version)) in
-    let m : n * s ≤ 2048 * 72 = mul-le-mul h l in
-    omega arith
+pub all-within : (v : IpVersion) (most n s : ℕ) → n ≤ most → s ≡ ipHeaderLength v + 32 → n * s ≤ most * 72
+all-within v most n s h e =
+    let l : s ≤ 72 = omega (arith, header-short v) in
+    mul-le-mul h l
 
 module _ (flow : InnerIpFlow) (plan : TrafficPlan) (next : ℕ) (buffer : List ℕ) where
   abbrev bytes-of : List ℕ
@@ -78,7 +77,7 @@ module _ (flow : InnerIpFlow) (plan : TrafficPlan) (next : ℕ) (buffer : List �
       count-fits = answer-accepted plan next r e i a .1 .count-within
 
       pub length-fits : (s : ℕ) → s ≡ size flow → plan .«packet_count» * s < 2 ^ 64
-      length-fits s es = all-fits flow (plan .«packet_count») s count-fits es
+      length-fits s es = omega (arith, all-within (flow .version) 2048 (plan .«packet_count») s count-fits es)
 
       pub answer-short : (s : ℕ) → s ≡ size flow → length buffer < plan .«packet_count» * s
           → generated (written.Refused 15) next buffer ≡ generateOf flow plan next buffer

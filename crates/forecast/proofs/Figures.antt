@@ -1,6 +1,7 @@
--- The size of a plan's packets: how many they are, and the last of them.
+-- The figures of a plan's packets: how many they are, and the last of them.
 use Prim.Native.Nat.{ℕ, zero, suc, _+_, _-_, _*_, _<_}
 use native.Mathlib.Omega.{arith}
+use native.Mathlib.Nat.{zero-mul}
 use mathlib.Core.Path.{_≡_, refl, sym, ap, ap₂, _∙_}
 use mathlib.Core.Option.{Option, some, none}
 use lib.ListN.{length}
@@ -11,7 +12,7 @@ use Rattle.measurement_packet.specs.Packet.{ipHeaderLength}
 use Rattle.plan.specs.Plan.{packetAt, packetsFrom, packetsOf, Judged, judgePlan}
 use Rattle.plan.specs.Claims.{accepted}
 use Rattle.plan.specs.declared.TrafficPlan.{TrafficPlan}
-use Rattle.forecast.specs.Forecast.{lastOf, sizeOf, forecastOf}
+use Rattle.forecast.specs.Forecast.{lastOf, figuresOf, figuresJudged, forecastOf}
 
 module _ (plan : TrafficPlan) (next : ℕ) where
   packets-count : (n k : ℕ) → length (packetsFrom plan next n k) ≡ n
@@ -38,13 +39,18 @@ module _ (plan : TrafficPlan) (next : ℕ) where
   module _ (version : IpVersion) where
     pub forecast-refused : (n : ℕ) → judgePlan plan next .outcome ≡ refused n → refused n ≡ forecastOf version plan next
     unfolding forecastOf
-    forecast-refused n e = rw (e, forecastOf)
+    forecast-refused n e = ap (figuresJudged version) (sym e)
 
     pub forecast-accepted : (last : Option MeasurementHeader) → lastOf (packetsOf plan next) ≡ last → judgePlan plan next ≡ accepted plan next
         → gives (record { bytes = plan .«packet_count» * (ipHeaderLength version + 32); last = last }) ≡ forecastOf version plan next
-    unfolding forecastOf sizeOf packetsOf
+    unfolding forecastOf figuresOf packetsOf
     forecast-accepted last l e =
-        let given : judgePlan plan next .outcome ≡ gives (packetsOf plan next) = ap (λ (j : Judged). j .outcome) e in
         let n : plan .«packet_count» ≡ length (packetsOf plan next) = sym (packets-count (plan .«packet_count») 0) in
         ap₂ (λ (n : ℕ) (x : Option MeasurementHeader). gives (record { bytes = n * (ipHeaderLength version + 32); last = x })) n (sym l)
-        ∙ rw (given, forecastOf)
+        ∙ ap (λ (j : Judged). figuresJudged version (j .outcome)) (sym e)
+
+    pub forecast-empty : plan .«packet_count» ≡ 0 → judgePlan plan next ≡ accepted plan next
+        → gives (record { bytes = 0; last = none }) ≡ forecastOf version plan next
+    forecast-empty z e =
+        let n : 0 ≡ plan .«packet_count» * (ipHeaderLength version + 32) = sym (ap (λ (x : ℕ). x * (ipHeaderLength version + 32)) z ∙ zero-mul (ipHeaderLength version + 32)) in
+        ap (λ (x : ℕ). gives (record { bytes = x; last = none })) n ∙ forecast-accepted none (none-last z) e
