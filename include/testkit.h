@@ -361,8 +361,8 @@ struct testkit_plan {
  *   next_sequence       the caller's own record of the sequence that comes next, changed in place. Lend the same place
  *                       for the next plan, also after a refusal, and never restore an older copy. Sequence UINT64_MAX
  *                       is never sent
- *   out                 packet_count * 52 bytes (IPv4) or packet_count * 72 (IPv6), as testkit_forecast tells; 147456
- *                       are enough for every plan
+ *   out                 packet_count * 52 bytes (IPv4) or packet_count * 72 (IPv6): testkit_forecast gives the number;
+ *                       147456 are enough for every plan
  * On success *next_sequence rises by packet_count. Refuses by TESTKIT_TARGET_RATE_IS_ZERO (16),
  * TESTKIT_TARGET_RATE_EXCEEDS_RESOLUTION (17), TESTKIT_TOO_MANY_PACKETS (18); then by TESTKIT_SEQUENCE_OVERFLOW (19)
  * before TESTKIT_SEND_TIMESTAMP_OVERFLOW (20) at the first packet that either stops; then by TESTKIT_OUTPUT_TOO_SHORT

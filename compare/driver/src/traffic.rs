@@ -116,8 +116,8 @@ fn near_top(random: &mut Random, count: u64, step: u64) -> Vec<u64> {
 }
 
 /// Holds a plan against what is due, forecast and generated: in an output that is longer than the
-/// forecast says, of just that length, one byte short and empty; where the forecast refuses, in a long
-/// and an empty one.
+/// forecast that is due (and that ours is held to), of just that length, one byte short and empty; where
+/// a refusal is due, in a long and an empty one.
 fn generates(
     part: &mut Part,
     seen: &mut Seen,
@@ -128,23 +128,16 @@ fn generates(
 ) {
     let mut rust = Engine::with_first_sequence(first.sequence);
     let due = Due::of(due_packets(&mut rust, first, count, rate), &rust);
-    let fresh = ours_traffic::Engine::with_first_sequence(first.sequence);
-    let rooms = match fresh.forecast(&Values::from(first), count, rate) {
-        Forecast {
-            number: 0,
-            bytes: 0,
-            ..
-        } => vec![80, 0],
-        Forecast {
-            number: 0, bytes, ..
-        } => vec![bytes + 80, bytes, bytes - 1, 0],
+    let rooms = match (due.forecast.number, due.forecast.bytes) {
+        (0, 0) => vec![80, 0],
+        (0, bytes) => vec![bytes + 80, bytes, bytes - 1, 0],
         _ => vec![
             count.min(MOST_PACKETS) as usize * build(first).len() + 80,
             0,
         ],
     };
     for room in rooms {
-        let mut ours = fresh;
+        let mut ours = ours_traffic::Engine::with_first_sequence(first.sequence);
         let plan = (with_junk(random, first), count, rate);
         generates_on(part, seen, &mut ours, plan, &due, room);
     }
@@ -165,16 +158,16 @@ fn run(part: &mut Part, seen: &mut Seen, random: &mut Random) {
         };
         let before = rust.next_sequence();
         let packets = due_packets(&mut rust, first, count, rate);
-        let plan = (with_junk(random, first), count, rate);
-        let forecast = ours.forecast(&plan.0, count, rate);
+        let forecast = due_forecast(&packets);
         let room = match forecast.number {
             0 => forecast.bytes.saturating_sub(random.below(4) / 3),
             _ => 80,
         };
-        if room < due_forecast(&packets).bytes {
+        if room < forecast.bytes {
             rust = Engine::with_first_sequence(before); // the Rust has no 15
         }
         let due = Due::of(packets, &rust);
+        let plan = (with_junk(random, first), count, rate);
         generates_on(part, seen, &mut ours, plan, &due, room);
     }
 }
