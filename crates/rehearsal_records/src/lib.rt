@@ -24,11 +24,14 @@ fn print_plan(s: &Scenario, window_start_ns: u64) {
     text::print(b"},\n");
 }
 
-fn print_figures(packets: PlannedPackets) {
-    let last = packets.last;
-    text::print_count(b"\"forecast\": {\"bytes\": ", packets.bytes as u64);
+fn print_last(last: MeasurementHeader) {
     text::print_count(b", \"last_sequence\": ", last.sequence);
     text::print_count(b",\n  \"last_send_timestamp_ns\": ", last.send_timestamp_ns);
+}
+
+fn print_figures(packets: PlannedPackets) {
+    text::print_count(b"\"forecast\": {\"bytes\": ", packets.bytes as u64);
+    print_last(packets.last);
     text::print(b"},\n");
 }
 

@@ -115,8 +115,8 @@ fn forecast_of(s: &[u8]) -> TestkitPlanForecast {
     )
 }
 
-// Whether a forecast has the last of these bytes' packets: its sequence is one below the next, and it ends with its
-// time. Without a byte there is no last packet.
+// Whether a forecast's last packet is the record's: its sequence is one below the next sequence afterwards, and its
+// time stands at the end of the bytes that are written. Where none is written there is no last packet.
 fn same_last(forecast: TestkitPlanForecast, bytes: usize, s: &[u8]) -> bool {
     if bytes == 0 {
         return !forecast.has_last;

@@ -40,13 +40,13 @@ pub record SameAsGenerator (flow : InnerIpFlow) (plan : TrafficPlan) (next : ℕ
   -- One way: with every buffer the generator answers what the forecast says.
   pub answers : (buffer : List ℕ)
       → generateOf flow plan next buffer .outcome ≡ answerIn (length buffer) (forecastOf (flow .version) plan next)
-  -- The other way: what the generator answers with one buffer, whichever it is, the forecast says; but 15, which says
-  -- nothing of the plan.
+  -- The other way: the generator's answer with any one buffer is what the forecast says; 15 aside, which says nothing
+  -- of the plan.
   pub refuses-if : (n : ℕ) (buffer : List ℕ) → generateOf flow plan next buffer .outcome ≡ refused n → (n ≡ 15 → ⊥)
       → forecastOf (flow .version) plan next ≡ refused n
   pub gives-if : (bytes : ℕ) (buffer : List ℕ) → generateOf flow plan next buffer .outcome ≡ gives bytes
       → bytesOf (forecastOf (flow .version) plan next) ≡ gives bytes
-  -- The next sequence is one above the last, with every buffer that has room.
+  -- With every buffer that has room the next sequence is then one above the last, and unmoved where there is no packet.
   pub next-sequence : (figures : Figures) → forecastOf (flow .version) plan next ≡ gives figures
       → (buffer : List ℕ) → figures .bytes ≤ length buffer
       → generateOf flow plan next buffer .next ≡ behindLast next (figures .last)
