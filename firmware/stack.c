@@ -7,9 +7,9 @@
  * deepest path.
  *
  * What each call answered is printed: firmware/run holds the numbers to the list of refusals that testkit.h has for the
- * call, so that each was met and no other. What else an answer may say (whether an accepted plan has a packet, a verdict's
- * reason, a message's outcome, what is to be done with it and why, whether a session was added or removed, whether a
- * report's two verdicts hold) is checked here: exit status 1 where one was never met.
+ * call, so that each was met and no other. What else an answer may say (whether an accepted plan has a packet, a
+ * verdict's reason, a message's outcome, what is to be done with it and why, whether a session was added or removed,
+ * whether a report's two verdicts hold) is checked here: exit status 1 where one was never met.
  *
  * Inputs. Packets, of both versions: built ones; cut at every length; each single bit turned; with each cause that a
  * checksum would hide, made right by another field; for IPv4 with options, of every IHL; each of these alone, and in
