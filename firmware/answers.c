@@ -92,7 +92,7 @@ static void expect_bytes(const char *what, const void *found, const void *due, s
 
 enum { ROWS = 8, PACKET = TESTKIT_IPV6_TPDU_BYTES };
 
-static uint8_t *src, *dst, *read_src, *read_dst, *packet, *out;
+static uint8_t *src, *dst, *read_src, *read_dst, *read_peer, *packet, *out;
 static uint64_t *next_sequence;
 
 static const uint8_t *copy(const uint8_t *bytes, size_t length) { return lend_copy(bytes, length); }
@@ -442,21 +442,195 @@ static void forecasts(uint8_t version)
         forecast_as(TESTKIT_SEND_TIMESTAMP_OVERFLOW, false, 0, 0, 0));
 }
 
+/* ---- Elements of an Error Indication ---- */
+
 static const uint8_t elements[12] = {16, 1, 2, 3, 4, 133, 0, 4, 10, 0, 0, 2};
+
+/* Elements to make lists of. The last eight are refused. */
+enum element {
+    END,
+    TEID,
+    TEID_2,
+    TEID_0,
+    IPV4,
+    IPV4_2,
+    IPV4_0,
+    IPV6,
+    IPV6_2,
+    EMPTY,
+    LIKE_TEID,
+    LIKE_ADDRESS,
+    CUT_TEID,
+    CUT_LENGTH,
+    CUT_VALUE,
+    CUT_ADDRESS,
+    ODD_ADDRESS,
+    CUT_ODD_ADDRESS,
+    FIXED,
+    CUT_FIXED
+};
+
+static const struct {
+    size_t length;
+    uint8_t bytes[19];
+} element_bytes[] = {
+    {0, {0}},
+    {5, {16, 0xFA, 0x0B, 0x0C, 0x0D}},
+    {5, {16, 0x1A, 0x1B, 0x1C, 0x1D}},
+    {5, {16, 0, 0, 0, 0}},
+    {7, {133, 0, 4, 10, 20, 30, 40}},
+    {7, {133, 0, 4, 50, 60, 70, 80}},
+    {7, {133, 0, 4, 0, 0, 0, 0}},
+    {19, {133, 0, 16, 201, 202, 203, 204, 205, 206, 207, 208, 209, 210, 211, 212, 213, 214, 215, 216}},
+    {19, {133, 0, 16, 101, 102, 103, 104, 105, 106, 107, 108, 109, 110, 111, 112, 113, 114, 115, 116}},
+    {3, {255, 0, 0}},
+    {9, {128, 0, 6, 16, 0x2A, 0x2B, 0x2C, 0x2D, 0x2E}}, /* LIKE_TEID: of another type, its value begins with a 16 */
+    {10, {134, 0, 7, 133, 0, 4, 90, 91, 92, 93}},       /* LIKE_ADDRESS: of another type, its value is a 133 */
+    {4, {16, 0x3A, 0x3B, 0x3C}},                        /* CUT_TEID, and from here on a refusal each */
+    {2, {200, 0}},
+    {5, {200, 0, 3, 1, 2}},
+    {18, {133, 0, 16, 61, 62, 63, 64, 65, 66, 67, 68, 69, 70, 71, 72, 73, 74, 75}},
+    {8, {133, 0, 5, 51, 52, 53, 54, 55}}, /* ODD_ADDRESS */
+    {6, {133, 0, 5, 51, 52, 53}},
+    {5, {17, 0x4A, 0x4B, 0x4C, 0x4D}}, /* FIXED */
+    {1, {17}},
+};
+
+static const uint8_t address_0[16] = {0};
+static const uint8_t address_4[16] = {10, 20, 30, 40};
+static const uint8_t address_6[16] = {201, 202, 203, 204, 205, 206, 207, 208,
+                                      209, 210, 211, 212, 213, 214, 215, 216};
+
+/* Lists, and what is due for each: the first TEID and the first address, or no tunnel where it is refused. */
+static const struct {
+    const char *what;
+    enum element list[6];
+    uint8_t number;
+    uint8_t version;
+    uint32_t teid;
+    const uint8_t *address;
+} lists[] = {
+    {"IPv4", {TEID, IPV4}, 0, 4, 0xFA0B0C0D, address_4},
+    {"IPv6", {TEID, IPV6}, 0, 6, 0xFA0B0C0D, address_6},
+    {"16 behind 133, IPv4", {IPV4, TEID}, 0, 4, 0xFA0B0C0D, address_4},
+    {"16 behind 133, IPv6", {IPV6, TEID}, 0, 6, 0xFA0B0C0D, address_6},
+    {"16 twice", {TEID, TEID_2, IPV4}, 0, 4, 0xFA0B0C0D, address_4},
+    {"16 twice, around 133", {TEID, IPV6, TEID_2}, 0, 6, 0xFA0B0C0D, address_6},
+    {"133 twice, of 4 bytes", {TEID, IPV4, IPV4_2}, 0, 4, 0xFA0B0C0D, address_4},
+    {"133 twice, of 16 bytes", {TEID, IPV6, IPV6_2}, 0, 6, 0xFA0B0C0D, address_6},
+    {"133 of 4 bytes, then of 16", {TEID, IPV4, IPV6}, 0, 4, 0xFA0B0C0D, address_4},
+    {"133 of 16 bytes, then of 4", {TEID, IPV6, IPV4}, 0, 6, 0xFA0B0C0D, address_6},
+    {"16 three times, 133 twice", {IPV4, TEID, TEID_2, IPV6, TEID_0}, 0, 4, 0xFA0B0C0D, address_4},
+    {"first of all TEID 0", {TEID_0, TEID, IPV4}, 0, 4, 0, address_4},
+    {"first of all an address of zeros", {IPV4_0, IPV6, TEID}, 0, 4, 0xFA0B0C0D, address_0},
+    {"both of zeros", {TEID_0, IPV4_0, TEID, IPV6}, 0, 4, 0, address_0},
+    {"another's value like a 16", {LIKE_TEID, TEID, IPV4}, 0, 4, 0xFA0B0C0D, address_4},
+    {"another's value like a 133", {LIKE_ADDRESS, TEID, IPV6}, 0, 6, 0xFA0B0C0D, address_6},
+    {"others around", {EMPTY, TEID, LIKE_TEID, IPV4, LIKE_ADDRESS}, 0, 4, 0xFA0B0C0D, address_4},
+    {"a cut 16", {TEID, IPV4, CUT_TEID}, TESTKIT_TRUNCATED_ELEMENT, 4, 0, address_0},
+    {"a cut length", {TEID, IPV6, CUT_LENGTH}, TESTKIT_TRUNCATED_ELEMENT, 4, 0, address_0},
+    {"a cut value", {IPV6, TEID, CUT_VALUE}, TESTKIT_TRUNCATED_ELEMENT, 4, 0, address_0},
+    {"a cut 133", {TEID, IPV4, CUT_ADDRESS}, TESTKIT_TRUNCATED_ELEMENT, 4, 0, address_0},
+    {"a cut value, and no 16", {IPV4, CUT_VALUE}, TESTKIT_TRUNCATED_ELEMENT, 4, 0, address_0},
+    {"a 133 of 5 bytes", {TEID, IPV6, ODD_ADDRESS}, TESTKIT_INVALID_PEER_ADDRESS_LENGTH, 4, 0, address_0},
+    {"a cut 133 of 5 bytes", {TEID, IPV4, CUT_ODD_ADDRESS}, TESTKIT_INVALID_PEER_ADDRESS_LENGTH, 4, 0, address_0},
+    {"a 133 of 5 bytes first", {ODD_ADDRESS, TEID, IPV6, FIXED}, TESTKIT_INVALID_PEER_ADDRESS_LENGTH, 4, 0, address_0},
+    {"a type under 128", {TEID, IPV6, FIXED}, TESTKIT_UNSUPPORTED_FIXED_LENGTH_ELEMENT, 4, 0, address_0},
+    {"a type alone", {TEID, IPV6, CUT_FIXED}, TESTKIT_UNSUPPORTED_FIXED_LENGTH_ELEMENT, 4, 0, address_0},
+    {"a type first", {FIXED, TEID, IPV4, CUT_TEID}, TESTKIT_UNSUPPORTED_FIXED_LENGTH_ELEMENT, 4, 0, address_0},
+    {"no 16", {IPV4, IPV6}, TESTKIT_MISSING_TEID_DATA_I, 4, 0, address_0},
+    {"no 16, another's value like it", {LIKE_TEID, IPV6}, TESTKIT_MISSING_TEID_DATA_I, 4, 0, address_0},
+    {"no 133", {TEID, TEID_2}, TESTKIT_MISSING_PEER_ADDRESS, 4, 0, address_0},
+    {"no 133, another's value like it", {TEID, LIKE_ADDRESS}, TESTKIT_MISSING_PEER_ADDRESS, 4, 0, address_0},
+    {"neither", {EMPTY}, TESTKIT_MISSING_TEID_DATA_I, 4, 0, address_0},
+    {"nothing", {END}, TESTKIT_MISSING_TEID_DATA_I, 4, 0, address_0},
+};
+
+static uint8_t list[256];
+
+/* Puts an element into `list` behind this many bytes: how many there are then. */
+static size_t put(size_t length, enum element element)
+{
+    memcpy(list + length, element_bytes[element].bytes, element_bytes[element].length);
+    return length + element_bytes[element].length;
+}
+
+/* What is due for a list: the walk's answer, and the address that the list names. Where the list is refused the address
+ * is zeros, as the sheet's call answers; the walk then writes none. */
+struct walked {
+    struct testkit_elements answer;
+    const uint8_t *address;
+};
+
+static struct walked walked_as(uint8_t number, uint8_t version, uint32_t teid, const uint8_t *address)
+{
+    struct walked made;
+    made.answer.number = number;
+    made.answer.version = version;
+    made.answer.teid = teid;
+    made.address = address;
+    return made;
+}
+
+/* The tunnel that `elements` name. */
+static struct walked named_by_elements(void)
+{
+    static const uint8_t address[16] = {10, 0, 0, 2};
+    return walked_as(0, 4, 0x01020304, address);
+}
+
+/* Makes each list, and hands its length and what is due for it to a check. */
+static void each_list(void (*check)(const char *what, size_t length, struct walked due))
+{
+    for (size_t k = 0; k < sizeof lists / sizeof *lists; k++) {
+        size_t length = 0;
+        for (const enum element *next = lists[k].list; *next != END; next++) {
+            length = put(length, *next);
+        }
+        check(lists[k].what, length, walked_as(lists[k].number, lists[k].version, lists[k].teid, lists[k].address));
+    }
+    /* the first ones at places around the 16th element and the 32nd, where the walk starts anew */
+    for (size_t k = 0; k < 18 * 4; k++) {
+        size_t before = k / 4, between = k % 4 < 2 ? 0 : 15, length = 0;
+        bool teid_first = k % 2 == 0;
+        for (size_t empty = 0; empty < before; empty++) {
+            length = put(length, EMPTY);
+        }
+        length = put(length, teid_first ? TEID : IPV6);
+        for (size_t empty = 0; empty < between; empty++) {
+            length = put(length, EMPTY);
+        }
+        length = put(length, teid_first ? IPV6 : TEID);
+        length = put(put(length, TEID_2), IPV4);
+        check("a long list", length, walked_as(0, 6, 0xFA0B0C0D, address_6));
+    }
+}
+
+/* An accepted list writes every byte of the lent address, a refused one none. It is lent filled in two ways that differ
+ * in every byte: so that no byte, written or not, can be right by chance. */
+static void walk(const char *what, const uint8_t *payload, size_t length, struct walked due)
+{
+    static const uint8_t fills[] = {0xA5, 0x5A};
+    uint8_t before[16];
+    for (size_t turn = 0; turn < sizeof fills / sizeof *fills; turn++) {
+        for (uint8_t k = 0; k < 16; k++) {
+            before[k] = (uint8_t)(fills[turn] ^ k);
+        }
+        memcpy(read_peer, before, 16);
+        compare_testkit_elements(what, testkit_validate_elements(payload, length, read_peer), due.answer);
+        expect_bytes(what, read_peer, due.answer.number == 0 ? due.address : before, 16);
+    }
+}
+
+static void walk_list(const char *what, size_t length, struct walked due)
+{
+    walk(what, copy(list, length), length, due);
+}
 
 static void element_lists(void)
 {
-    uint8_t list[64];
-    expect("elements", testkit_validate_elements(copy(elements, 12), 12), TESTKIT_ACCEPTED);
-    expect("elements, cut", testkit_validate_elements(copy(elements, 11), 11), TESTKIT_TRUNCATED_ELEMENT);
-    expect("elements, no address", testkit_validate_elements(copy(elements, 5), 5), TESTKIT_MISSING_PEER_ADDRESS);
-    expect("elements, no TEID", testkit_validate_elements(copy(elements + 5, 7), 7), TESTKIT_MISSING_TEID_DATA_I);
-    expect("elements, null", testkit_validate_elements(NULL, 0), TESTKIT_MISSING_TEID_DATA_I);
-    memcpy(list, elements, 12);
-    list[7] = 5;
-    expect("elements, length", testkit_validate_elements(copy(list, 12), 12), TESTKIT_INVALID_PEER_ADDRESS_LENGTH);
-    list[0] = 17;
-    expect("elements, type", testkit_validate_elements(copy(list, 12), 12), TESTKIT_UNSUPPORTED_FIXED_LENGTH_ELEMENT);
+    each_list(walk_list);
+    walk("elements, null", NULL, 0, walked_as(TESTKIT_MISSING_TEID_DATA_I, 4, 0, address_0));
 }
 
 /* ---- The run sheet ---- */
@@ -532,22 +706,52 @@ static void received(const char *what, uint64_t time, size_t length, uint8_t num
         testkit_record_received_tpdu(COLUMNS, time, tpdu, length), number, counts);
 }
 
-static void message(
-    const char *what, uint64_t time, uint8_t type, const uint8_t *bytes, size_t length, uint8_t number, uint8_t outcome,
-    uint8_t ignored, struct testkit_counts counts)
+/* What is due for a message that names no tunnel. */
+static struct testkit_datagram_recorded datagram_as(
+    uint8_t number, uint8_t outcome, uint8_t ignored, struct testkit_counts counts)
+{
+    struct testkit_datagram_recorded made;
+    memset(&made, 0, sizeof made);
+    made.number = number;
+    made.outcome = outcome;
+    made.message_type = ignored;
+    made.peer_version = 4;
+    made.counts = counts;
+    return made;
+}
+
+/* What is due for an Error Indication, by what is due for its elements. */
+static struct testkit_datagram_recorded indication_as(struct walked named, struct testkit_counts counts)
+{
+    uint8_t number = named.answer.number;
+    struct testkit_datagram_recorded made = datagram_as(
+        number, number == 0 ? TESTKIT_OUTCOME_ERROR_INDICATION : TESTKIT_OUTCOME_REFUSED, 0, counts);
+    made.peer_version = named.answer.version;
+    made.refused_teid = named.answer.teid;
+    memcpy(made.peer_address, named.address, 16);
+    return made;
+}
+
+static void check_message(
+    const char *what, uint64_t time, uint8_t type, const uint8_t *bytes, size_t length,
+    struct testkit_datagram_recorded due)
 {
     const uint8_t *payload = bytes == NULL ? NULL : copy(bytes, length);
-    struct testkit_datagram_recorded due, single;
-    due.number = number;
-    due.outcome = outcome;
-    due.message_type = ignored;
-    due.counts = counts;
+    struct testkit_datagram_recorded single;
     compare_testkit_datagram_recorded(
         what, testkit_sheet_record_return_gtpu_datagram(&one, time, type, payload, length), due);
     single = testkit_record_return_gtpu_datagram(COLUMNS, time, type, payload, length);
     compare_testkit_datagram_recorded(what, single, due);
     two.counts = single.counts;
     expect_alike(what);
+}
+
+/* A message that names no tunnel. */
+static void message(
+    const char *what, uint64_t time, uint8_t type, const uint8_t *bytes, size_t length, uint8_t number, uint8_t outcome,
+    uint8_t ignored, struct testkit_counts counts)
+{
+    check_message(what, time, type, bytes, length, datagram_as(number, outcome, ignored, counts));
 }
 
 static void row(const char *what, size_t k, uint64_t sequence, uint64_t time, uint64_t latency, uint8_t mark)
@@ -605,9 +809,8 @@ static void returning(void)
         "a message with a T-PDU", 8200, 255, packet, length, 0, TESTKIT_OUTCOME_MEASUREMENT_TPDU, 0,
         counts_of(8, 102, 203, 303));
     row("row 3", 3, 14, 8000, 200, 1);
-    message(
-        "an Error Indication", 1, 26, elements, 12, 0, TESTKIT_OUTCOME_ERROR_INDICATION, 0,
-        counts_of(8, 102, 203, 304));
+    check_message(
+        "an Error Indication", 1, 26, elements, 12, indication_as(named_by_elements(), counts_of(8, 102, 203, 304)));
     message("an Echo Response", 1, 2, elements, 12, 0, TESTKIT_OUTCOME_ECHO_RESPONSE, 0, counts_of(8, 102, 203, 304));
     message("an End Marker", 1, 254, elements, 12, 0, TESTKIT_OUTCOME_IGNORED, 254, counts_of(8, 102, 203, 304));
     message("a notification", 1, 31, elements, 12, 0, TESTKIT_OUTCOME_IGNORED, 31, counts_of(8, 102, 203, 304));
@@ -621,6 +824,35 @@ static void returning(void)
     message(
         "a T-PDU, null", 1, 255, NULL, 0, TESTKIT_TRUNCATED_IP_HEADER, TESTKIT_OUTCOME_REFUSED, 0,
         counts_of(8, 102, 203, 304));
+}
+
+/* An Error Indication with the elements in `list`, and messages of other types, which name no tunnel. */
+static void enter_list(const char *what, size_t length, struct walked due)
+{
+    uint8_t no_tpdu = length == 0 ? TESTKIT_TRUNCATED_IP_HEADER : TESTKIT_UNSUPPORTED_IP_VERSION;
+    struct testkit_counts counts = one.counts;
+    counts.gtpu_error_indications += due.answer.number == 0;
+    check_message(what, 1, 26, list, length, indication_as(due, counts));
+    message(what, 1, 255, list, length, no_tpdu, TESTKIT_OUTCOME_REFUSED, 0, counts);
+    message(what, 1, 2, list, length, 0, TESTKIT_OUTCOME_ECHO_RESPONSE, 0, counts);
+    message(what, 1, 254, list, length, 0, TESTKIT_OUTCOME_IGNORED, 254, counts);
+    message(what, 1, 31, list, length, 0, TESTKIT_OUTCOME_IGNORED, 31, counts);
+    message(what, 1, 1, list, length, TESTKIT_UNSUPPORTED_MESSAGE_TYPE, TESTKIT_OUTCOME_REFUSED, 0, counts);
+    message(what, 1, 77, list, length, TESTKIT_UNSUPPORTED_MESSAGE_TYPE, TESTKIT_OUTCOME_REFUSED, 0, counts);
+}
+
+/* The tunnels that are handed on; on a malformed sheet none is. */
+static void tunnels(void)
+{
+    struct testkit_counts before = one.counts;
+    each_list(enter_list);
+    one.counts = two.counts = before;
+    one.marks[1] = two.marks[1] = 2;
+    message(
+        "a malformed sheet", 1, 26, elements, 12, TESTKIT_MALFORMED_OBSERVER, TESTKIT_OUTCOME_REFUSED, 0, before);
+    message(
+        "a malformed sheet", 1, 26, elements, 11, TESTKIT_MALFORMED_OBSERVER, TESTKIT_OUTCOME_REFUSED, 0, before);
+    one.marks[1] = two.marks[1] = 0;
 }
 
 /* A list of five: a whole packet, a damaged one, one that was not sent, one that the bytes end within, and one behind
@@ -831,9 +1063,12 @@ static void no_columns(void)
     compare_testkit_returns_recorded(
         "no columns, no list", testkit_sheet_record_received_tpdus(&none, NULL, 0, NULL, 0, NULL, 0, NULL, 0, NULL, 0),
         list_due);
-    expect(
-        "no columns", testkit_sheet_record_return_gtpu_datagram(&none, 1, 26, copy(elements, 12), 12).outcome,
-        TESTKIT_OUTCOME_ERROR_INDICATION);
+    compare_testkit_datagram_recorded(
+        "no columns", testkit_sheet_record_return_gtpu_datagram(&none, 1, 26, copy(element_bytes[TEID].bytes, 5), 5),
+        datagram_as(TESTKIT_MISSING_PEER_ADDRESS, TESTKIT_OUTCOME_REFUSED, 0, counts_of(0, 0, 0, 0)));
+    compare_testkit_datagram_recorded(
+        "no columns", testkit_sheet_record_return_gtpu_datagram(&none, 1, 26, copy(elements, 12), 12),
+        indication_as(named_by_elements(), counts_of(0, 0, 0, 1)));
     none.counts = counts_of(0, 0, 0, 0);
     memset(&due, 0, sizeof due);
     due.window_start_ns = 1;
@@ -1010,11 +1245,10 @@ static struct testkit_handled sends(
 }
 
 /* A message on both tables; `state` is the state that is due afterwards. */
-static void handle(
-    const char *what, struct testkit_gtpu_message header, const uint8_t *bytes, size_t length,
-    struct testkit_handled due, struct testkit_reflector_state state)
+static void handle_from(
+    struct testkit_socket_addr source, const char *what, struct testkit_gtpu_message header, const uint8_t *bytes,
+    size_t length, struct testkit_handled due, struct testkit_reflector_state state)
 {
-    struct testkit_socket_addr source = address_of(7, 80, 8080);
     const uint8_t *payload = bytes == NULL ? NULL : copy(bytes, length);
     due.state = state;
     compare_testkit_reflector_config("a configuration that is handed in", table.config, twin.config);
@@ -1032,8 +1266,25 @@ static void handle(
     expect("that the rest stays", due.bytes == PACKET || out[due.bytes] == 0xA5, true);
 }
 
+static void handle(
+    const char *what, struct testkit_gtpu_message header, const uint8_t *bytes, size_t length,
+    struct testkit_handled due, struct testkit_reflector_state state)
+{
+    handle_from(address_of(7, 80, 8080), what, header, bytes, length, due, state);
+}
+
+/* The Error Indication in `out` comes back to a probe: its walk and its sheet give the tunnel that was refused. */
+static void round_trip(const char *what, size_t length, struct walked due)
+{
+    walk(what, copy(out, length), length, due);
+    one.counts = two.counts = counts_of(0, 101, 202, 303);
+    check_message(what, 1, 26, out, length, indication_as(due, counts_of(0, 101, 202, 304)));
+}
+
 static void handling(void)
 {
+    static const uint8_t counted[16] = {80, 81, 82, 83}; /* of the address below, the rest 0 */
+    struct testkit_socket_addr ipv4_source = address_of(4, 80, 8080);
     struct testkit_reflector_state s = table.state;
     struct testkit_socket_addr source = address_of(6, 80, 8080); /* every version but 4 is 6 in an answer */
     struct testkit_socket_addr target = address_of(6, 60, 6060);
@@ -1069,16 +1320,17 @@ static void handling(void)
     s.stats.error_indications_sent++;
     s.next_error_sequence = 1;
     handle(
-        "unknown", message_of(255, 0x01020304, 0, 0), packet, length,
+        "unknown", message_of(255, 0xF1020304, 0, 0), packet, length,
         sends(TESTKIT_SEND_ERROR_INDICATION, 24, source, message_of(26, 0, 1, 65535)), s);
-    expect("its elements", testkit_validate_elements(copy(out, 24), 24), TESTKIT_ACCEPTED);
-    expect_bytes("its TEID", out + 1, "\1\2\3\4", 4);
+    expect_bytes("its TEID", out + 1, "\xF1\2\3\4", 4);
     expect_bytes("its address", out + 8, source.address, 16);
+    round_trip("unknown, read", 24, walked_as(0, 6, 0xF1020304, source.address));
     s.stats.error_indications_sent++;
     s.next_error_sequence = 2;
-    handle(
-        "unknown, again", message_of(255, 0x31, 0, 0), packet, length,
-        sends(TESTKIT_SEND_ERROR_INDICATION, 24, source, message_of(26, 0, 1, 1)), s);
+    handle_from(
+        ipv4_source, "unknown, IPv4", message_of(255, 0x31323334, 0, 0), packet, length,
+        sends(TESTKIT_SEND_ERROR_INDICATION, 12, ipv4_source, message_of(26, 0, 1, 1)), s);
+    round_trip("unknown, IPv4, read", 12, walked_as(0, 4, 0x31323334, counted));
 
     s.stats.echo_requests_answered++;
     handle(
@@ -1180,6 +1432,7 @@ int main(int argc, char **argv)
     dst = (uint8_t *)lend(16);
     read_src = (uint8_t *)lend(16);
     read_dst = (uint8_t *)lend(16);
+    read_peer = (uint8_t *)lend(16);
     packet = (uint8_t *)lend(PACKET);
     out = (uint8_t *)lend(PACKET);
     next_sequence = (uint64_t *)lend(sizeof *next_sequence);
@@ -1204,6 +1457,7 @@ int main(int argc, char **argv)
     open_sheet(&two);
     sending();
     returning();
+    tunnels();
     returning_in_lists();
     reporting();
     no_columns();

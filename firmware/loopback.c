@@ -176,7 +176,9 @@ static void settle(void) { wire_wait_until(now_ns + 10000000); }
 static void send(
     struct testkit_socket_addr from, struct testkit_socket_addr to, uint8_t type, uint32_t teid, uint8_t numbered)
 {
-    static const uint8_t indication[12] = {16, 0, 0, 1, 0, 133, 0, 4, 192, 0, 0, 2};
+    /* TEID 0x201 and the gateway's address */
+    static const uint8_t indication[24] = {
+        16, 0, 0, 2, 1, 133, 0, 16, 0xfd, 0, 0, 0, 0, 0, 0, 0, 0, 0, 0, 0, 0, 0, 0, 3};
     struct testkit_gtpu_message message;
     message.message_type = type;
     message.teid = teid;
@@ -270,6 +272,7 @@ int main(int argc, char **argv)
     send(reflector_address, probe_address, TESTKIT_GTPU_MSG_SUPPORTED_EXTENSION_HEADERS_NOTIFICATION, 0, 1);
     send(reflector_address, probe_address, 77, 0, 0);
     send(reflector_address, probe_address, TESTKIT_GTPU_MSG_GPDU, 0x900, 0);
+    send(gateway_address, probe_address, TESTKIT_GTPU_MSG_ERROR_INDICATION, 0, 1);
     settle();
     probe_receive(&probe);
     verdict(budget(1, 1, 100000000), TESTKIT_VERDICT_ERROR_INDICATED);

@@ -129,6 +129,21 @@ static bool refused(struct probe *probe, uint8_t number)
     }
 }
 
+/* Which tunnel an Error Indication refuses, for the operator: the sheet only counts it. */
+static void log_refused_tunnel(const struct testkit_datagram_recorded *recorded)
+{
+    const uint8_t *address = recorded->peer_address;
+    printf("  tunnel refused: TEID 0x%08" PRIx32 ", peer address ", recorded->refused_teid);
+    if (recorded->peer_version == 4) {
+        printf("%u.%u.%u.%u\n", address[0], address[1], address[2], address[3]);
+        return;
+    }
+    for (size_t k = 0; k < TESTKIT_ADDRESS_BYTES; k += 2) {
+        printf("%s%x", k == 0 ? "" : ":", address[k] * 256u + address[k + 1]);
+    }
+    printf("\n");
+}
+
 /* The receive loop: every message is entered as it comes. */
 void probe_receive(struct probe *probe)
 {
@@ -150,8 +165,10 @@ void probe_receive(struct probe *probe)
             expect("an ignored message's type", recorded.message_type, datagram.message.message_type);
             probe->ignored++;
             break;
-        case TESTKIT_OUTCOME_MEASUREMENT_TPDU:
         case TESTKIT_OUTCOME_ERROR_INDICATION:
+            log_refused_tunnel(&recorded);
+            break;
+        case TESTKIT_OUTCOME_MEASUREMENT_TPDU:
             break; /* on the sheet */
         default:
             expect("an outcome", recorded.outcome, TESTKIT_OUTCOME_REFUSED);

@@ -7,19 +7,21 @@
  * deepest path.
  *
  * What each call answered is printed: firmware/run holds the numbers to the list of refusals that testkit.h has for the
- * call, so that each was met and no other. What else an answer may say (whether an accepted plan has a packet, a
- * verdict's reason, a message's outcome, what is to be done with it and why, whether a session was added or removed,
- * whether a report's two verdicts hold) is checked here: exit status 1 where one was never met.
+ * call, so that each was met and no other. What else an answer may say (whether an accepted plan has a packet, the
+ * version of a refused tunnel's address, a verdict's reason, a message's outcome, what is to be done with it and why,
+ * whether a session was added or removed, whether a report's two verdicts hold) is checked here: exit status 1 where
+ * one was never met.
  *
  * Inputs. Packets, of both versions: built ones; cut at every length; each single bit turned; with each cause that a
  * checksum would hide, made right by another field; for IPv4 with options, of every IHL; each of these alone, and in
  * lists of two returns, the first whole and the second whole, cut or empty. Plans: of 0, 1 and 2048 packets, and each
- * refusal. Element lists: up to 4096 elements, each cut. Run sheets: empty, of 1 row and of 2048 rows, none, one, all
- * or every other returned; a new row at the front, in the middle and at the end; returns before and after their send
- * time; counts of 0 and at their top; and malformed. Reports under budgets that each alone is and is not kept, and
- * refused ones. Session tables: empty, of 1 and of 4096 sessions, full and not, and refused; the first, the last and no
- * session asked for; sessions that differ from a registered one in one field; packets as above under each policy, and
- * messages of every type with and without TEID and sequence; counts of 0 and at their top, and the last error sequence.
+ * refusal. Element lists: up to 4096 elements before an address of each version, each cut. Run sheets: empty, of 1 row
+ * and of 2048 rows, none, one, all or every other returned; a new row at the front, in the middle and at the end;
+ * returns before and after their send time; counts of 0 and at their top; and malformed. Reports under budgets that
+ * each alone is and is not kept, and refused ones. Session tables: empty, of 1 and of 4096 sessions, full and not, and
+ * refused; the first, the last and no session asked for; sessions that differ from a registered one in one field;
+ * packets as above under each policy, and messages of every type with and without TEID and sequence; counts of 0 and at
+ * their top, and the last error sequence.
  *
  * For x86-64 and GNU C. Linked with -z now, so that finding memcpy is not counted.
  */
@@ -36,7 +38,7 @@ enum {
     ABOVE = 4096,
     ROWS = TESTKIT_MAXIMUM_ROWS,
     OUT = ROWS * TESTKIT_IPV6_TPDU_BYTES,
-    LIST = 4096 * 3 + 12,
+    LIST = 4096 * 3 + 24,
     SESSIONS = TESTKIT_MAXIMUM_SESSIONS
 };
 
@@ -110,7 +112,12 @@ static void call_forecast(void)
     struct testkit_plan_forecast forecast = ENTER(testkit_forecast)(version, plan, plan_sequence);
     note(forecast.number, forecast.number != 0 ? 0 : 1 + forecast.has_last);
 }
-static void call_elements(void) { note(ENTER(testkit_validate_elements)(in, in_length), 0); }
+static void call_elements(void)
+{
+    uint8_t peer_address[16] = {0};
+    struct testkit_elements elements = ENTER(testkit_validate_elements)(in, in_length, peer_address);
+    note(elements.number, elements.number != 0 ? 0 : elements.version);
+}
 static void call_sent(void) { note(ENTER(testkit_record_sent)(SHEET, sequence, 7).number, 0); }
 static void call_received(void) { note(ENTER(testkit_record_received_tpdu)(SHEET, 9, in, in_length).number, 0); }
 static void call_plan(void) { note(ENTER(testkit_record_sent_plan)(SHEET, plan, sequence).number, 0); }
@@ -134,7 +141,7 @@ static void call_message(void)
 {
     struct testkit_datagram_recorded recorded =
         ENTER(testkit_record_return_gtpu_datagram)(SHEET, 9, message_type, in, in_length);
-    note(recorded.number, recorded.outcome);
+    note(recorded.number, recorded.peer_version == 6 ? 6 : recorded.outcome);
 }
 static struct testkit_budget budget;
 static uint64_t window_end;
@@ -165,8 +172,9 @@ static void call_handle(void)
 }
 
 /* The calls; of each what its answers must say, as bits; and so far the most that it has used, what its answers have
- * said, and their numbers. Of a report the bits are both verdicts, and 4 where there is none; of a message handled,
- * 8 * action + reason. */
+ * said, and their numbers. Of elements the bits are the address's version, and 0 where they are refused; of a message
+ * that came back its outcome, and 6 where it names an IPv6 address; of a report both verdicts, and 4 where there is
+ * none; of a message handled 8 * action + reason. */
 #define BITS(from, to) (((UINT64_C(1) << ((to) - (from) + 1)) - 1) << (from))
 static struct row {
     const char *name;
@@ -186,13 +194,14 @@ static struct row {
     {"testkit_echo", call_echo, TESTKIT_STACK_ECHO, BITS(0, 0), 0, 0, {0}},
     {"testkit_generate", call_generate, TESTKIT_STACK_GENERATE, BITS(0, 0), 0, 0, {0}},
     {"testkit_forecast", call_forecast, TESTKIT_STACK_FORECAST, BITS(0, 2), 0, 0, {0}},
-    {"testkit_validate_elements", call_elements, TESTKIT_STACK_VALIDATE_ELEMENTS, BITS(0, 0), 0, 0, {0}},
+    {"testkit_validate_elements", call_elements, TESTKIT_STACK_VALIDATE_ELEMENTS,
+     BITS(0, 0) | BITS(4, 4) | BITS(6, 6), 0, 0, {0}},
     {"testkit_record_sent", call_sent, TESTKIT_STACK_RECORD_SENT, BITS(0, 0), 0, 0, {0}},
     {"testkit_record_received_tpdu", call_received, TESTKIT_STACK_RECORD_RECEIVED_TPDU, BITS(0, 0), 0, 0, {0}},
     {"testkit_record_sent_plan", call_plan, TESTKIT_STACK_RECORD_SENT_PLAN, BITS(0, 0), 0, 0, {0}},
     {"testkit_record_received_tpdus", call_returns, TESTKIT_STACK_RECORD_RECEIVED_TPDUS, BITS(0, 0), 0, 0, {0}},
     {"testkit_record_return_gtpu_datagram", call_message, TESTKIT_STACK_RECORD_RETURN_GTPU_DATAGRAM,
-     BITS(0, 4), 0, 0, {0}},
+     BITS(0, 4) | BITS(6, 6), 0, 0, {0}},
     {"testkit_report", call_report, TESTKIT_STACK_REPORT, BITS(0, 4), 0, 0, {0}},
     {"testkit_judge_report", call_judge, TESTKIT_STACK_JUDGE_REPORT, BITS(0, 6), 0, 0, {0}},
     {"testkit_register_session", call_register, TESTKIT_STACK_REGISTER_SESSION, BITS(0, 1), 0, 0, {0}},
@@ -445,17 +454,18 @@ static void measure_writers(void)
     }
 }
 
-/* `count` elements without value, then what a right list ends with; at every length near both ends. */
-static void measure_elements(size_t count)
+/* `count` elements without value, then what a right list ends with, an address of IPv4 or IPv6 (`octets` 4 or 16); at
+ * every length near both ends. */
+static void measure_elements(size_t count, uint8_t octets)
 {
-    static const uint8_t end[12] = {16, 0, 0, 0, 9, 133, 0, 4, 10, 0, 0, 2};
-    size_t length = 3 * count + sizeof end;
+    const uint8_t end[24] = {16, 0, 0, 0, 9, 133, 0, octets, 10, 0, 0, 2};
+    size_t length = 3 * count + 8 + octets;
     message_type = 26;
     memset(in, 0, sizeof in);
     for (size_t k = 0; k < count; k++) {
         in[3 * k] = 200;
     }
-    memcpy(in + 3 * count, end, sizeof end);
+    memcpy(in + 3 * count, end, 8 + octets);
     for (in_length = 0; in_length <= length; in_length += in_length > 60 && in_length + 60 < length ? 37 : 1) {
         measure(call_elements);
         measure(call_message);
@@ -568,10 +578,12 @@ int main(void)
     set_sessions(1, 1);
     message = (struct testkit_gtpu_message){255, 1, 0, 0};
     measure_packets(2);
-    for (size_t count = 0; count <= 40; count++) {
-        measure_elements(count);
+    for (uint8_t octets = 4; octets <= 16; octets += 12) {
+        for (size_t count = 0; count <= 40; count++) {
+            measure_elements(count, octets);
+        }
+        measure_elements(4096, octets);
     }
-    measure_elements(4096);
     for (size_t step = 0; step <= 2; step++) {
         measure_sheet(0, step);
         measure_sheet(1, step);

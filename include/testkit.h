@@ -12,9 +12,10 @@
  *
  * What is proved, what is checked, what is only said. Each call is proved to meet its contract, which stands beside its
  * code in crates/testkit_packets, testkit_sheet and testkit_reflector. The contract is what document 01 (docs/SCOPE.md)
- * and the RFCs say; testkit_forecast is in document 02; testkit_version, testkit_record_sent_plan,
- * testkit_record_received_tpdus and testkit_judge_report are in neither, and have contracts of our own. This header is
- * not proved. firmware/run, which is part of the gate, checks the following:
+ * and the RFCs say; document 02 has testkit_forecast, and the tunnel that testkit_validate_elements and
+ * testkit_record_return_gtpu_datagram give; testkit_version, testkit_record_sent_plan, testkit_record_received_tpdus
+ * and testkit_judge_report are in neither, and have contracts of our own. This header is not proved. firmware/run,
+ * which is part of the gate, checks the following:
  *   - each call and each struct that the archive has, with types and names in their order, against the proved source.
  *     struct testkit_sheet, struct testkit_table and the calls over them are the header's own: each of those calls is
  *     declared as it is defined, and is tried beside the archive's call (firmware/answers.c);
@@ -57,9 +58,10 @@
  *     memcpy(address.address, &in.sin_addr, 4);      (of IPv6: ntohs(in6.sin6_port), and 16 bytes of in6.sin6_addr)
  *     message.teid = ntohl(teid_of_the_header);
  *
- * and back with htons and htonl. Of an IPv4 address the first 4 bytes count and the other 12 do not. testkit_decode,
- * which makes addresses, leaves those 12 at 0; an address that the caller hands in (a session's, a route target's, a
- * source) comes back with all 16 bytes as they were.
+ * and back with htons and htonl. Of an IPv4 address the first 4 bytes count and the other 12 do not. Where a call reads
+ * an address out of a packet or an element, those 12 are 0 (testkit_decode, testkit_validate_elements,
+ * testkit_record_return_gtpu_datagram); an address that the caller hands in (a session's, a route target's, a source)
+ * comes back with all 16 bytes as they were.
  *
  * State. A call has no state of its own: what it is to remember stands in the caller's buffers, and in records that go
  * in by value and come back changed. The calls over struct testkit_sheet and struct testkit_table store those records
@@ -108,8 +110,8 @@
  * three parts alike. From one version to the next, MAJOR rises where a program may have to be changed; otherwise MINOR,
  * where something was added (a call, a number, a field) and a program need only be compiled again; otherwise PATCH.
  */
-#define TESTKIT_VERSION_MAJOR 3
-#define TESTKIT_VERSION_MINOR 2
+#define TESTKIT_VERSION_MAJOR 4
+#define TESTKIT_VERSION_MINOR 0
 #define TESTKIT_VERSION_PATCH 0
 #define TESTKIT_VERSION (TESTKIT_VERSION_MAJOR * 65536 + TESTKIT_VERSION_MINOR * 256 + TESTKIT_VERSION_PATCH)
 
@@ -252,12 +254,12 @@ enum testkit_stack {
     TESTKIT_STACK_DECODE = 216,
     TESTKIT_STACK_GENERATE = 344,
     TESTKIT_STACK_FORECAST = 16,
-    TESTKIT_STACK_VALIDATE_ELEMENTS = 624,
+    TESTKIT_STACK_VALIDATE_ELEMENTS = 1200,
     TESTKIT_STACK_RECORD_SENT = 240,
     TESTKIT_STACK_RECORD_SENT_PLAN = 288,
     TESTKIT_STACK_RECORD_RECEIVED_TPDU = 280,
     TESTKIT_STACK_RECORD_RECEIVED_TPDUS = 248,
-    TESTKIT_STACK_RECORD_RETURN_GTPU_DATAGRAM = 736,
+    TESTKIT_STACK_RECORD_RETURN_GTPU_DATAGRAM = 1328,
     TESTKIT_STACK_REPORT = 140,
     TESTKIT_STACK_JUDGE_REPORT = 48,
     TESTKIT_STACK_REGISTER_SESSION = 184,
@@ -403,15 +405,26 @@ struct testkit_plan_forecast testkit_forecast(uint8_t version, struct testkit_pl
 
 /* ---- Elements of a GTP-U Error Indication ---- */
 
+/* 0, the version of the peer's address and the TEID; or a refusal's number, version 4 and TEID 0. */
+struct testkit_elements {
+    uint8_t number;
+    uint8_t version; /* 4 or 6 */
+    uint32_t teid;   /* any number, 0 too: it is not judged */
+};
+
 /*
- * Judges the elements of an Error Indication: the message's payload, after its GTP-U header. 0, or the number of a
- * refusal, at the first element that has a cause: TESTKIT_UNSUPPORTED_FIXED_LENGTH_ELEMENT (27);
+ * Judges the elements of an Error Indication, the message's payload after its GTP-U header, and gives the tunnel that
+ * they name as refused: the TEID in the first TEID Data I, and the address in the first GTP-U Peer Address, whose
+ * length, 4 or 16, says which version it is. Later elements of the two types are judged too, but do not count.
+ * `peer_address` gets the address, an IPv4 address with 12 zeros behind it; on a refusal it stays as it was.
+ * Refuses at the first element that has a cause: by TESTKIT_UNSUPPORTED_FIXED_LENGTH_ELEMENT (27);
  * TESTKIT_TRUNCATED_ELEMENT (25) where the payload ends before or within its length; then
  * TESTKIT_INVALID_PEER_ADDRESS_LENGTH (26), also where the value is cut; then TESTKIT_TRUNCATED_ELEMENT (25) where the
- * value is cut. Else TESTKIT_MISSING_TEID_DATA_I (28), then TESTKIT_MISSING_PEER_ADDRESS (29). The stack does not grow
- * with the list.
+ * value is cut. Else by TESTKIT_MISSING_TEID_DATA_I (28), then TESTKIT_MISSING_PEER_ADDRESS (29). The stack does not
+ * grow with the list.
  */
-uint8_t testkit_validate_elements(const uint8_t *payload, size_t payload_length);
+struct testkit_elements testkit_validate_elements(
+    const uint8_t *payload, size_t payload_length, uint8_t peer_address[16]);
 
 /* ---- Run sheet ---- */
 
@@ -460,12 +473,16 @@ enum testkit_outcome {
     TESTKIT_OUTCOME_IGNORED = 4
 };
 
-/* As testkit_recorded, and what the message was. */
+/* As testkit_recorded, and what the message was. Where the outcome is TESTKIT_OUTCOME_ERROR_INDICATION, the last three
+ * say which tunnel was refused; beside every other outcome they are version 4 and zeros. */
 struct testkit_datagram_recorded {
     struct testkit_counts counts;
     uint8_t number;
-    uint8_t outcome;      /* enum testkit_outcome */
-    uint8_t message_type; /* of an ignored message its type, else 0 */
+    uint8_t outcome;          /* enum testkit_outcome */
+    uint8_t message_type;     /* of an ignored message its type, else 0 */
+    uint8_t peer_version;     /* of the address: 4 or 6 */
+    uint32_t refused_teid;    /* any number, 0 too: it is not judged */
+    uint8_t peer_address[16]; /* of IPv4 4 bytes, then 12 zeros */
 };
 
 /* What a run may lose, at most. */
@@ -639,8 +656,10 @@ struct testkit_returns_recorded testkit_record_received_tpdus(
 /*
  * Enters a GTP-U message that came back at `return_timestamp_ns`: its type, and its payload after the GTP-U header,
  * which the caller has parsed. A G-PDU carries a T-PDU; an Error Indication is counted if its elements are right; an
- * Echo Response, an End Marker and a Supported Extension Headers Notification change nothing. TEID and source are not
- * looked at: whether a message belongs to this run is the caller's to know.
+ * Echo Response, an End Marker and a Supported Extension Headers Notification change nothing. Where an Error Indication
+ * was counted, the answer has the tunnel that testkit_validate_elements gives for its payload; the sheet does not keep
+ * it. The TEID of the header and the source are not looked at: whether a message belongs to this run is the caller's to
+ * know.
  * Refuses by TESTKIT_MALFORMED_OBSERVER (21); then a G-PDU as testkit_record_received_tpdu, an Error Indication as
  * testkit_validate_elements, other types, an Echo Request among them, by TESTKIT_UNSUPPORTED_MESSAGE_TYPE (37).
  */
@@ -837,10 +856,11 @@ struct testkit_removed testkit_remove_session(
 
 /*
  * Handles a GTP-U message from `source`, with its payload after the header. A G-PDU of a known TEID is echoed, sunk or
- * routed, of an unknown one answered by an Error Indication; an Echo Request is answered by an Echo Response; nothing
- * is sent for Echo Responses, Error Indications, End Markers and Supported Extension Headers Notifications. `out` gets
- * the payload to send; it must have at least TESTKIT_REFLECTOR_BYTES, whatever the message is. On a refusal, and where
- * nothing is sent or a G-PDU is routed, it stays as it was.
+ * routed, of an unknown one answered by an Error Indication, whose elements have that TEID and the address of `source`;
+ * an Echo Request is answered by an Echo Response; nothing is sent for Echo Responses, Error Indications, End Markers
+ * and Supported Extension Headers Notifications. `out` gets the payload to send; it must have at least
+ * TESTKIT_REFLECTOR_BYTES, whatever the message is. On a refusal, and where nothing is sent or a G-PDU is routed, it
+ * stays as it was.
  * Refuses by TESTKIT_INVALID_REFLECTOR_CAPACITY (30), TESTKIT_MALFORMED_REFLECTOR_TABLE (31), TESTKIT_OUTPUT_TOO_SHORT
  * (15); these leave the state as it was. Then, under TESTKIT_POLICY_ECHO, a G-PDU of a known TEID is refused as
  * testkit_decode refuses its payload, and gpdu_received has risen. An Echo Request is refused by

@@ -13,7 +13,7 @@ use crate::numbers::{
 };
 use crate::ours::{Values, Written};
 use crate::ours_reflector::{Handled, Registered};
-use crate::ours_traffic::Noted;
+use crate::ours_traffic::{Elements, Noted};
 use crate::packet::{
     ipv4_ihl, is_ipv4_fragment, part_range, set_lengths, sum_header_again, udp_length, version,
     UDP_HEADER,
@@ -174,6 +174,12 @@ impl Answer for (u8, Values) {
 }
 
 impl Answer for Written {
+    fn number(&mut self) -> &mut u8 {
+        &mut self.number
+    }
+}
+
+impl Answer for Elements {
     fn number(&mut self) -> &mut u8 {
         &mut self.number
     }

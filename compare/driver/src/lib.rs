@@ -12,6 +12,8 @@ pub mod checksum;
 pub mod compared;
 pub mod damage;
 pub mod gtpu;
+pub mod indication;
+pub mod indication_inputs;
 pub mod lists;
 pub mod measurement;
 pub mod numbers;

@@ -1,19 +1,21 @@
 //! Our run sheet against the Rust's observer: whole runs, sheets set to any state, and malformed
-//! sheets, which the Rust cannot have.
+//! sheets, which the Rust cannot have. The tunnel that is handed on is held to a model (`indication.rs`).
 
-use std::collections::BTreeMap;
+use std::collections::{BTreeMap, BTreeSet};
 
 use testkit_open::evidence::PacketContinuityBudget;
 use testkit_open::traffic::GtpuReturnDatagramOutcome;
 
 use crate::compared::{require_unfilled, stand_in, Answer};
 use crate::gtpu::any_elements;
+use crate::indication::due_tunnel;
+use crate::indication_inputs::{any_indication, each_indication, sound_list, Tried};
 use crate::numbers::*;
-use crate::ours_traffic::{Noted, Report, RunSheet};
+use crate::ours_traffic::{Noted, Report, RunSheet, Tunnel};
 use crate::packet::{part_at, protocol_at, set_lengths, set_word, sum_again, UDP_HEADER};
 use crate::part::Part;
 use crate::random::Random;
-use crate::rust_side::gtpu::Message;
+use crate::rust_side::gtpu::{validate_error_indication_ies, Message};
 use crate::rust_side::measurement::{build, echo, Probe};
 use crate::rust_side::traffic::{Observer, Row, Sheet};
 use crate::rust_side::Outcome;
@@ -21,7 +23,11 @@ use crate::seen::Seen;
 use crate::sheets::{capacity, difference, fresh, holding, questions, MOST_ROWS};
 use crate::wild::{any_covered, any_probe, padded_packet, set_any_flags, set_any_ihl, PROBE};
 
+const ERROR_INDICATION: u8 = 26;
 const G_PDU: u8 = 255;
+
+/// The longest payload of a message.
+const MOST_PAYLOAD: usize = 65_535;
 
 /// One call on a run sheet.
 #[derive(Clone)]
@@ -41,21 +47,64 @@ pub(crate) enum Call {
     },
 }
 
+/// What the calls of a part had in them.
+#[derive(Default)]
+struct Given {
+    /// The numbers that ours answered.
+    seen: Seen,
+    /// The elements of Error Indications.
+    tried: Tried,
+    /// The other types that came with elements which an Error Indication may have.
+    other_types: BTreeSet<u8>,
+}
+
+impl Given {
+    fn add(&mut self, call: &Call, number: u8) {
+        self.seen.add(number);
+        match call {
+            Call::Message {
+                message_type: ERROR_INDICATION,
+                payload,
+                ..
+            } => self.tried.add(payload),
+            Call::Message {
+                message_type,
+                payload,
+                ..
+            } if validate_error_indication_ies(payload).is_ok() => {
+                self.other_types.insert(*message_type);
+            }
+            _ => (),
+        }
+    }
+
+    /// Each of these numbers must have been answered, and no other; the elements must have had everything
+    /// that the rule on the tunnel is about; and all 255 other types must have come with such elements.
+    fn require(&self, part: &mut Part, numbers: impl IntoIterator<Item = u8>) {
+        self.seen.require(part, numbers);
+        self.tried.require(part);
+        let types = self.other_types.len();
+        part.case(&[], types, 255);
+        part.note(format!("other types with elements in order: {types}"));
+    }
+}
+
 /// Runs on fresh sheets, of few rows and of 2,048. Each number of a run must have been due.
 pub fn runs(seed: u64, rounds: u64) -> Part {
     let mut part = Part::new("calls and reports");
-    let mut seen = Seen::default();
+    let mut given = Given::default();
     let mut random = Random::new(seed);
     for round in 0..rounds / 8 {
         let rows = any_rows(&mut random, round);
         let mut pair = Pair::new(fresh(&mut random, rows), Sheet::default());
-        run(&mut part, &mut seen, &mut random, &mut pair, 4 * rows + 20);
-        fill(&mut part, &mut seen, &mut random, &mut pair);
+        run(&mut part, &mut given, &mut random, &mut pair, 4 * rows + 20);
+        fill(&mut part, &mut given, &mut random, &mut pair);
         if round % 256 == 1 {
-            each_type(&mut part, &mut seen, &mut random, &mut pair);
+            each_type(&mut part, &mut given, &mut random, &mut pair);
+            each_tunnel(&mut part, &mut given, &mut random, &mut pair);
         }
     }
-    seen.require(&mut part, every_number());
+    given.require(&mut part, every_number());
     require_unfilled(&mut part);
     part
 }
@@ -64,7 +113,7 @@ pub fn runs(seed: u64, rounds: u64) -> Part {
 /// have not returned a latency that nobody may look at.
 pub fn states(seed: u64, rounds: u64) -> Part {
     let mut part = Part::new("calls and reports");
-    let mut seen = Seen::default();
+    let mut given = Given::default();
     let mut random = Random::new(seed);
     for round in 0..rounds / 10 {
         let rows = any_rows(&mut random, round);
@@ -73,9 +122,13 @@ pub fn states(seed: u64, rounds: u64) -> Part {
         let mut pair = Pair::new(fresh(&mut random, room), contents);
         pair.spoil_unmarked(&mut random);
         pair.reports(&mut part, &mut random);
-        run(&mut part, &mut seen, &mut random, &mut pair, 20);
+        run(&mut part, &mut given, &mut random, &mut pair, 20);
+        if round % 256 == 1 {
+            each_type(&mut part, &mut given, &mut random, &mut pair);
+            each_tunnel(&mut part, &mut given, &mut random, &mut pair);
+        }
     }
-    seen.require(&mut part, every_number());
+    given.require(&mut part, every_number());
     require_unfilled(&mut part);
     part
 }
@@ -106,9 +159,11 @@ pub(crate) fn malformed_sheet(random: &mut Random, round: u64) -> (Sheet, RunShe
     (contents, sheet)
 }
 
-/// Malformed sheets: every call refuses by 21 and leaves all, before it looks at anything else.
+/// Malformed sheets: every call refuses by 21, leaves all and hands on no tunnel, before it looks at anything
+/// else.
 pub fn malformed(seed: u64, rounds: u64) -> Part {
     let mut part = Part::new("calls and reports");
+    let mut given = Given::default();
     let mut random = Random::new(seed);
     for round in 0..rounds / 10 {
         let (contents, sheet) = malformed_sheet(&mut random, round);
@@ -124,6 +179,11 @@ pub fn malformed(seed: u64, rounds: u64) -> Part {
                 payload: any_elements(&mut random, 12),
             }),
         );
+        calls.push(any_indication_call(&mut random));
+        if (4..8).contains(&(round % 256)) {
+            calls.extend(type_calls(&mut random, 0));
+            calls.extend(tunnel_calls(&mut random));
+        }
         let due = Noted {
             number: MALFORMED_OBSERVER,
             ..Noted::default()
@@ -131,6 +191,7 @@ pub fn malformed(seed: u64, rounds: u64) -> Part {
         for call in calls {
             let mut ours = sheet.clone();
             let answer = call.on_ours(&mut ours);
+            given.add(&call, answer.number);
             let answer = (answer, difference(&ours, &sheet));
             part.case(call.input(), answer, (due, None));
         }
@@ -141,6 +202,7 @@ pub fn malformed(seed: u64, rounds: u64) -> Part {
         let budget = PacketContinuityBudget::zero_loss();
         part.case(&[], sheet.report(0, random.number(), budget), due);
     }
+    given.require(&mut part, [MALFORMED_OBSERVER]);
     part
 }
 
@@ -197,6 +259,8 @@ impl Call {
         }
     }
 
+    /// What is due where the Rust answers this: the tunnel is the model's, of an Error Indication that the
+    /// Rust accepts.
     pub(crate) fn on_rust(&self, observer: &mut Observer) -> Noted {
         use GtpuReturnDatagramOutcome as Outcome;
         let outcome = match self {
@@ -228,6 +292,10 @@ impl Call {
                 observer.record_return_gtpu_datagram(*time, &message)
             }
         };
+        let tunnel = match outcome {
+            Ok(Outcome::ErrorIndication) => due_tunnel(self.input(), 0),
+            _ => Tunnel::default(),
+        };
         let (number, outcome, message_type) = match outcome {
             Err(number) => (number, 0, 0),
             Ok(Outcome::MeasurementTpdu) => (0, 1, 0),
@@ -239,6 +307,7 @@ impl Call {
             number,
             outcome,
             message_type,
+            tunnel,
         }
     }
 }
@@ -315,10 +384,10 @@ impl Pair {
 
     /// Makes a call on both: the answers, the counts and every cell must be equal afterwards. The Rust
     /// is not given a T-PDU that ours has to refuse without it.
-    fn call(&mut self, part: &mut Part, seen: &mut Seen, call: &Call) {
+    fn call(&mut self, part: &mut Part, given: &mut Given, call: &Call) {
         let mut ours = self.ours.clone();
         let answer = call.on_ours(&mut ours);
-        seen.add(answer.number);
+        given.add(call, answer.number);
         let due_answer = match call.stand_in(part) {
             Ok(call) => self.due_answer(&call),
             Err(number) => Noted {
@@ -353,7 +422,7 @@ impl Pair {
 }
 
 /// This many random calls, with reports now and then.
-fn run(part: &mut Part, seen: &mut Seen, random: &mut Random, pair: &mut Pair, calls: usize) {
+fn run(part: &mut Part, given: &mut Given, random: &mut Random, pair: &mut Pair, calls: usize) {
     let rows = capacity(&pair.ours);
     let base = match random.below(4) {
         0 => 0,
@@ -361,8 +430,11 @@ fn run(part: &mut Part, seen: &mut Seen, random: &mut Random, pair: &mut Pair, c
         _ => random.number(),
     };
     for step in 0..calls {
-        let call = any_call(random, &pair.contents.rows, base, rows);
-        pair.call(part, seen, &call);
+        let call = match random.below(8) {
+            0 => any_indication_call(random),
+            _ => any_call(random, &pair.contents.rows, base, rows),
+        };
+        pair.call(part, given, &call);
         if step % 16 == 15 && (rows < MOST_ROWS || step % 256 == 15) {
             pair.reports(part, random);
         }
@@ -371,7 +443,7 @@ fn run(part: &mut Part, seen: &mut Seen, random: &mut Random, pair: &mut Pair, c
 }
 
 /// Sends new sequences until the sheet is full, one more, and a row that is there.
-fn fill(part: &mut Part, seen: &mut Seen, random: &mut Random, pair: &mut Pair) {
+fn fill(part: &mut Part, given: &mut Given, random: &mut Random, pair: &mut Pair) {
     let mut sequences: Vec<u64> = (pair.contents.rows.len()..=capacity(&pair.ours))
         .map(|_| random.number())
         .collect();
@@ -382,32 +454,73 @@ fn fill(part: &mut Part, seen: &mut Seen, random: &mut Random, pair: &mut Pair) 
             sequence,
             send_timestamp_ns,
         };
-        pair.call(part, seen, &call);
+        pair.call(part, given, &call);
     }
     pair.reports(part, random);
 }
 
-/// Every message type, with a T-PDU, with elements and with nothing.
-fn each_type(part: &mut Part, seen: &mut Seen, random: &mut Random, pair: &mut Pair) {
+/// Every message type, with a T-PDU of a row, with elements and with nothing.
+fn each_type(part: &mut Part, given: &mut Given, random: &mut Random, pair: &mut Pair) {
     let sequence = pair.contents.rows.first().map_or(0, |row| row.sequence);
+    for call in type_calls(random, sequence) {
+        pair.call(part, given, &call);
+    }
+}
+
+/// Error Indications with all that the rule on the tunnel is about.
+fn each_tunnel(part: &mut Part, given: &mut Given, random: &mut Random, pair: &mut Pair) {
+    for call in tunnel_calls(random) {
+        pair.call(part, given, &call);
+    }
+}
+
+/// Messages of every type: with a T-PDU of this sequence, with few and many elements that an Error
+/// Indication may have, and with nothing.
+fn type_calls(random: &mut Random, sequence: u64) -> Vec<Call> {
     let probe = Probe {
         sequence,
         ..any_probe(random)
     };
-    let elements = [16, 0, 0, 0, 9, 133, 0, 4, 10, 0, 0, 9];
-    for payload in [&build(probe)[..], &elements, &[]] {
-        for message_type in 0..=255 {
-            let call = Call::Message {
-                time: u64::MAX,
-                message_type,
-                payload: payload.to_vec(),
-            };
-            pair.call(part, seen, &call);
-        }
+    let mut payloads = vec![build(probe), vec![]];
+    payloads.extend([2, 2, 5, 17, 40].map(|count| sound_list(random, count)));
+    let calls = payloads.into_iter().flat_map(|payload| {
+        (0..=255).map(move |message_type| Call::Message {
+            time: u64::MAX,
+            message_type,
+            payload: payload.clone(),
+        })
+    });
+    calls.collect()
+}
+
+fn tunnel_calls(random: &mut Random) -> Vec<Call> {
+    let mut payloads = Vec::new();
+    each_indication(random, 4, |payload| payloads.push(payload.to_vec()));
+    let calls = payloads.into_iter().map(|payload| Call::Message {
+        time: random.any_u64(),
+        message_type: ERROR_INDICATION,
+        payload,
+    });
+    calls.collect()
+}
+
+/// Elements, in order or not, in a message of any type: every second one is an Error Indication.
+fn any_indication_call(random: &mut Random) -> Call {
+    let other_types = [2, 31, 254, G_PDU, 1, random.any_u8()];
+    let message_type = match random.below(2) {
+        0 => ERROR_INDICATION,
+        _ => other_types[random.below(other_types.len())],
+    };
+    let mut payload = any_indication(random);
+    payload.truncate(MOST_PAYLOAD);
+    Call::Message {
+        time: random.any_u64(),
+        message_type,
+        payload,
     }
 }
 
-/// A call on a sheet with these rows, on sequences from `base` on.
+/// A call on a sheet with these rows, on sequences from `base` on. The kept sample is drawn with it, too.
 pub(crate) fn any_call(random: &mut Random, rows: &[Row], base: u64, capacity: usize) -> Call {
     let any_sequence = base.wrapping_add(random.below(2 * capacity + 2) as u64);
     let row = match rows.len() {

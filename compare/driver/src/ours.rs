@@ -110,7 +110,8 @@ pub fn build(values: &Values, out: &mut [u8]) -> Written {
     }
 }
 
-/// What stands in an address that is lent to the reader, and stays there where it refuses.
+/// What stands in an address that is lent to the reader or to the element walk, and stays there where it
+/// refuses.
 pub const DIRTY_ADDRESS: [u8; 16] = [0xa5; 16];
 
 /// Reads a T-PDU as C does: the addresses go into what is lent for them.

@@ -3,7 +3,7 @@
 
 use testkit_open::evidence::PacketContinuityBudget;
 
-use crate::ours::{lent, Values, Written};
+use crate::ours::{lent, Values, Written, DIRTY_ADDRESS};
 
 unsafe extern "C" {
     fn testkit_generate(
@@ -18,7 +18,11 @@ unsafe extern "C" {
         out_length: usize,
     ) -> Written;
     fn testkit_forecast(version: u8, plan: Plan, next_sequence: u64) -> Forecast;
-    fn testkit_validate_elements(payload: *const u8, length: usize) -> u8;
+    fn testkit_validate_elements(
+        payload: *const u8,
+        length: usize,
+        peer_address: *mut [u8; 16],
+    ) -> TestkitElements;
     fn testkit_record_sent(
         sequences: *mut u64,
         sequences_length: usize,
@@ -164,13 +168,70 @@ struct TestkitReturnsRecorded {
     returns: usize,
 }
 
-/// As `TestkitRecorded`, with what the datagram was.
+/// As `TestkitRecorded`, with what the datagram was, and the tunnel that it names.
 #[repr(C)]
 struct TestkitDatagramRecorded {
     counts: Counts,
     number: u8,
     outcome: u8,
     message_type: u8,
+    peer_version: u8,
+    refused_teid: u32,
+    peer_address: [u8; 16],
+}
+
+/// The tunnel that an Error Indication names, as our calls hand it on: the version is 4 or 6, and the
+/// rest of an IPv4 address is 0.
+#[derive(Debug, Clone, Copy, PartialEq, Eq)]
+pub struct Tunnel {
+    pub teid: u32,
+    pub version: u8,
+    pub peer_address: [u8; 16],
+}
+
+impl Default for Tunnel {
+    /// No tunnel: version 4 and zeros.
+    fn default() -> Self {
+        Self {
+            teid: 0,
+            version: 4,
+            peer_address: [0; 16],
+        }
+    }
+}
+
+/// C's `struct testkit_elements`: 0, the version of the peer's address and the TEID, or the number of a
+/// refusal, version 4 and 0.
+#[repr(C)]
+pub struct TestkitElements {
+    number: u8,
+    version: u8,
+    teid: u32,
+}
+
+/// What the walk over elements answers, and what is then in the address that was lent to it.
+#[derive(Debug, Clone, Copy, PartialEq, Eq)]
+pub struct Elements {
+    pub number: u8,
+    pub version: u8,
+    pub teid: u32,
+    pub peer_address: [u8; 16],
+}
+
+impl Elements {
+    /// What is due beside this number: 0 and the tunnel; or a refusal and none, which leaves the address
+    /// as it was lent.
+    pub fn new(number: u8, tunnel: Tunnel) -> Self {
+        Self {
+            number,
+            version: tunnel.version,
+            teid: tunnel.teid,
+            peer_address: match number {
+                0 => tunnel.peer_address,
+                _ => DIRTY_ADDRESS,
+            },
+        }
+    }
 }
 
 /// C's `struct testkit_budget`.
@@ -228,12 +289,13 @@ pub struct Report {
 
 /// What a call on a run sheet answers: 0 or the number of a refusal. A datagram that is not
 /// refused was one of: 1 measurement, 2 error indication, 3 echo response, 4 ignored, and then
-/// its message's type.
+/// its message's type. The tunnel is the one that an error indication names, or none.
 #[derive(Debug, Clone, Copy, Default, PartialEq, Eq)]
 pub struct Noted {
     pub number: u8,
     pub outcome: u8,
     pub message_type: u8,
+    pub tunnel: Tunnel,
 }
 
 /// A run sheet: the columns, which may differ in length, and the counts.
@@ -296,11 +358,26 @@ impl Engine {
     }
 }
 
-/// The walk over the elements of an Error Indication: 0, or the number of a refusal.
-pub fn validate_elements(payload: &[u8]) -> u8 {
+/// The walk over the elements of an Error Indication as C does it: the peer's address goes into what is
+/// lent for it.
+pub fn validate_elements_into(payload: &[u8], peer_address: &mut [u8; 16]) -> TestkitElements {
     let payload = lent(payload);
-    // SAFETY: the call reads `length` bytes from `payload`, which are lent for as long as it runs.
-    unsafe { testkit_validate_elements(payload.as_ptr(), payload.len()) }
+    // SAFETY: the call reads `length` bytes from `payload` and writes an address; both are lent for as
+    // long as it runs, and the address to it alone.
+    unsafe { testkit_validate_elements(payload.as_ptr(), payload.len(), peer_address) }
+}
+
+/// The walk over the elements of an Error Indication: 0 and the tunnel that they name, or the number of
+/// a refusal and none (version 4, TEID 0, the address as it was lent).
+pub fn validate_elements(payload: &[u8]) -> Elements {
+    let mut peer_address = DIRTY_ADDRESS;
+    let answer = validate_elements_into(payload, &mut peer_address);
+    Elements {
+        number: answer.number,
+        version: answer.version,
+        teid: answer.teid,
+        peer_address,
+    }
 }
 
 /// A call that writes to a run sheet: the columns with their lengths and the counts, then the rest.
@@ -442,6 +519,11 @@ impl RunSheet {
             number: message.number,
             outcome: message.outcome,
             message_type: message.message_type,
+            tunnel: Tunnel {
+                teid: message.refused_teid,
+                version: message.peer_version,
+                peer_address: message.peer_address,
+            },
         }
     }
 

@@ -16,8 +16,8 @@ pub struct Part {
     /// How often each outcome was due of T-PDUs that were not compared since their UDP length does not
     /// fill their part: the IP version and a number, or 0.
     unfilled: BTreeMap<(u8, u8), u64>,
-    /// What else is to be printed.
-    note: String,
+    /// What else is to be printed, a line each.
+    notes: Vec<String>,
     /// Of all differences the one with the shortest input, the first of several: its length
     /// and what is printed.
     shortest: Option<(usize, String)>,
@@ -31,7 +31,7 @@ impl Part {
             differences: 0,
             fragments: 0,
             unfilled: BTreeMap::new(),
-            note: String::new(),
+            notes: Vec::new(),
             shortest: None,
         }
     }
@@ -63,9 +63,9 @@ impl Part {
         *self.unfilled.entry((version, number)).or_insert(0) += 1;
     }
 
-    /// Prints this below the part's line.
+    /// Prints this below the part's line, and below the notes before it.
     pub fn note(&mut self, note: String) {
-        self.note = note;
+        self.notes.push(note);
     }
 
     pub fn cases(&self) -> u64 {
@@ -100,8 +100,8 @@ impl fmt::Display for Part {
         let (cases, differences) = (grouped(self.cases), grouped(self.differences));
         write!(f, "{cases} {}, {differences} differences", self.unit)?;
         f.write_str(&left_out(self.fragments, self.unfilled()))?;
-        if !self.note.is_empty() {
-            write!(f, "\n  {}", self.note)?;
+        for note in &self.notes {
+            write!(f, "\n  {note}")?;
         }
         if !self.unfilled.is_empty() {
             let counts = self.unfilled.iter().map(|((version, number), &count)| {

@@ -1,6 +1,8 @@
 //! Our reflector against the Rust's: whole runs of registering, removal and messages on both
 //! sides, the table and the state compared after each call; and the refusals that the Rust does not
-//! have.
+//! have. The Error Indications that ours writes are read back by our element walk.
+
+use std::collections::BTreeMap;
 
 use testkit_open::reflector::{OpenReflector, ReflectorPolicy};
 
@@ -10,11 +12,13 @@ use crate::ours_reflector::{
     Address, Reflector, Registered, Removed, Session, State, LOCAL_TEID_AT, PEER_TEID_AT, PORT_AT,
     SESSION_BYTES, VERSION_AT,
 };
+use crate::ours_traffic::validate_elements;
 use crate::packet::{part_at, set_word, sum_again, Covered};
-use crate::part::Part;
+use crate::part::{grouped, Part};
 use crate::random::Random;
 use crate::reflector_due::{
-    handled, not_sent, our_state, plain, rust_reflector, rust_session, socket_addr,
+    handled, not_sent, our_state, plain, read_back, rust_reflector, rust_session, socket_addr,
+    ERROR_INDICATION_SENT,
 };
 use crate::reflector_inputs::{
     any_address, any_config, any_header, any_message, any_policy, any_registered, any_session,
@@ -39,10 +43,12 @@ const DIRT: u8 = 0xa5;
 /// The policies: echo, sink and count, route.
 const POLICIES: [u8; 3] = [ECHO, 1, 2];
 
-/// A part under way, and the numbers that were due in it.
+/// A part under way, the numbers that were due in it, and how many Error Indications to addresses of each
+/// IP version.
 struct Comparison {
     part: Part,
     seen: Seen,
+    indications: BTreeMap<u8, u64>,
     random: Random,
 }
 
@@ -51,6 +57,7 @@ impl Comparison {
         Self {
             part: Part::new(unit),
             seen: Seen::default(),
+            indications: BTreeMap::new(),
             random: Random::new(seed),
         }
     }
@@ -59,6 +66,17 @@ impl Comparison {
     fn done(mut self, numbers: impl IntoIterator<Item = u8>) -> Part {
         self.seen.require(&mut self.part, numbers);
         self.part
+    }
+
+    /// Error Indications must have been read back, of both versions.
+    fn require_indications(&mut self) {
+        let versions: Vec<u8> = self.indications.keys().copied().collect();
+        self.part.case(&[], versions, vec![4, 6]);
+        let counts = self.indications.iter();
+        let counts = counts.map(|(version, &count)| format!("IPv{version}: {}", grouped(count)));
+        let counts = counts.collect::<Vec<_>>().join(", ");
+        self.part
+            .note(format!("Error Indications read back: {counts}"));
     }
 }
 
@@ -92,6 +110,7 @@ pub fn runs(seed: u64, rounds: u64) -> Part {
         }
     }
     require_unfilled(&mut run.part);
+    run.require_indications();
     run.done(answers(&[READING, REGISTERING, HANDLING]))
 }
 
@@ -107,6 +126,7 @@ pub fn near_copies(seed: u64, rounds: u64) -> Part {
             each_zero(&mut run, &mut pair, known);
         }
     }
+    run.require_indications();
     run.done([
         0,
         INVALID_REFLECTOR_SESSION,
@@ -191,6 +211,7 @@ pub fn full_tables(seed: u64) -> Part {
             pair.loses(&mut run, row);
         }
     }
+    run.require_indications();
     run.done([
         0,
         INVALID_REFLECTOR_SESSION,
@@ -214,6 +235,7 @@ pub fn error_sequences(seed: u64) -> Part {
         let source = any_address(&mut run.random);
         pair.handles(&mut run, source, &message);
     }
+    run.require_indications();
     let mut part = run.part;
     part.case(&[], pair.ours.state.next_error_sequence, 2);
     part
@@ -477,6 +499,10 @@ impl Pair {
         let room = LEAST_OUTPUT + run.random.below(9);
         let mut expected = vec![DIRT; room];
         let due = handled(&answer, message, state, &mut expected);
+        let due_elements = read_back(&answer, source, message.teid);
+        if let Some(elements) = due_elements {
+            *run.indications.entry(elements.version).or_insert(0) += 1;
+        }
 
         let mut out = vec![DIRT; room];
         let header = any_header(&mut run.random, message);
@@ -484,8 +510,12 @@ impl Pair {
         let mut answer = ours.handle_datagram(source, header, &message.payload, &mut out);
         run.seen.add(answer.number);
         answer.destination = plain(answer.destination);
-        let answer = (answer.told(), out, self.difference(&rows));
-        let due = (due.due(&message.payload), expected, None);
+        let elements = match answer.send_reason {
+            ERROR_INDICATION_SENT => out.get(..answer.bytes).map(validate_elements),
+            _ => None,
+        };
+        let answer = (answer.told(), out, elements, self.difference(&rows));
+        let due = (due.due(&message.payload), expected, due_elements, None);
         run.part.case(&message.payload, answer, due);
         self.go_on(rows, self.ours.used);
     }

@@ -8,9 +8,13 @@ use testkit_open::reflector::{
 };
 
 use crate::ours_reflector::{Address, Config, Handled, Message as Header, Session, State, Stats};
+use crate::ours_traffic::{Elements, Tunnel};
 use crate::rust_side::gtpu::Message;
 use crate::rust_side::reflector::{Action, Reflector};
 use crate::rust_side::Outcome;
+
+/// Our number for a message that is sent as an Error Indication.
+pub const ERROR_INDICATION_SENT: u8 = 4;
 
 /// The Rust's reflector with this configuration, fresh.
 pub fn rust_reflector(config: &Config) -> Outcome<Reflector> {
@@ -105,7 +109,7 @@ pub fn handled(
             (2, 0)
         }
         ReflectorSendReason::EchoResponse => (3, message.payload.len()),
-        ReflectorSendReason::ErrorIndication => (4, message.payload.len()),
+        ReflectorSendReason::ErrorIndication => (ERROR_INDICATION_SENT, message.payload.len()),
     };
     expected[..bytes].copy_from_slice(&message.payload[..bytes]);
     Handled {
@@ -123,6 +127,27 @@ pub fn handled(
         },
         state,
     }
+}
+
+/// What our element walk has to read from what ours writes where the Rust answers this: if it is an Error
+/// Indication, it is accepted, and names the TEID that the message had and the address that it came from.
+pub fn read_back(answer: &Outcome<Action>, source: Address, teid: u32) -> Option<Elements> {
+    let Ok(Action::Send {
+        reason: ReflectorSendReason::ErrorIndication,
+        ..
+    }) = answer
+    else {
+        return None;
+    };
+    let tunnel = Tunnel {
+        teid,
+        version: match source.version {
+            4 => 4,
+            _ => 6,
+        },
+        peer_address: plain(source).address,
+    };
+    Some(Elements::new(0, tunnel))
 }
 
 /// An answer with nothing to send: version 4 and zeros for the message.

@@ -328,6 +328,7 @@ fn draw_call(random: &mut Random, kind: u8) -> Option<Drawn> {
         number,
         outcome,
         message_type,
+        ..
     } = call.on_rust(&mut observer);
     let contents = observer.sheet();
     if contents.rows.len() > room.min(capacity(&sheet)) {

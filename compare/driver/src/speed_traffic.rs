@@ -8,16 +8,17 @@
 use std::hint::black_box;
 use std::time::Instant;
 
-use opc_dataplane_testkit::evidence::PacketContinuityBudget;
+use opc_dataplane_testkit::evidence::{PacketContinuityBudget, PacketContinuityReport};
 use opc_dataplane_testkit::gtpu::validate_error_indication_ies;
 use opc_dataplane_testkit::measurement::InnerIpFlow;
 use opc_dataplane_testkit::traffic::{
     ContinuityObserver, GeneratedPacket, TrafficEngine, TrafficPlan,
 };
+use opc_proto_gtpu::to_datagram;
 
 use crate::cases::ipv4_probe;
 use crate::ours::Values;
-use crate::ours_traffic::{validate_elements, Counts, Engine, RunSheet};
+use crate::ours_traffic::{validate_elements_into, Counts, Engine, RunSheet};
 use crate::sheets::MOST_ROWS;
 
 pub const ROUNDS: usize = 201;
@@ -30,7 +31,8 @@ pub type Timing = (String, f64, f64);
 
 pub fn speed() -> Vec<Timing> {
     let mut timings: Vec<Timing> = [16, 256, 2_048].map(pairs).into();
-    timings.extend([whole_run(), report(), walk(), generator(), forecast()]);
+    timings.extend([whole_run(), report(), walk()]);
+    timings.extend([indication(), duplicate(), generator(), forecast()]);
     timings
 }
 
@@ -133,24 +135,90 @@ fn report() -> Timing {
     ("report of 2,048 rows".to_string(), ours, rust)
 }
 
-/// The walk over the 12 bytes of an Error Indication.
+/// The 12 bytes of an Error Indication.
+const ELEMENTS: [u8; 12] = [16, 0, 0, 0, 9, 133, 0, 4, 10, 0, 0, 9];
+
+/// The walk over these. Ours gives the tunnel, too, the address in an array that is made beforehand.
 fn walk() -> Timing {
-    let elements = [16, 0, 0, 0, 9, 133, 0, 4, 10, 0, 0, 9];
+    let mut address = [0; 16];
     let (ours, rust) = take_turns(
         || {
             for _ in 0..REPEATS {
-                black_box(validate_elements(black_box(&elements)));
+                let address = black_box(&mut address);
+                black_box(validate_elements_into(black_box(&ELEMENTS), address));
             }
         },
         || {
             for _ in 0..REPEATS {
-                black_box(validate_error_indication_ies(black_box(&elements))).unwrap();
+                black_box(validate_error_indication_ies(black_box(&ELEMENTS))).unwrap();
             }
         },
     );
     let repeats = REPEATS as f64;
     let name = "element walk of 12 bytes".to_string();
     (name, ours / repeats, rust / repeats)
+}
+
+/// Messages of type 26 with these elements, on a sheet of 16 rows.
+fn indication() -> Timing {
+    let (sheet, report, times) = messages(26, &ELEMENTS);
+    let taken = (ROUNDS * REPEATS) as u64;
+    assert_eq!(sheet.counts.gtpu_error_indications, taken, "all of ours");
+    assert_eq!(report.gtpu_error_indications, taken, "all of the Rust's");
+    (
+        "message of type 26, on a sheet of 16 rows".to_string(),
+        times.0,
+        times.1,
+    )
+}
+
+/// Messages of type 255 with the packet of a row, on a sheet of 16 rows: all but the first of them are
+/// duplicates, so that neither side needs a new sheet for each.
+fn duplicate() -> Timing {
+    let (sheet, report, times) = messages(255, &packets(MESSAGE_ROWS)[MESSAGE_ROWS / 2].tpdu);
+    let taken = (ROUNDS * REPEATS) as u64 - 1;
+    assert_eq!(sheet.counts.duplicate_packets, taken, "all of ours");
+    assert_eq!(report.duplicate_packets, taken, "all of the Rust's");
+    (
+        "message of type 255, a duplicate, on a sheet of 16 rows".to_string(),
+        times.0,
+        times.1,
+    )
+}
+
+/// The rows of the sheet that takes messages.
+const MESSAGE_ROWS: usize = 16;
+
+/// The time of a message on a sheet whose rows were sent, and what both sides hold afterwards. The Rust's
+/// time has the stand-in codec's reading of the message in it.
+fn messages(message_type: u8, payload: &[u8]) -> (RunSheet, PacketContinuityReport, (f64, f64)) {
+    let mut sheet = sheet(MESSAGE_ROWS);
+    let mut observer = ContinuityObserver::default();
+    let packets = packets(MESSAGE_ROWS);
+    for packet in &packets {
+        sheet.record_sent(packet.sequence, packet.send_timestamp_ns);
+        observer.record_sent(packet);
+    }
+    let time = packets.last().map_or(0, |packet| packet.send_timestamp_ns) + 7;
+    let datagram = to_datagram(message_type, 0, None, payload).expect("a short payload");
+    let (ours, rust) = take_turns(
+        || {
+            for _ in 0..REPEATS {
+                let payload = black_box(payload);
+                black_box(sheet.record_return_gtpu_datagram(time, message_type, payload));
+            }
+        },
+        || {
+            for _ in 0..REPEATS {
+                let datagram = black_box(&datagram);
+                black_box(observer.record_return_gtpu_datagram(time, datagram)).unwrap();
+            }
+        },
+    );
+    let budget = PacketContinuityBudget::zero_loss();
+    let report = observer.report("", 0, time, budget);
+    let repeats = REPEATS as f64;
+    (sheet, report, (ours / repeats, rust / repeats))
 }
 
 /// A plan of 2,048 IPv4 packets.

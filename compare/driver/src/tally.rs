@@ -10,7 +10,7 @@ use crate::compared::due;
 use crate::damage::{excluded, turn, window_starts};
 use crate::numbers::TIMESTAMP_REVERSED;
 use crate::ours::{self, Values};
-use crate::ours_traffic::{self, Report, RunSheet};
+use crate::ours_traffic::{self, Noted, Report, RunSheet, Tunnel};
 use crate::packet::{part_at, word};
 use crate::part::{grouped, Part};
 use crate::random::Random;
@@ -142,13 +142,12 @@ struct Return {
 }
 
 impl Return {
-    fn on(&self, sheet: &mut RunSheet) -> u8 {
+    fn on(&self, sheet: &mut RunSheet) -> Noted {
         if self.as_message {
             sheet.record_return_gtpu_datagram(self.time, G_PDU, &self.arrived)
         } else {
             sheet.record_received_tpdu(self.time, &self.arrived)
         }
-        .number
     }
 }
 
@@ -240,10 +239,11 @@ fn list(part: &mut Part, random: &mut Random, met: &mut Met, packets: &[(u64, u6
     };
     for each in &returns {
         let before = sheet.clone();
-        let number = each.on(&mut sheet);
+        let Noted { number, tunnel, .. } = each.on(&mut sheet);
         tally.take(each.packet, each.time, is_refused(part, &each.arrived));
         let due = holding(&before, &tally.0);
-        part.case(&each.arrived, difference(&sheet, &due), None);
+        let answer = (tunnel, difference(&sheet, &due));
+        part.case(&each.arrived, answer, (Tunnel::default(), None));
 
         met.returns += 1;
         met.too_early += u64::from(number == TIMESTAMP_REVERSED);
@@ -254,7 +254,8 @@ fn list(part: &mut Part, random: &mut Random, met: &mut Met, packets: &[(u64, u6
                 arrived: each.whole.clone(),
                 ..each.clone()
             };
-            mended.on(&mut second);
+            let noted = mended.on(&mut second);
+            part.case(&each.whole, noted.tunnel, Tunnel::default());
         }
     }
     met.lists += 1;

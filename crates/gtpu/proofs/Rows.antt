@@ -131,7 +131,7 @@ pub record Sound (l : List ℕ) (n : ℕ) : Type 0 where
   pub size : n ≡ elementSize l
   pub fits : n ≤ length l
 
-within : (l : List ℕ) → Passes (elementCauses l) → elementSize l ≤ length l
+pub within : (l : List ℕ) → Passes (elementCauses l) → elementSize l ≤ length l
 unfolding elementCauses
 within l p = ltb-false (length l) (elementSize l) (first-false (passes-from 25 (passes-from 26 p)))
 

@@ -35,15 +35,15 @@ ErrorIndicationAccepted = (teid address : List ℕ) → length teid ≡ 4 → (l
     → elementsOf (errorIndication teid address) ≡ gives tt
 
 -- Worked examples: a list, and its outcome.
-pub data Example : Type 0 where
-  _↝_ : List ℕ → Outcome (Unit {0}) → Example
+pub data Example (A : Type 0) : Type 0 where
+  _↝_ : List ℕ → Outcome A → Example A
 
 infix 20 _↝_
-abbrev pub Hold : List Example → Type 0
-Hold [] = Unit {0}
-Hold ((list ↝ outcome) ∷ examples) = (elementsOf list ≡ outcome) × Hold examples
+abbrev pub Hold : {A : Type 0} → (List ℕ → Outcome A) → List (Example A) → Type 0
+Hold outcomeOf [] = Unit {0}
+Hold outcomeOf ((list ↝ outcome) ∷ examples) = (outcomeOf list ≡ outcome) × Hold outcomeOf examples
 
-abbrev pub examples : List Example
+abbrev pub examples : List (Example (Unit {0}))
 examples =
     -- a type under 128, even as the last byte, and behind a 16 and a 133
     (127 ∷ [] ↝ refused unsupportedFixedLengthElement)
@@ -63,4 +63,4 @@ examples =
     ∷ []
 
 unfoldable pub Examples : Type 0
-Examples = Hold examples
+Examples = Hold elementsOf examples

@@ -15,7 +15,7 @@ use Rattle.error.proofs.Causes.{refused-gives, not-by}
 use Rattle.error.proofs.Tests.{true-not-false}
 use Rattle.field.specs.Field.{bigEndian}
 use Rattle.field.proofs.Fields.{length-big-endian, length-bytesAt}
-use Rattle.measurement.specs.Flow.{addressLength, address, reversedOf}
+use Rattle.measurement.specs.Flow.{addressLength, address, padded, reversedOf}
 use Rattle.measurement.specs.declared.IpVersion.{IpVersion}
 use Rattle.measurement.specs.declared.IpVersion.the-variants.{V4, V6}
 use Rattle.measurement_packet.specs.Packet.{buildOf}
@@ -24,7 +24,9 @@ use Rattle.measurement_reading.proofs.Numbers.{read-by}
 use Rattle.measurement.specs.declared.DecodedTpdu.{DecodedTpdu}
 use Rattle.measurement_damage.specs.Echo.{echoOfTpdu, echoOf}
 use Rattle.measurement_damage.proofs.Claims.{reads-back, echo-is-reversed, echo-refused, reversed-in-range}
+use Rattle.gtpu.specs.Tunnels.{tunnelTo, ErrorIndicationNames}
 use Rattle.gtpu.proofs.Claims.{error-indication-accepted}
+use Rattle.gtpu.proofs.Tunnels.{error-indication-names}
 use Rattle.reflector_sessions.specs.Session.{valueOf}
 use Rattle.reflector_answer.specs.Answer.{written, Answer, Action, reflected, answer, gpduUnknown, gpduKnown, gpduOutcome, gpduAnswer, echoRequest, echoRequestOutcome, otherMessage, errorIndicationTo}
 use Rattle.reflector_sessions.specs.declared.ReflectorSession.{ReflectorSession}
@@ -38,25 +40,44 @@ use Rattle.reflector_answer.specs.Handle.{placed}
 use Rattle.reflector_answer.proofs.Answers.{handling-short, handling-passed}
 use Rattle.reflector_answer.specs.declared.ReflectorSendReason.the-variants.{ReflectedGpdu, ErrorIndication}
 use Rattle.gtpu.specs.declared.SequenceNumber.the-variants.{Present, Absent}
-use Rattle.reflector_answer.specs.Claims.{oneMoreReceived, ReceivedHasRisen, IndicationAccepted, EchoReadsBack, LeastOutput}
+use Rattle.reflector_answer.specs.Claims.{Sends, oneMoreReceived, ReceivedHasRisen, IndicationAccepted, IndicationNamesTheTunnel, EchoReadsBack, LeastOutput}
 
 pub address-of : (v : IpVersion) (bytes : List ℕ) → (length (address v bytes) ≡ 4) ⊎ (length (address v bytes) ≡ 16)
 unfolding address addressLength
 address-of V4 bytes = inl (length-bytesAt 4 0 bytes)
 address-of V6 bytes = inr (length-bytesAt 16 0 bytes)
 
-pub indication-accepted : IndicationAccepted
-unfolding answer gpduUnknown
-indication-accepted config state source message payload e = (
-  errorIndicationTo (message .teid) source,
-  record {
+-- what is sent to a G-PDU of an unknown TEID
+module _ (config : MultiSessionReflectorConfig) (state : ReflectorState) (source : SocketAddr) (message : GtpuMessage) (payload : List ℕ) where
+  indicates : message .«message_type» ≡ 255 → Sends (answer config state none source message payload) ErrorIndication source (errorIndicationTo (message .teid) source)
+  unfolding answer gpduUnknown
+  indicates e = record {
     message = record { reason = ErrorIndication; destination = source; teid = 0; messageType = 26; sequence = Present (state .«next_error_sequence»); payload = written (errorIndicationTo (message .teid) source) };
     sent = rw (eq-eqb (message .«message_type») 255 e, answer);
     why = refl;
     to = refl;
     payload = refl;
-  },
+  }
+
+pub indication-accepted : IndicationAccepted
+indication-accepted config state source message payload e = (
+  errorIndicationTo (message .teid) source,
+  indicates config state source message payload e,
   error-indication-accepted (bigEndian 4 (message .teid)) (address (source .version) (source .address)) (length-big-endian 4 (message .teid)) (address-of (source .version) (source .address)),
+)
+
+tunnel-to : (teid : ℕ) (v : IpVersion) (bytes : List ℕ) → tunnelTo teid (address v bytes) ≡ record { teid = teid; version = v; «peer_address» = padded (address v bytes) }
+unfolding address addressLength padded
+tunnel-to teid V4 bytes = refl
+tunnel-to teid V6 bytes = refl
+
+pub indication-names-the-tunnel : IndicationNamesTheTunnel
+unfolding ErrorIndicationNames
+indication-names-the-tunnel config state source message payload e h = (
+  errorIndicationTo (message .teid) source,
+  indicates config state source message payload e,
+  error-indication-names (message .teid) (address (source .version) (source .address)) h (address-of (source .version) (source .address))
+      ∙ ap gives (tunnel-to (message .teid) (source .version) (source .address)),
 )
 
 pub received-has-risen : ReceivedHasRisen

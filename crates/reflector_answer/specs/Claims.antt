@@ -1,5 +1,5 @@
 -- What is claimed of the reflector's answers. Proved in proofs/Claims.antt.
-use Prim.Native.Nat.{ℕ, _<_, _≤_}
+use Prim.Native.Nat.{ℕ, _^_, _<_, _≤_}
 use mathlib.Core.Path.{_≡_}
 use mathlib.Core.List.{List, _++_}
 use mathlib.Core.Option.{Option, some, none}
@@ -7,12 +7,13 @@ use lib.ListN.{length}
 use Rattle.counter.specs.Counter.{oneMore}
 use Rattle.error.specs.Number.{outputTooShort}
 use Rattle.error.specs.Outcome.{refused, gives}
-use Rattle.measurement.specs.Flow.{reversedOf, InRange}
+use Rattle.measurement.specs.Flow.{address, padded, reversedOf, InRange}
 use Rattle.measurement.specs.declared.InnerIpFlow.{InnerIpFlow}
 use Rattle.measurement_packet.specs.Packet.{buildOf}
 use Rattle.measurement_reading.specs.Read.{readOf}
 use Rattle.measurement_damage.specs.Claims.{tpduBuilt}
 use Rattle.gtpu.specs.Element.{elementsOf}
+use Rattle.gtpu.specs.Indication.{indicationOf}
 use Rattle.gtpu.specs.Message.{gtpuMsgGpdu}
 use Rattle.reflector_sessions.specs.Judge.{tableOutcome}
 use Rattle.reflector_sessions.specs.Session.{valueOf}
@@ -42,6 +43,19 @@ IndicationAccepted = (config : MultiSessionReflectorConfig) (state : ReflectorSt
     → message .«message_type» ≡ gtpuMsgGpdu
     → (bytes : List ℕ) × Sends (answer config state none source message payload) ErrorIndication source bytes
     × (elementsOf bytes ≡ gives tt)
+
+-- And its elements name the TEID that was not known, and the sender's address (document 02, job 7); of an IPv4 address
+-- the 4 bytes that count, and zeros.
+abbrev pub IndicationNamesTheTunnel : Type 0
+IndicationNamesTheTunnel = (config : MultiSessionReflectorConfig) (state : ReflectorState) (source : SocketAddr)
+    (message : GtpuMessage) (payload : List ℕ)
+    → message .«message_type» ≡ gtpuMsgGpdu → message .teid < 2 ^ 32
+    → (bytes : List ℕ) × Sends (answer config state none source message payload) ErrorIndication source bytes
+    × (indicationOf bytes ≡ gives (record {
+      teid = message .teid;
+      version = source .version;
+      «peer_address» = padded (address (source .version) (source .address));
+    }))
 
 -- The state with one G-PDU more received, and nothing else changed.
 abbrev pub oneMoreReceived : ReflectorState → ReflectorState

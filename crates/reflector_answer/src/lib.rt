@@ -20,7 +20,8 @@ ghost use Rattle.reflector_sessions.specs.Judge.{sessionFound};
 ghost use Rattle.reflector_answer.specs.State.{counted, nextErrorSequence, stateCounted};
 ghost use Rattle.reflector_answer.specs.Answer.{errorIndicationBlock, errorIndicationTo, ignored, gpduKnown};
 ghost use Rattle.reflector_answer.specs.Answer.{gpduUnknown, echoRequest, otherMessage, answer};
-ghost use Rattle.reflector_answer.specs.Claims.{ReceivedHasRisen, IndicationAccepted, EchoReadsBack, LeastOutput};
+ghost use Rattle.reflector_answer.specs.Claims.{ReceivedHasRisen, IndicationAccepted, IndicationNamesTheTunnel};
+ghost use Rattle.reflector_answer.specs.Claims.{EchoReadsBack, LeastOutput};
 ghost use Rattle.reflector_answer.specs.Handle.{nothingSent, handledOf, forwarded, Answers, HandledAs, EchoFits};
 ghost use Rattle.reflector_answer.specs.Handle.{reflectorBytes, handleFound};
 
@@ -474,6 +475,11 @@ pub fn handle_found(
 // Carries that the walk accepts every Error Indication that the reflector answers with.
 pub fn indications_accepted()
     ensures { λ _. ⌜ IndicationAccepted ⌝ }
+{}
+
+// Carries that the walk gives back the TEID and the sender's address from each of them.
+pub fn indications_name_the_tunnel()
+    ensures { λ _. ⌜ IndicationNamesTheTunnel ⌝ }
 {}
 
 // Carries that an echo which the reflector answers with reads back to the reversed flow, with sequence and time kept.

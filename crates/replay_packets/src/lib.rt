@@ -1,6 +1,7 @@
 // The calls on packets, each on a record of the data: whether it answers what the Rust answered, and leaves every byte
 // of the output as the record has it.
 use plan::TrafficPlan;
+use testkit_packets::TestkitElements;
 use testkit_packets::TestkitPlanForecast;
 use testkit_packets::TestkitTpdu;
 use testkit_packets::TestkitWritten;
@@ -148,7 +149,17 @@ pub fn generate(number: u8, s: &[u8]) -> bool {
         && same_forecast(number, s)
 }
 
-// The elements of an Error Indication.
+// Whether an answer names no tunnel: version 4 and TEID 0, and the address is as it was lent.
+fn names_no_tunnel(answer: TestkitElements, peer_address: &[u8; 16]) -> bool {
+    answer.version == 4
+        && answer.teid == 0
+        && replay_data::same_address(peer_address, &[0xa5; 16], 0)
+}
+
+// The elements of an Error Indication. The Rust does not tell which tunnel they name; a refusal names none.
 pub fn elements(number: u8, s: &[u8]) -> bool {
-    replay_data::same_number(testkit_packets::testkit_validate_elements(s), number)
+    let mut peer_address = [0xa5; 16];
+    let answer = testkit_packets::testkit_validate_elements(s, &mut peer_address);
+    replay_data::same_number(answer.number, number)
+        && (number == 0 || names_no_tunnel(answer, &peer_address))
 }

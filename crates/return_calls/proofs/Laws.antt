@@ -14,7 +14,12 @@ use Rattle.measurement_reading.specs.Read.{readOf}
 use Rattle.measurement_reading.proofs.Accept.{read-by-zero}
 use Rattle.measurement_decode.specs.Numbers.{tpduNumbers}
 use Rattle.measurement_decode.specs.declared.TpduNumbers.{TpduNumbers}
+use Rattle.gtpu.specs.Answer.{tunnelNamed}
 use Rattle.gtpu.specs.Element.{elementsOf}
+use Rattle.gtpu.specs.Indication.{indicationOf}
+use Rattle.gtpu.specs.Tunnels.{yesOrNo, SameAnswer}
+use Rattle.gtpu.specs.declared.RefusedTunnel.{RefusedTunnel}
+use Rattle.gtpu.proofs.Tunnels.{same-answer}
 use Rattle.observer.specs.Observer.{Observer}
 use Rattle.rows.specs.Columns.{Columns}
 use Rattle.observer.specs.Judge.{wellFormed, judged, Step, step, refusing, afterReading}
@@ -25,10 +30,12 @@ use Rattle.observer.proofs.Calls.{judged-malformed, judged-well, return-malform
 use Rattle.return_calls.specs.Kinds.{messageTypeOf, kinds, kindAmong, messageKind}
 use Rattle.return_calls.specs.Returns.{sequenceRead, recordReceivedTpdu, recordElements, MessageStep, asMessage, unchanged, recordKind, recordReturnMessage}
 use Rattle.return_calls.specs.Answer.{messageMeans, messageRecorded, sequenceNumbers}
-use Rattle.return_calls.specs.Reading.{tpduReturned, elementsReturned, kindReturned, messageReturned, recordReturned, kindIf}
+use Rattle.return_calls.specs.Reading.{tpduReturned, elementsReturned, kindReturned, messageReturned, withTunnel, recordReturned, kindIf, tunnelIf}
+use Rattle.return_calls.specs.Tunnel.{tunnelHandedOn}
 use Rattle.return_calls.specs.declared.GtpuReturnDatagramOutcome.{GtpuReturnDatagramOutcome}
 use Rattle.return_calls.specs.declared.GtpuReturnDatagramOutcome.the-variants.{MeasurementTpdu, ErrorIndication, EchoResponse, Ignored}
 use Rattle.return_calls.specs.declared.MessageRecorded.{MessageRecorded}
+use Rattle.return_calls.specs.declared.ReadMessage.{ReadMessage}
 use Rattle.return_calls.specs.declared.Returned.{Returned}
 use Rattle.return_calls.specs.declared.Returned.the-variants as returned
 use Rattle.return_calls.specs.declared.SequenceRead.{SequenceRead}
@@ -84,6 +91,17 @@ module _ (p : List ℕ) {r : SequenceRead} (e : r ≡ sequenceNumbers (sequenceR
   pub tpdu-read : r .number ≡ 0 → returned.Sequence (r .sequence) ≡ tpduReturned (sequenceRead p)
   tpdu-read z = ap tpduReturned (sym (seen-given z))
 
+-- ---- elements
+
+-- what they are to the observer, and the tunnel that they name: by the walk's answer
+abbrev pub elementsRead : Outcome RefusedTunnel → ReadMessage
+elementsRead x = withTunnel (elementsReturned (yesOrNo x)) (tunnelNamed x)
+
+pub elements-read : (p : List ℕ) (x : Outcome RefusedTunnel) → x ≡ indicationOf p
+    → elementsRead x ≡ withTunnel (elementsReturned (elementsOf p)) (tunnelNamed (indicationOf p))
+unfolding SameAnswer
+elements-read p x e = ap elementsRead e ∙ ap (λ (y : Outcome (Unit {0})). withTunnel (elementsReturned y) (tunnelNamed (indicationOf p))) (same-answer p)
+
 -- ---- what was read, recorded
 
 module _ (o : Observer) (time : ℕ) where
@@ -122,6 +140,12 @@ as-message kind s = ap (λ (x : Outcome GtpuReturnDatagramOutcome). record { out
     go : (x : Outcome (Unit {0})) → kindIf x (gives kind) ≡ elim x as (λ (y : Outcome (Unit {0})). Outcome GtpuReturnDatagramOutcome) [ refused n ↦ refused n | gives u ↦ gives kind ]
     go (refused n) = refl
     go (gives u) = refl
+
+-- the tunnel goes by the answer
+pub tunnel-answered : (x : Outcome (Unit {0})) (kind : Outcome GtpuReturnDatagramOutcome) (payload : List ℕ)
+    → tunnelIf x (tunnelHandedOn kind payload) ≡ tunnelHandedOn (kindIf x kind) payload
+tunnel-answered (refused n) kind payload = refl
+tunnel-answered (gives u) kind payload = refl
 
 -- a message that changes nothing
 module _ (o : Observer) where
@@ -231,9 +255,14 @@ module _ (t : ℕ) (payload : List ℕ) where
   abbrev returnedAs : Outcome GtpuReturnDatagramOutcome → Returned
   returnedAs x = elim x [ refused n ↦ returned.Refused n | gives kind ↦ kindReturned payload kind ]
 
-  pub returned-as : (x : Outcome GtpuReturnDatagramOutcome) → x ≡ messageKind t → returnedAs x ≡ messageReturned t payload
+  returned-as : (x : Outcome GtpuReturnDatagramOutcome) → x ≡ messageKind t → returnedAs x ≡ messageReturned t payload
   unfolding messageReturned
   returned-as x e = ap returnedAs e
+
+  pub read-message-as : (x : Outcome GtpuReturnDatagramOutcome) → x ≡ messageKind t
+      → withTunnel (returnedAs x) (tunnelHandedOn x payload) ≡ withTunnel (messageReturned t payload) (tunnelHandedOn (messageKind t) payload)
+  unfolding messageReturned
+  read-message-as x e = ap (λ (y : Outcome GtpuReturnDatagramOutcome). withTunnel (returnedAs y) (tunnelHandedOn y payload)) e
 
   -- recorded and answered it is the call
   module _ (o : Observer) (time : ℕ) where

@@ -3,7 +3,9 @@
 use Prim.Native.Nat.{ℕ}
 use mathlib.Core.List.{List}
 use Rattle.error.specs.Outcome.{Outcome, refused, gives}
+use Rattle.gtpu.specs.Answer.{noTunnel}
 use Rattle.gtpu.specs.Element.{elementsOf}
+use Rattle.gtpu.specs.declared.RefusedTunnel.{RefusedTunnel}
 use Rattle.observer.specs.Observer.{Observer}
 use Rattle.observer.specs.Judge.{judged, Step, step, refusing}
 use Rattle.observer.specs.Returning.{recordReturn, recordErrorIndication}
@@ -11,6 +13,7 @@ use Rattle.return_calls.specs.Kinds.{messageKind}
 use Rattle.return_calls.specs.Returns.{sequenceRead}
 use Rattle.return_calls.specs.declared.GtpuReturnDatagramOutcome.{GtpuReturnDatagramOutcome}
 use Rattle.return_calls.specs.declared.GtpuReturnDatagramOutcome.the-variants as kind
+use Rattle.return_calls.specs.declared.ReadMessage.{ReadMessage}
 use Rattle.return_calls.specs.declared.Returned.{Returned}
 use Rattle.return_calls.specs.declared.Returned.the-variants as returned
 
@@ -33,6 +36,10 @@ unfoldable pub messageReturned : ℕ → List ℕ → Returned
 messageReturned messageType payload =
     elim (messageKind messageType) [ refused n ↦ returned.Refused n | gives kind ↦ kindReturned payload kind ]
 
+-- What was read of a message, and the tunnel that it names.
+abbrev pub withTunnel : Returned → RefusedTunnel → ReadMessage
+withTunnel returned tunnel = record { returned = returned; tunnel = tunnel }
+
 -- It is recorded at this time, after 21.
 abbrev pub recordReturned : Observer → ℕ → Returned → Step
 recordReturned o time (returned.Sequence q) = recordReturn o time q
@@ -44,3 +51,8 @@ recordReturned o time (returned.Refused n) = refusing o n
 abbrev pub kindIf : Outcome (Unit {0}) → Outcome GtpuReturnDatagramOutcome → Outcome GtpuReturnDatagramOutcome
 kindIf (refused n) kind = refused n
 kindIf (gives accepted) kind = kind
+
+-- The tunnel that was read, if the message was recorded.
+abbrev pub tunnelIf : Outcome (Unit {0}) → RefusedTunnel → RefusedTunnel
+tunnelIf (refused n) tunnel = noTunnel
+tunnelIf (gives accepted) tunnel = tunnel

@@ -3,19 +3,23 @@
 // every column at exit, on refusals too. What came back is read first; then `record_returned` judges 21 and records it.
 use gtpu::ElementsChecked;
 use gtpu::GtpuMessage;
+use gtpu::RefusedTunnel;
 use observer::ObserverCounts;
 use observer::Recorded;
 use observer::Recording;
 ghost use mathlib.Core.Path.{_≡_};
+ghost use Rattle.gtpu.specs.Answer.{noTunnel, tunnelNamed};
 ghost use Rattle.gtpu.specs.Element.{elementsOf};
+ghost use Rattle.gtpu.specs.Indication.{indicationOf};
 ghost use Rattle.rows.specs.Columns.{sheet};
 ghost use Rattle.observer.specs.Answer.{recordingMeans, records};
 ghost use Rattle.return_calls.specs.Kinds.{messageKind};
 ghost use Rattle.return_calls.specs.Returns.{sequenceRead, recordReceivedTpdu, recordReturnMessage};
+ghost use Rattle.return_calls.specs.Tunnel.{tunnelHandedOn};
 ghost use Rattle.return_calls.specs.Answer.{messageMeans, sequenceNumbers, recordsMessage};
 ghost use Rattle.return_calls.specs.Reading.{tpduReturned, elementsReturned, messageReturned, recordReturned};
-ghost use Rattle.return_calls.specs.Reading.{kindIf};
-ghost use Rattle.return_calls.specs.Claims.{KindIsOfType, RefusedAsRead};
+ghost use Rattle.return_calls.specs.Reading.{withTunnel, kindIf, tunnelIf};
+ghost use Rattle.return_calls.specs.Claims.{KindIsOfType, RefusedAsRead, TunnelOfIndication, NoOtherTunnel};
 
 // What a returned message was.
 pub enum GtpuReturnDatagramOutcome {
@@ -31,10 +35,12 @@ pub enum ReturnRecording {
     Refused(u8),
 }
 
-// What a call answers to a message, and the counts as it leaves them.
+// What a call answers to a message, and the counts as it leaves them. The tunnel is the one that an accepted Error
+// Indication names; beside every other answer it is no tunnel.
 pub struct MessageRecorded {
     pub counts: ObserverCounts,
     pub answer: ReturnRecording,
+    pub tunnel: RefusedTunnel,
 }
 
 // What a T-PDU reads as: its sequence beside 0, or 0 beside the number of the reader's refusal.
@@ -77,12 +83,35 @@ fn read_tpdu(tpdu: &[u8]) -> Returned
     Returned::Sequence(read.sequence)
 }
 
-fn read_elements(elements: &[u8]) -> Returned
-    ensures { λ r. ⌜ r ≡ elementsReturned (elementsOf (now (elements .entry))) ⌝ }
+// A message as it was read: what came back, and the tunnel that it names.
+struct ReadMessage {
+    returned: Returned,
+    tunnel: RefusedTunnel,
+}
+
+// What came back names no tunnel.
+fn without_tunnel(returned: Returned) -> ReadMessage
+    ensures { λ r. ⌜ r ≡ withTunnel returned noTunnel ⌝ }
 {
-    match gtpu::validate_error_indication_ies(elements) {
-        ElementsChecked::Refused(number) => Returned::Refused(number),
-        ElementsChecked::Accepted => Returned::ErrorIndication,
+    ReadMessage {
+        returned: returned,
+        tunnel: gtpu::no_tunnel(),
+    }
+}
+
+fn read_elements(elements: &[u8]) -> ReadMessage
+    ensures { λ r. ⌜ r ≡ withTunnel (elementsReturned (elementsOf (now (elements .entry))))
+        (tunnelNamed (indicationOf (now (elements .entry)))) ⌝ }
+{
+    let result = gtpu::validate_error_indication_ies(elements);
+    let checked = result.checked;
+    let tunnel = result.tunnel;
+    match checked {
+        ElementsChecked::Refused(number) => without_tunnel(Returned::Refused(number)),
+        ElementsChecked::Accepted => ReadMessage {
+            returned: Returned::ErrorIndication,
+            tunnel: tunnel,
+        },
     }
 }
 
@@ -106,16 +135,17 @@ fn message_kind(message_type: u8) -> ReturnRecording
     }
 }
 
-fn read_message(message_type: u8, payload: &[u8]) -> Returned
-    ensures { λ r. ⌜ r ≡ messageReturned «message_type» (now (payload .entry)) ⌝ }
+fn read_message(message_type: u8, payload: &[u8]) -> ReadMessage
+    ensures { λ r. ⌜ r ≡ withTunnel (messageReturned «message_type» (now (payload .entry)))
+        (tunnelHandedOn (messageKind «message_type») (now (payload .entry))) ⌝ }
 {
     match message_kind(message_type) {
-        ReturnRecording::Refused(number) => Returned::Refused(number),
+        ReturnRecording::Refused(number) => without_tunnel(Returned::Refused(number)),
         ReturnRecording::Accepted(kind) => match kind {
-            GtpuReturnDatagramOutcome::MeasurementTpdu => read_tpdu(payload),
+            GtpuReturnDatagramOutcome::MeasurementTpdu => without_tunnel(read_tpdu(payload)),
             GtpuReturnDatagramOutcome::ErrorIndication => read_elements(payload),
-            GtpuReturnDatagramOutcome::EchoResponse => Returned::Noticed,
-            GtpuReturnDatagramOutcome::Ignored(_) => Returned::Noticed,
+            GtpuReturnDatagramOutcome::EchoResponse => without_tunnel(Returned::Noticed),
+            GtpuReturnDatagramOutcome::Ignored(_) => without_tunnel(Returned::Noticed),
         },
     }
 }
@@ -187,11 +217,12 @@ pub fn record_received_tpdu(
     )
 }
 
-// The answer to a message of this type, by what it was recorded as.
-fn message_answer(message_type: u8, recorded: Recorded) -> MessageRecorded
+// The answer to a message of this type, by what it was recorded as. A refusal, by 21 too, has no tunnel beside it.
+fn message_answer(message_type: u8, recorded: Recorded, tunnel: RefusedTunnel) -> MessageRecorded
     ensures { λ r. ⌜ (messageMeans (r .answer)
         ≡ kindIf (recordingMeans (recorded .answer)) (messageKind «message_type»))
-        × (r .counts ≡ recorded .counts) ⌝ }
+        × (r .counts ≡ recorded .counts)
+        × (r .tunnel ≡ tunnelIf (recordingMeans (recorded .answer)) tunnel) ⌝ }
 {
     let answer = recorded.answer;
     let counts = recorded.counts;
@@ -199,16 +230,19 @@ fn message_answer(message_type: u8, recorded: Recorded) -> MessageRecorded
         Recording::Refused(number) => MessageRecorded {
             counts: counts,
             answer: ReturnRecording::Refused(number),
+            tunnel: gtpu::no_tunnel(),
         },
         Recording::Accepted => MessageRecorded {
             counts: counts,
             answer: message_kind(message_type),
+            tunnel: tunnel,
         },
     }
 }
 
 // Records a parsed GTP-U message that came back. Its TEID and sequence are not used. Refuses by 21; then type 255 as
-// `record_received_tpdu` does, 26 as the walk over its elements does, and any other type but 2, 31 and 254 by 37.
+// `record_received_tpdu` does, 26 as the walk over its elements does, and any other type but 2, 31 and 254 by 37. The
+// tunnel that an accepted Error Indication names is handed on, and changes nothing on the sheet.
 pub fn record_return_gtpu_datagram(
     sequences: &[u64],
     send_timestamps: &[u64],
@@ -219,11 +253,14 @@ pub fn record_return_gtpu_datagram(
     message: GtpuMessage,
     payload: &[u8],
 ) -> MessageRecorded
-    ensures { λ r. ⌜ recordsMessage (sheet sequences «send_timestamps» latencies marks) counts r
+    ensures recorded { λ r. ⌜ recordsMessage (sheet sequences «send_timestamps» latencies marks) counts r
         (λ o. recordReturnMessage o «return_timestamp_ns» (message .«message_type») (now (payload .entry))) ⌝ }
+    ensures tunnel { λ r. ⌜ r .tunnel ≡ tunnelHandedOn (messageMeans (r .answer)) (now (payload .entry)) ⌝ }
 {
     let message_type = message.message_type;
-    let returned = read_message(message_type, payload);
+    let read = read_message(message_type, payload);
+    let returned = read.returned;
+    let tunnel = read.tunnel;
     let recorded = record_returned(
         sequences,
         send_timestamps,
@@ -233,7 +270,7 @@ pub fn record_return_gtpu_datagram(
         return_timestamp_ns,
         returned,
     );
-    message_answer(message_type, recorded)
+    message_answer(message_type, recorded, tunnel)
 }
 
 // Carries the claim that a T-PDU which reading refuses is refused by the same number, and leaves the sheet as it was.
@@ -244,4 +281,9 @@ pub fn refused_as_read()
 // Carries the claim that an accepted message is of a kind that has its type.
 pub fn kind_is_of_type()
     ensures { λ _. ⌜ KindIsOfType ⌝ }
+{}
+
+// Carries the claims on the tunnel that is handed on: an accepted Error Indication's, and none beside anything else.
+pub fn tunnel_is_handed_on()
+    ensures { λ _. ⌜ TunnelOfIndication × NoOtherTunnel ⌝ }
 {}

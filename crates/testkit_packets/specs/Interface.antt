@@ -5,11 +5,13 @@ use mathlib.Core.List.{List}
 use mathlib.Core.Bool.{true, false}
 use mathlib.Core.Option.{some, none}
 use Rattle.error.specs.Outcome.{Outcome, refused, gives}
+use Rattle.gtpu.specs.declared.RefusedTunnel.{RefusedTunnel}
 use Rattle.measurement.specs.Flow.{versionNumbered, versionNumber}
 use Rattle.measurement.specs.declared.InnerIpFlow.{InnerIpFlow}
 use Rattle.measurement_decode.specs.declared.TpduNumbers.{TpduNumbers}
 use Rattle.traffic.specs.Generate.{Generating}
 use Rattle.forecast.specs.Forecast.{Figures}
+use Rattle.testkit_packets.specs.declared.TestkitElements.{TestkitElements}
 use Rattle.testkit_packets.specs.declared.TestkitPlanForecast.{TestkitPlanForecast}
 use Rattle.testkit_packets.specs.declared.TestkitTpdu.{TestkitTpdu}
 use Rattle.testkit_packets.specs.declared.TestkitWritten.{TestkitWritten}
@@ -61,6 +63,16 @@ testkitTpdu n = record {
   sequence = n .sequence;
   «send_timestamp_ns» = n .«send_timestamp_ns»;
 }
+
+-- 0, the version of the peer's address and the TEID; or a refusal's number, version 4 and TEID 0.
+abbrev pub elementsNumbers : Outcome RefusedTunnel → TestkitElements
+elementsNumbers (refused n) = record { number = n; version = 4; teid = 0 }
+elementsNumbers (gives t) = record { number = 0; version = versionNumber (t .version); teid = t .teid }
+
+-- The address that they name; where they are refused, what was lent: "Left as it was: all".
+abbrev pub addressLeft : Outcome RefusedTunnel → List ℕ → List ℕ
+addressLeft (refused n) lent = lent
+addressLeft (gives t) lent = t .«peer_address»
 
 -- The answer, the next sequence in the caller's place and the buffer, as the generator leaves them.
 pub record GeneratedStep (r : TestkitWritten) (next : ℕ) (buffer : List ℕ) (g : Generating) : Type 0 where

@@ -10,7 +10,6 @@ ghost use mathlib.Core.Path.{_≡_};
 ghost use Prim.Native.Nat.{_+_};
 ghost use mathlib.Core.Bool.{true};
 ghost use lib.Dec.{eqb};
-ghost use Rattle.error.specs.Outcome.{outcomeNumber};
 ghost use Rattle.checksum.specs.Sum.{sumOf, foldOf, checksumOf};
 ghost use Rattle.checksum.specs.Claims.{Undamaged};
 ghost use Rattle.measurement.specs.Answer.{writtenMeans, writing, writingOf};
@@ -22,22 +21,22 @@ ghost use Rattle.measurement_decode.specs.Numbers.{tpduNumbers, sourceLeft, des
 ghost use Rattle.traffic.specs.Generate.{generateOf};
 ghost use Rattle.forecast.specs.Forecast.{forecastOf};
 ghost use Rattle.forecast.specs.Answer.{forecastMeans};
-ghost use Rattle.gtpu.specs.Element.{elementsOf};
+ghost use Rattle.gtpu.specs.Indication.{indicationOf};
 ghost use Rattle.testkit_packets.specs.Interface.{versionOf, flowOf, writtenNumbers, testkitTpdu, GeneratedStep};
-ghost use Rattle.testkit_packets.specs.Interface.{withoutLast, forecastNumbers};
+ghost use Rattle.testkit_packets.specs.Interface.{withoutLast, forecastNumbers, elementsNumbers, addressLeft};
 
 // The version of the interface. The major version rises if a program may have to be changed, otherwise the minor if
 // something was added, otherwise the patch (include/testkit.h).
-pub const VERSION_MAJOR: u32 = 3;
+pub const VERSION_MAJOR: u32 = 4;
 
-pub const VERSION_MINOR: u32 = 2;
+pub const VERSION_MINOR: u32 = 0;
 
 pub const VERSION_PATCH: u32 = 0;
 
 // The version in one number.
 #[no_mangle]
 pub extern "C" fn testkit_version() -> u32
-    ensures { λ r. ⌜ r ≡ versionOf 3 2 0 ⌝ }
+    ensures { λ r. ⌜ r ≡ versionOf 4 0 0 ⌝ }
 {
     VERSION_MAJOR * 65536 + VERSION_MINOR * 256 + VERSION_PATCH
 }
@@ -69,6 +68,15 @@ pub struct TestkitPlanForecast {
     pub bytes: usize,
     pub last_sequence: u64,
     pub last_send_timestamp_ns: u64,
+}
+
+// What the walk over elements answers: 0, the version of the peer's address and the TEID; or a refusal's number,
+// version 4 and TEID 0. `version` is 4 or 6.
+#[repr(C)]
+pub struct TestkitElements {
+    pub number: u8,
+    pub version: u8,
+    pub teid: u32,
 }
 
 // A writer's answer in numbers.
@@ -241,13 +249,34 @@ pub extern "C" fn testkit_forecast(
     forecast_numbers(forecast::forecast(measurement::version_of(version), plan, next_sequence))
 }
 
-// `gtpu::validate_error_indication_ies`
+// `gtpu::validate_error_indication_ies`, with the peer's address in a lent array, which a refusal leaves as it was.
 #[no_mangle]
-pub extern "C" fn testkit_validate_elements(payload: &[u8]) -> u8
-    ensures { λ r. ⌜ r ≡ outcomeNumber (elementsOf (now (payload .entry))) ⌝ }
+pub extern "C" fn testkit_validate_elements(
+    payload: &[u8],
+    peer_address: &mut [u8; 16],
+) -> TestkitElements
+    ensures answer { λ r. ⌜ r ≡ elementsNumbers (indicationOf (now (payload .entry))) ⌝ }
+    ensures address { λ _. ⌜ now («peer_address» .exit)
+        ≡ addressLeft (indicationOf (now (payload .entry))) (now («peer_address» .entry)) ⌝ }
 {
-    match gtpu::validate_error_indication_ies(payload) {
-        ElementsChecked::Accepted => 0,
-        ElementsChecked::Refused(number) => number,
+    let result = gtpu::validate_error_indication_ies(payload);
+    let checked = result.checked;
+    let tunnel = result.tunnel;
+    let peer_version = tunnel.version;
+    let address = tunnel.peer_address;
+    match checked {
+        ElementsChecked::Refused(number) => TestkitElements {
+            number,
+            version: 4,
+            teid: 0,
+        },
+        ElementsChecked::Accepted => {
+            *peer_address = address;
+            TestkitElements {
+                number: 0,
+                version: measurement::version_number(peer_version),
+                teid: tunnel.teid,
+            }
+        }
     }
 }

@@ -9,7 +9,9 @@ use Rattle.observer.specs.declared.Recorded.{Recorded}
 use Rattle.received_tpdus.specs.declared.ReturnsRecorded.{ReturnsRecorded}
 use Rattle.return_calls.specs.Answer.{messageMeans, messageRecorded}
 use Rattle.received_tpdus.specs.Received.{returnsMeans, ReturnsTaken, returnsRecorded}
+use Rattle.gtpu.specs.declared.RefusedTunnel.{RefusedTunnel}
 use Rattle.return_calls.specs.Returns.{MessageStep}
+use Rattle.return_calls.specs.Tunnel.{tunnelHandedOn}
 use Rattle.return_calls.specs.declared.MessageRecorded.{MessageRecorded}
 use Rattle.testkit_sheet.specs.Interface.{recordedNumbers, RecordedStep, returnsNumbers, ReturnsStep, datagramNumbers, DatagramStep}
 use Rattle.testkit_sheet.specs.declared.TestkitDatagramRecorded.{TestkitDatagramRecorded}
@@ -36,9 +38,12 @@ returns-stepped r x returned numbers columns s e p = record {
 }
 
 -- a datagram
-pub datagram-stepped : (r : TestkitDatagramRecorded) (x : MessageRecorded) (columns : Columns) (s : MessageStep)
-    → messageRecorded x columns ≡ s → r ≡ datagramNumbers (messageMeans (x .answer)) (x .counts) → DatagramStep r columns s
-datagram-stepped r x columns s e p = record {
-  answer = p ∙ ap (λ (s : MessageStep). datagramNumbers (s .outcome) (s .observer .counts)) e;
+pub datagram-stepped : (r : TestkitDatagramRecorded) (x : MessageRecorded) (columns : Columns) (payload : List ℕ) (s : MessageStep)
+    → messageRecorded x columns ≡ s → x .tunnel ≡ tunnelHandedOn (messageMeans (x .answer)) payload
+    → r ≡ datagramNumbers (messageMeans (x .answer)) (x .tunnel) (x .counts) → DatagramStep r columns payload s
+datagram-stepped r x columns payload s e t p = record {
+  answer =
+      p ∙ ap (λ (t : RefusedTunnel). datagramNumbers (messageMeans (x .answer)) t (x .counts)) t
+      ∙ ap (λ (s : MessageStep). datagramNumbers (s .outcome) (tunnelHandedOn (s .outcome) payload) (s .observer .counts)) e;
   same-columns = ap (λ (s : MessageStep). s .observer .columns) e;
 }

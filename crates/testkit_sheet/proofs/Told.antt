@@ -9,6 +9,10 @@ use Rattle.error.specs.Outcome.{Outcome, refused, gives}
 use Rattle.error.proofs.Tests.{and-both, both}
 use Rattle.evidence.specs.declared.PacketContinuityBudget.{PacketContinuityBudget}
 use Rattle.evidence.specs.declared.PacketContinuityReport.{PacketContinuityReport}
+use Rattle.gtpu.specs.declared.RefusedTunnel.{RefusedTunnel}
+use Rattle.measurement.specs.Flow.{versionNumbered}
+use Rattle.measurement.specs.declared.IpVersion.{IpVersion}
+use Rattle.measurement.proofs.Versions.{versions-numbered}
 use Rattle.observer.specs.declared.ObserverCounts.{ObserverCounts}
 use Rattle.return_calls.specs.declared.GtpuReturnDatagramOutcome.{GtpuReturnDatagramOutcome}
 use Rattle.return_calls.specs.declared.GtpuReturnDatagramOutcome.the-variants.{MeasurementTpdu, ErrorIndication, EchoResponse, Ignored}
@@ -89,19 +93,27 @@ outcomeBack (suc (suc (suc (suc k)))) t n = gives (Ignored t)
 abbrev outcomeTold : TestkitDatagramRecorded → Outcome GtpuReturnDatagramOutcome
 outcomeTold d = outcomeBack (d .outcome) (d .«message_type») (d .number)
 
-told-outcome : (x : Outcome GtpuReturnDatagramOutcome) (c : ObserverCounts) → outcomeTold (datagramNumbers x c) ≡ x
-told-outcome (refused n) c = refl
-told-outcome (gives MeasurementTpdu) c = refl
-told-outcome (gives ErrorIndication) c = refl
-told-outcome (gives EchoResponse) c = refl
-told-outcome (gives (Ignored t)) c = refl
+told-outcome : (x : Outcome GtpuReturnDatagramOutcome) (t : RefusedTunnel) (c : ObserverCounts) → outcomeTold (datagramNumbers x t c) ≡ x
+told-outcome (refused n) t c = refl
+told-outcome (gives MeasurementTpdu) t c = refl
+told-outcome (gives ErrorIndication) t c = refl
+told-outcome (gives EchoResponse) t c = refl
+told-outcome (gives (Ignored m)) t c = refl
+
+-- and so is the tunnel beside it
+abbrev tunnelTold : TestkitDatagramRecorded → RefusedTunnel
+tunnelTold d = record { teid = d .«refused_teid»; version = versionNumbered (d .«peer_version»); «peer_address» = d .«peer_address» }
+
+told-tunnel : (x : Outcome GtpuReturnDatagramOutcome) (t : RefusedTunnel) (c : ObserverCounts) → tunnelTold (datagramNumbers x t c) ≡ t
+told-tunnel x t c = ap (λ (v : IpVersion). record { teid = t .teid; version = v; «peer_address» = t .«peer_address» }) (versions-numbered .read-back (t .version))
 
 pub datagrams-told : DatagramsTold
 datagrams-told = record {
   only-refused = only-refused;
-  apart = λ x y c d e. (
-    sym (told-outcome x c) ∙ ap outcomeTold e ∙ told-outcome y d,
-    ap (λ (t : TestkitDatagramRecorded). t .counts) e,
+  apart = λ x y s t c d e. (
+    sym (told-outcome x s c) ∙ ap outcomeTold e ∙ told-outcome y t d,
+    sym (told-tunnel x s c) ∙ ap tunnelTold e ∙ told-tunnel y t d,
+    ap (λ (r : TestkitDatagramRecorded). r .counts) e,
   );
 }
 

@@ -4,6 +4,7 @@ use mathlib.Core.Path.{_≡_}
 use Rattle.error.specs.Outcome.{Outcome, refused, gives}
 use Rattle.evidence.specs.declared.PacketContinuityBudget.{PacketContinuityBudget}
 use Rattle.evidence.specs.declared.PacketContinuityReport.{PacketContinuityReport}
+use Rattle.gtpu.specs.declared.RefusedTunnel.{RefusedTunnel}
 use Rattle.observer.specs.Observer.{Observer}
 use Rattle.observer.specs.declared.ObserverCounts.{ObserverCounts}
 use Rattle.report.specs.Report.{reporting}
@@ -55,9 +56,9 @@ pub record VerdictsTold : Type 0 where
   pub not-none : (v : Verdict) → verdictNumbers v .reason ≡ noReport .reason → ⊥
   pub apart : (v w : Verdict) → verdictNumbers v ≡ verdictNumbers w → v ≡ w
 
--- And what a datagram was, from its own: only a refusal has code 0, and no two answers have the same numbers. The code
--- alone does not tell two ignored messages apart, so the type of the message stands beside it.
+-- And what a datagram was, from its own: only a refusal has code 0, and no two answers have the same numbers, nor two
+-- tunnels. The code alone does not tell two ignored messages apart, so the type of the message stands beside it.
 pub record DatagramsTold : Type 0 where
   pub only-refused : (x : Outcome GtpuReturnDatagramOutcome) → outcomeCode x ≡ 0 → (n : ℕ) × (x ≡ refused n)
-  pub apart : (x y : Outcome GtpuReturnDatagramOutcome) (counts after : ObserverCounts)
-      → datagramNumbers x counts ≡ datagramNumbers y after → (x ≡ y) × (counts ≡ after)
+  pub apart : (x y : Outcome GtpuReturnDatagramOutcome) (s t : RefusedTunnel) (counts after : ObserverCounts)
+      → datagramNumbers x s counts ≡ datagramNumbers y t after → (x ≡ y) × (s ≡ t) × (counts ≡ after)

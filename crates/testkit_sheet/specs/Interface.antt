@@ -10,7 +10,10 @@ use Rattle.observer.specs.Observer.{Observer}
 use Rattle.observer.specs.Judge.{Step}
 use Rattle.observer.specs.Answer.{lent}
 use Rattle.observer.specs.declared.ObserverCounts.{ObserverCounts}
+use Rattle.gtpu.specs.declared.RefusedTunnel.{RefusedTunnel}
+use Rattle.measurement.specs.Flow.{versionNumber}
 use Rattle.return_calls.specs.Returns.{MessageStep}
+use Rattle.return_calls.specs.Tunnel.{tunnelHandedOn}
 use Rattle.received_tpdus.specs.Received.{ReturnsTaken}
 use Rattle.rows.specs.Columns.{Columns, Column, Sheet}
 use Rattle.return_calls.specs.declared.GtpuReturnDatagramOutcome.{GtpuReturnDatagramOutcome}
@@ -84,21 +87,28 @@ abbrev pub ignoredType : Outcome GtpuReturnDatagramOutcome → ℕ
 ignoredType (refused n) = 0
 ignoredType (gives was) = typeOf was
 
-abbrev pub datagramNumbers : Outcome GtpuReturnDatagramOutcome → ObserverCounts → TestkitDatagramRecorded
-datagramNumbers outcome counts = record {
+-- With the tunnel that is handed on beside it.
+abbrev pub datagramNumbers : Outcome GtpuReturnDatagramOutcome → RefusedTunnel → ObserverCounts
+    → TestkitDatagramRecorded
+datagramNumbers outcome tunnel counts = record {
   number = outcomeNumber outcome;
   outcome = outcomeCode outcome;
   «message_type» = ignoredType outcome;
+  «peer_version» = versionNumber (tunnel .version);
+  «refused_teid» = tunnel .teid;
+  «peer_address» = tunnel .«peer_address»;
   counts = counts;
 }
 
--- The answer to a datagram and the columns, as its step has them.
-pub record DatagramStep (r : TestkitDatagramRecorded) (columns : Columns) (s : MessageStep) : Type 0 where
-  pub answer : r ≡ datagramNumbers (s .outcome) (s .observer .counts)
-  pub same-columns : columns ≡ s .observer .columns
+-- The answer to a datagram with this payload, and the columns, as its step has them.
+pub record DatagramStep (r : TestkitDatagramRecorded) (columns : Columns) (payload : List ℕ) (s : MessageStep) : Type 0
+  where
+    pub answer : r ≡ datagramNumbers (s .outcome) (tunnelHandedOn (s .outcome) payload) (s .observer .counts)
+    pub same-columns : columns ≡ s .observer .columns
 
-abbrev pub RecordsDatagram : Sheet → ObserverCounts → TestkitDatagramRecorded → (Observer → MessageStep) → Type 0
-RecordsDatagram s c r definition = DatagramStep r (s .exit) (definition (lent s c))
+abbrev pub RecordsDatagram : Sheet → ObserverCounts → TestkitDatagramRecorded → List ℕ → (Observer → MessageStep)
+    → Type 0
+RecordsDatagram s c r payload definition = DatagramStep r (s .exit) payload (definition (lent s c))
 
 -- Latencies: absent is false and zeros.
 abbrev pub latencyNumbers : Option LatencySummary → LatencyNumbers

@@ -209,14 +209,17 @@ pub const OUTCOME_ECHO_RESPONSE: u8 = 3;
 
 pub const OUTCOME_IGNORED: u8 = 4;
 
-// What is answered to a datagram: 0 or a refusal's number; what it was; the type of an ignored message, else 0; and the
-// counts.
+// What is answered to a datagram: 0 or a refusal's number; what it was; the type of an ignored message, else 0; the
+// counts; and the tunnel that an accepted Error Indication names, else zeros beside version 4.
 #[repr(C)]
 pub struct TestkitDatagramRecorded {
     pub counts: ObserverCounts,
     pub number: u8,
     pub outcome: u8,
     pub message_type: u8,
+    pub peer_version: u8,
+    pub refused_teid: u32,
+    pub peer_address: [u8; 16],
 }
 
 fn datagram_number(answer: ReturnRecording) -> u8
@@ -257,15 +260,21 @@ fn ignored_type(answer: ReturnRecording) -> u8
 }
 
 fn datagram_numbers(recorded: MessageRecorded) -> TestkitDatagramRecorded
-    ensures { λ r. ⌜ r ≡ datagramNumbers (messageMeans (recorded .answer)) (recorded .counts) ⌝ }
+    ensures { λ r. ⌜ r ≡ datagramNumbers (messageMeans (recorded .answer)) (recorded .tunnel) (recorded .counts) ⌝ }
 {
     let answer = recorded.answer;
     let counts = recorded.counts;
+    let tunnel = recorded.tunnel;
+    let version = tunnel.version;
+    let peer_address = tunnel.peer_address;
     TestkitDatagramRecorded {
         counts: counts,
         number: datagram_number(answer),
         outcome: outcome_code(answer),
         message_type: ignored_type(answer),
+        peer_version: measurement::version_number(version),
+        refused_teid: tunnel.teid,
+        peer_address: peer_address,
     }
 }
 
@@ -282,6 +291,7 @@ pub extern "C" fn testkit_record_return_gtpu_datagram(
     payload: &[u8],
 ) -> TestkitDatagramRecorded
     ensures { λ r. ⌜ RecordsDatagram (sheet sequences «send_timestamps» latencies marks) counts r
+        (now (payload .entry))
         (λ o. recordReturnMessage o «return_timestamp_ns» «message_type» (now (payload .entry))) ⌝ }
 {
     datagram_numbers(return_calls::record_return_gtpu_datagram(

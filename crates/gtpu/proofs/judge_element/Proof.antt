@@ -9,16 +9,17 @@ shared-slice-read-match : tie.Need-shared-slice-read-match
 shared-slice-read-match c = search needs
 
 returns : tie.Need-returns
-returns c = teid-cut (c .before .before .before .before .args .list .now) (c .before .match .keys1) (c .if1 .taken)
+returns c = record { means = teid-cut (c .before .before .before .before .args .list .now) (c .before .match .keys1) (c .if1 .taken); type = tt }
 
 judge-variable-length-requires : tie.Need-judge-variable-length-requires
 judge-variable-length-requires c κs = search needs
 
 returns-2 : tie.Need-returns-2
-returns-2 c = teid-sound (c .before .before .before .before .args .list .now) (c .before .match .keys1) (c .if1 .left)
+returns-2 c =
+    record { means = teid-sound (c .before .before .before .before .args .list .now) (c .before .match .keys1) (c .if1 .left); type = c .before .match .keys1 }
 
 returns-3 : tie.Need-returns-3
-returns-3 c = refuses-27 (c .before .before .before .before .args .list .now) (omega arith) (c .before .match .rest .1)
+returns-3 c = record { means = refuses-27 (c .before .before .before .before .args .list .now) (omega arith) (c .before .match .rest .1); type = tt }
 
 returns-4 : tie.Need-returns-4
 returns-4 c = search needs

@@ -12,8 +12,13 @@ outcome-code-requires c κs = search needs
 ignored-type-requires : tie.Need-ignored-type-requires
 ignored-type-requires c κs = search needs
 
+version-number-requires : tie.Need-version-number-requires
+version-number-requires c κs = search needs
+
 returns : tie.Need-returns
-returns c = rw (c .before .before .datagram-number .ensures, c .before .outcome-code .ensures, c .ignored-type .ensures)
+returns c =
+    let typed = c .before in
+    rw (typed .before .before .datagram-number .ensures, typed .before .outcome-code .ensures, typed .ignored-type .ensures, c .version-number .ensures)
 
 pub datagram-numbers-spec : {M : Type 1} → statement M
-datagram-numbers-spec = tie.close (tie.spec datagram-number-requires outcome-code-requires ignored-type-requires returns)
+datagram-numbers-spec = tie.close (tie.spec datagram-number-requires outcome-code-requires ignored-type-requires version-number-requires returns)

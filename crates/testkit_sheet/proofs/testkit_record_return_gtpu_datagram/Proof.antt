@@ -19,7 +19,8 @@ same-length-2 c = search needs
 returns : tie.Need-returns
 returns c =
     let b = c .before .before .before .before .before in
-    datagram-stepped (c .datagram-numbers .result) (b .record-return-gtpu-datagram .result) _ _ (b .record-return-gtpu-datagram .ensures) (c .datagram-numbers .ensures)
+    datagram-stepped (c .datagram-numbers .result) (b .record-return-gtpu-datagram .result) _ _ _
+    (b .record-return-gtpu-datagram .ensures .0) (b .record-return-gtpu-datagram .ensures .1) (c .datagram-numbers .ensures)
 
 pub testkit-record-return-gtpu-datagram-spec : {M : Type 1} → statement M
 testkit-record-return-gtpu-datagram-spec =
