@@ -1,7 +1,9 @@
 // One probe through the reflector and back: what it sends is damaged as the scenario says, recorded on the run sheet by
 // the proved call, and noted.
 use gtpu::GtpuMessage;
+use gtpu::RefusedTunnel;
 use observer::ObserverCounts;
+use probe_fate::FirstIndication;
 use reflector_answer::Handled;
 use reflector_answer::ReflectorAction;
 use reflector_answer::ReflectorState;
@@ -14,6 +16,7 @@ use scenario::Scenario;
 pub struct Progress {
     pub counts: ObserverCounts,
     pub state: ReflectorState,
+    pub indication: FirstIndication,
 }
 
 // 4 or 6.
@@ -78,11 +81,44 @@ fn first_bytes(out: &[u8; reflector_answer::REFLECTOR_BYTES], length: usize) -> 
     text::part(out, 0, length)
 }
 
-// What stands after a return.
-fn after(handled: Handled, recorded: MessageRecorded) -> Progress {
+// The first Error Indication that was accepted, after one more probe has come back. The tunnel is what the proved call
+// handed on.
+fn first_indication(
+    kept: FirstIndication,
+    probe: u64,
+    fate: u8,
+    tunnel: RefusedTunnel,
+) -> FirstIndication {
+    if fate != probe_fate::ERROR_INDICATION {
+        return kept;
+    }
+    let version = tunnel.version;
+    let peer_address = tunnel.peer_address;
+    let later = FirstIndication {
+        probe,
+        teid: tunnel.teid,
+        version: measurement::version_number(version),
+        peer_address,
+    };
+    probe_fate::keep_first(kept, later)
+}
+
+// What stands after a return of a probe.
+fn after(
+    run: Progress,
+    probe: u64,
+    fate: u8,
+    handled: Handled,
+    recorded: MessageRecorded,
+) -> Progress {
     let counts = recorded.counts;
     let state = handled.state;
-    Progress { counts, state }
+    let indication = first_indication(run.indication, probe, fate, recorded.tunnel);
+    Progress {
+        counts,
+        state,
+        indication,
+    }
 }
 
 // A probe reaches the reflector, and what it sends comes back at a time and is recorded.
@@ -124,11 +160,7 @@ pub fn deliver(
         message,
         first_bytes(&out, length),
     );
-    probe_fate::note(
-        fates,
-        refusals,
-        rehearsal_path::row(probe),
-        fate(before, recorded),
-    );
-    after(handled, recorded)
+    let became = fate(before, recorded);
+    probe_fate::note(fates, refusals, rehearsal_path::row(probe), became);
+    after(run, probe, became, handled, recorded)
 }

@@ -1,4 +1,7 @@
-// What became of a probe in a rehearsal, as a number, from the best to the worst.
+// What became of a probe in a rehearsal, as a number, from the best to the worst; and the first Error Indication.
+ghost use mathlib.Core.Path.{_≡_};
+ghost use Prim.Native.Nat.{_<_};
+
 pub const RETURNED: u8 = 0;
 
 pub const DUPLICATE: u8 = 1;
@@ -43,4 +46,32 @@ fn count_refusal(refusals: &mut [u64], number: usize) {
 pub fn note(fates: &mut [u8], refusals: &mut [u64], row: usize, fate: u8) {
     note_fate(fates, row, fate);
     count_refusal(refusals, number_of(fate) as usize);
+}
+
+// The first Error Indication of a run that was accepted, in the order of arrival: the probe that it answers, and the
+// tunnel that it names, in numbers. `version` is 4 or 6. Probe 0, and no tunnel, where none has come.
+pub struct FirstIndication {
+    pub probe: u64,
+    pub teid: u32,
+    pub version: u8,
+    pub peer_address: [u8; 16],
+}
+
+pub fn no_indication() -> FirstIndication {
+    FirstIndication {
+        probe: 0,
+        teid: 0,
+        version: 4,
+        peer_address: [0; 16],
+    }
+}
+
+// What is kept where one more came: a later one never takes the place of the first.
+pub fn keep_first(kept: FirstIndication, later: FirstIndication) -> FirstIndication
+    ensures { λ r. ⌜ (0 < kept .probe → r ≡ kept) × (kept .probe ≡ 0 → r ≡ later) ⌝ }
+{
+    if kept.probe == 0 {
+        return later;
+    }
+    kept
 }

@@ -5,6 +5,7 @@ mod words;
 
 use evidence::PacketContinuityReport;
 use forecast::PlanForecast;
+use probe_fate::FirstIndication;
 use reflector_answer::ReflectorState;
 use report::Reported;
 use scenario::Scenario;
@@ -39,6 +40,7 @@ fn print_run(
     r: PacketContinuityReport,
     verdict: Verdict,
     state: ReflectorState,
+    indication: FirstIndication,
     refusals: &[u64; 64],
     sequences: &[u64],
     send_timestamps: &[u64],
@@ -53,6 +55,7 @@ fn print_run(
             r,
             verdict,
             state,
+            indication,
             refusals,
             sequences,
             send_timestamps,
@@ -67,7 +70,7 @@ fn print_run(
             marks,
             fates,
         ),
-        _ => rehearsal_lines::print_rehearsal(s, r, verdict, state, fates, refusals),
+        _ => rehearsal_lines::print_rehearsal(s, r, verdict, state, indication, fates, refusals),
     }
 }
 
@@ -108,6 +111,7 @@ fn rehearse(s: &Scenario) -> u64 {
                 r,
                 verdict,
                 run.state,
+                run.indication,
                 &refusals,
                 &sequences,
                 &send_timestamps,

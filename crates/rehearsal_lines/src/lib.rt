@@ -5,6 +5,7 @@ use evidence::PacketContinuityReport;
 use forecast::PlanForecast;
 use forecast::PlannedPackets;
 use measurement::MeasurementHeader;
+use probe_fate::FirstIndication;
 use reflector_answer::ReflectorState;
 use scenario::Scenario;
 use verdict::Verdict;
@@ -139,6 +140,7 @@ pub fn print_rehearsal(
     r: PacketContinuityReport,
     verdict: Verdict,
     state: ReflectorState,
+    indication: FirstIndication,
     fates: &[u8],
     refusals: &[u64; 64],
 ) {
@@ -150,5 +152,6 @@ pub fn print_rehearsal(
     print_reflector(state);
     print_refusals(refusals);
     timeline::print_rows(fates);
+    timeline::print_indication(indication);
     report_lines::print_verdict(verdict);
 }

@@ -1,5 +1,6 @@
 // What became of each probe, as the proved calls answered, in marks: rows of 50, the number of the first probe in
-// front.
+// front; and the first Error Indication.
+use probe_fate::FirstIndication;
 
 // The marks of a row.
 const WIDTH: usize = 50;
@@ -38,4 +39,19 @@ pub fn print_rows(fates: &[u8]) {
     }
     text::print(b"\n           . returned  + duplicate  ~ out of order  ! refused\n");
     text::print(b"           _ lost  E error indication  (one mark per probe)\n");
+}
+
+// The first Error Indication, where there is one: the probe that it answers, and the tunnel that it names. The address
+// that a rehearsal's reflector names is short, so that the line has at most 65 columns.
+pub fn print_indication(first: FirstIndication) {
+    if first.probe == 0 {
+        return;
+    }
+    let address = first.peer_address;
+    text::print_count(b"           first E, probe ", first.probe);
+    text::print(b": TEID ");
+    tunnel_text::print_teid(first.teid);
+    text::print(b", peer ");
+    tunnel_text::print_address(measurement::version_of(first.version), &address);
+    text::print(b"\n");
 }

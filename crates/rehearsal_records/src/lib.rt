@@ -8,6 +8,7 @@ use evidence::PacketContinuityReport;
 use forecast::PlanForecast;
 use forecast::PlannedPackets;
 use measurement::MeasurementHeader;
+use probe_fate::FirstIndication;
 use reflector_answer::ReflectorState;
 use scenario::Scenario;
 use verdict::Verdict;
@@ -90,6 +91,19 @@ fn print_reflector(state: ReflectorState) {
         stats.error_indications_sent,
     );
     text::print(b"},\n");
+}
+
+// The first Error Indication that was accepted: null, or the probe that it answers and the tunnel that it names.
+fn print_indication(first: FirstIndication) {
+    if first.probe == 0 {
+        return text::print(b"\"error_indication\": null,\n");
+    }
+    let address = first.peer_address;
+    text::print_count(b"\"error_indication\": {\"probe\": ", first.probe);
+    text::print_count(b", \"teid\": ", first.teid as u64);
+    text::print(b",\n  \"peer\": \"");
+    tunnel_text::print_address(measurement::version_of(first.version), &address);
+    text::print(b"\"},\n")
 }
 
 // A number of the card that came up.
@@ -180,6 +194,7 @@ pub fn print_json(
     r: PacketContinuityReport,
     verdict: Verdict,
     state: ReflectorState,
+    indication: FirstIndication,
     refusals: &[u64; 64],
     sequences: &[u64],
     send_timestamps: &[u64],
@@ -195,6 +210,7 @@ pub fn print_json(
     report_json::print_report(r);
     report_json::print_verdict(verdict);
     print_reflector(state);
+    print_indication(indication);
     print_refusals(refusals);
     print_probes(sequences, send_timestamps, latencies, marks, fates);
 }

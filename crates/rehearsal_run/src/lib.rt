@@ -5,9 +5,11 @@ use evidence::PacketContinuityBudget;
 use forecast::PlanForecast;
 use measurement::Written;
 use observer::ObserverCounts;
+use observer::Recorded;
 use observer::Recording;
 use plan::TrafficPlan;
 use probe_delivery::Progress;
+use probe_fate::FirstIndication;
 use reflector_answer::ReflectorState;
 use report::Reported;
 use scenario::Scenario;
@@ -62,6 +64,34 @@ fn key_at(order: &[u64], place: usize) -> u64 {
     if place < order.len() { order[place] } else { 0 }
 }
 
+// The return that has this key is recorded.
+fn deliver_return(
+    s: &Scenario,
+    key: u64,
+    run: Progress,
+    packets: &[u8],
+    sequences: &[u64],
+    send_timestamps: &[u64],
+    latencies: &mut [u64],
+    marks: &mut [u8],
+    fates: &mut [u8],
+    refusals: &mut [u64],
+) -> Progress {
+    probe_delivery::deliver(
+        s,
+        rehearsal_path::probe_of(return_order::number_of(key)),
+        return_order::time_of(key),
+        run,
+        packets,
+        sequences,
+        send_timestamps,
+        latencies,
+        marks,
+        fates,
+        refusals,
+    )
+}
+
 // The first returns of an order are recorded, one after the other.
 fn deliver_all(
     s: &Scenario,
@@ -81,10 +111,9 @@ fn deliver_all(
     while i < returns {
         let key = key_at(order, i);
         i += 1;
-        run = probe_delivery::deliver(
+        run = deliver_return(
             s,
-            rehearsal_path::probe_of(return_order::number_of(key)),
-            return_order::time_of(key),
+            key,
             run,
             packets,
             sequences,
@@ -117,6 +146,7 @@ fn travel(
     let start = Progress {
         counts: sent,
         state: rehearsal_reflector::fresh(),
+        indication: probe_fate::no_indication(),
     };
     deliver_all(
         s,
@@ -161,38 +191,31 @@ fn window_end(s: &Scenario, send_timestamps: &[u64]) -> u64 {
 pub struct Rehearsed {
     pub reported: Reported,
     pub state: ReflectorState,
+    pub indication: FirstIndication,
 }
 
 fn refused(number: u8) -> Rehearsed {
     let reported = Reported::Refused(number);
     let state = rehearsal_reflector::fresh();
-    Rehearsed { reported, state }
+    let indication = probe_fate::no_indication();
+    Rehearsed {
+        reported,
+        state,
+        indication,
+    }
 }
 
-// Lets the plan's probes travel, and reports.
-fn go(
+// What is left of a run, with its report.
+fn report_run(
     s: &Scenario,
-    sent: ObserverCounts,
-    packets: &[u8],
+    run: Progress,
     sequences: &[u64],
     send_timestamps: &[u64],
-    latencies: &mut [u64],
-    marks: &mut [u8],
-    fates: &mut [u8],
-    refusals: &mut [u64],
+    latencies: &[u64],
+    marks: &[u8],
 ) -> Rehearsed {
-    let run = travel(
-        s,
-        sent,
-        packets,
-        sequences,
-        send_timestamps,
-        latencies,
-        marks,
-        fates,
-        refusals,
-    );
     let state = run.state;
+    let indication = run.indication;
     let reported = report::report(
         sequences,
         send_timestamps,
@@ -203,7 +226,74 @@ fn go(
         window_end(s, send_timestamps),
         budget_of(s),
     );
-    Rehearsed { reported, state }
+    Rehearsed {
+        reported,
+        state,
+        indication,
+    }
+}
+
+// Lets the plan's probes travel, if they were entered on the run sheet, and reports.
+fn go(
+    s: &Scenario,
+    entered: Recorded,
+    packets: &[u8],
+    sequences: &[u64],
+    send_timestamps: &[u64],
+    latencies: &mut [u64],
+    marks: &mut [u8],
+    fates: &mut [u8],
+    refusals: &mut [u64],
+) -> Rehearsed {
+    let answer = entered.answer;
+    if let Recording::Refused(number) = answer {
+        return refused(number);
+    }
+    let run = travel(
+        s,
+        entered.counts,
+        packets,
+        sequences,
+        send_timestamps,
+        latencies,
+        marks,
+        fates,
+        refusals,
+    );
+    report_run(s, run, sequences, send_timestamps, latencies, marks)
+}
+
+// The plan's packets are entered as sent, and travel.
+fn send(
+    s: &Scenario,
+    packets: &[u8],
+    sequences: &mut [u64],
+    send_timestamps: &mut [u64],
+    latencies: &mut [u64],
+    marks: &mut [u8],
+    fates: &mut [u8],
+    refusals: &mut [u64],
+) -> Rehearsed {
+    let entered = sent_plan::record_sent_plan(
+        sequences,
+        send_timestamps,
+        latencies,
+        marks,
+        fresh(),
+        plan_of(s),
+        1,
+    );
+    go(
+        s,
+        entered,
+        packets,
+        sequences,
+        send_timestamps,
+        latencies,
+        marks,
+        fates,
+        refusals,
+    )
 }
 
 // Rehearses a scenario on a fresh run sheet: the plan's probes are entered as sent, and travel. `fates` gets what
@@ -221,28 +311,14 @@ pub fn rehearse(
     if let Written::Refused(number) = generate(s, &mut packets) {
         return refused(number);
     }
-    let entered = sent_plan::record_sent_plan(
+    send(
+        s,
+        &packets,
         sequences,
         send_timestamps,
         latencies,
         marks,
-        fresh(),
-        plan_of(s),
-        1,
-    );
-    let answer = entered.answer;
-    match answer {
-        Recording::Refused(number) => refused(number),
-        Recording::Accepted => go(
-            s,
-            entered.counts,
-            &packets,
-            sequences,
-            send_timestamps,
-            latencies,
-            marks,
-            fates,
-            refusals,
-        ),
-    }
+        fates,
+        refusals,
+    )
 }

@@ -23,17 +23,8 @@ key-at-requires c κs = search needs
 add-i : tie.Need-add-i Inv-loop μ-loop
 add-i c = search needs
 
-number-of-requires : tie.Need-number-of-requires Inv-loop μ-loop
-number-of-requires c κs = search needs
-
-probe-of-requires : tie.Need-probe-of-requires Inv-loop μ-loop
-probe-of-requires c κs = search needs
-
-time-of-requires : tie.Need-time-of-requires Inv-loop μ-loop
-time-of-requires c κs = search needs
-
-deliver-requires : tie.Need-deliver-requires Inv-loop μ-loop
-deliver-requires c κs = search needs
+deliver-return-requires : tie.Need-deliver-return-requires Inv-loop μ-loop
+deliver-return-requires c κs = search needs
 
 loop-less : tie.Need-loop-less Inv-loop μ-loop
 loop-less c = search needs
@@ -65,10 +56,7 @@ deliver-all-spec =
     loop-holds
     key-at-requires
     add-i
-    number-of-requires
-    probe-of-requires
-    time-of-requires
-    deliver-requires
+    deliver-return-requires
     loop-less
     loop-again
     same-length
