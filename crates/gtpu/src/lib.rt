@@ -212,32 +212,23 @@ fn walk_elements(
             if list.len() == TEID_DATA_I_SIZE {
                 return judge_end(true, has_peer_address);
             }
-            walk_elements(
-                &list[TEID_DATA_I_SIZE..],
-                true,
-                has_peer_address,
-                calls,
-                places,
-            )
+            let rest = &list[TEID_DATA_I_SIZE..];
+            walk_elements(rest, true, has_peer_address, calls, places)
         }
         JudgedElement::PeerAddress(size) => {
             note_first(has_peer_address, PEER_ADDRESS_PLACE, list.len(), places);
             if list.len() == size {
                 return judge_end(has_teid_data, true);
             }
-            walk_elements(&list[size..], has_teid_data, true, calls, places)
+            let rest = &list[size..];
+            walk_elements(rest, has_teid_data, true, calls, places)
         }
         JudgedElement::Other(size) => {
             if list.len() == size {
                 return judge_end(has_teid_data, has_peer_address);
             }
-            walk_elements(
-                &list[size..],
-                has_teid_data,
-                has_peer_address,
-                calls,
-                places,
-            )
+            let rest = &list[size..];
+            walk_elements(rest, has_teid_data, has_peer_address, calls, places)
         }
     }
 }

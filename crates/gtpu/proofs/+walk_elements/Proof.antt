@@ -126,14 +126,14 @@ module _ (t : ℕ) where
       let s = teid-step (c .before .before) in
       (ends s _ (e .0) (e .1) (c .before .if2 .taken), ((λ from. absurd (omega arith)), s .three))
 
-  sub-walk-elements : lts.Need-sub-walk-elements callees Given walk-elements.Post
-  sub-walk-elements c = fits (teid-step (c .before))
+  sub-rest : lts.Need-sub-rest callees Given walk-elements.Post
+  sub-rest c = fits (teid-step (c .before))
 
-  part-walk-elements-start : lts.Need-part-walk-elements-start callees Given walk-elements.Post
-  part-walk-elements-start c = fits (teid-step (c .before))
+  part-rest-start : lts.Need-part-rest-start callees Given walk-elements.Post
+  part-rest-start c = fits (teid-step (c .before))
 
-  part-walk-elements-end : lts.Need-part-walk-elements-end callees Given walk-elements.Post
-  part-walk-elements-end c = omega arith
+  part-rest-end : lts.Need-part-rest-end callees Given walk-elements.Post
+  part-rest-end c = omega arith
 
   walk-elements-requires : lts.Need-walk-elements-requires callees Given walk-elements.Post
   walk-elements-requires c κs =
@@ -157,14 +157,14 @@ module _ (t : ℕ) where
       let s = peer-step (c .before .before) in
       (ends s _ (e .0) (e .1) (c .before .if3 .taken), ((λ from. absurd (omega arith)), s .three))
 
-  sub-walk-elements-2 : lts.Need-sub-walk-elements-2 callees Given walk-elements.Post
-  sub-walk-elements-2 c = fits (peer-step (c .before))
+  sub-rest-2 : lts.Need-sub-rest-2 callees Given walk-elements.Post
+  sub-rest-2 c = fits (peer-step (c .before))
 
-  part-walk-elements-start-2 : lts.Need-part-walk-elements-start-2 callees Given walk-elements.Post
-  part-walk-elements-start-2 c = fits (peer-step (c .before))
+  part-rest-start-2 : lts.Need-part-rest-start-2 callees Given walk-elements.Post
+  part-rest-start-2 c = fits (peer-step (c .before))
 
-  part-walk-elements-end-2 : lts.Need-part-walk-elements-end-2 callees Given walk-elements.Post
-  part-walk-elements-end-2 c = omega arith
+  part-rest-end-2 : lts.Need-part-rest-end-2 callees Given walk-elements.Post
+  part-rest-end-2 c = omega arith
 
   walk-elements-requires-2 : lts.Need-walk-elements-requires-2 callees Given walk-elements.Post
   walk-elements-requires-2 c κs =
@@ -185,14 +185,14 @@ module _ (t : ℕ) where
       let s = other-step (c .before .before) in
       (ends s _ (e .0) (e .1) (c .before .if4 .taken), ((λ from. absurd (omega arith)), s .three))
 
-  sub-walk-elements-3 : lts.Need-sub-walk-elements-3 callees Given walk-elements.Post
-  sub-walk-elements-3 c = fits (other-step (c .before))
+  sub-rest-3 : lts.Need-sub-rest-3 callees Given walk-elements.Post
+  sub-rest-3 c = fits (other-step (c .before))
 
-  part-walk-elements-start-3 : lts.Need-part-walk-elements-start-3 callees Given walk-elements.Post
-  part-walk-elements-start-3 c = fits (other-step (c .before))
+  part-rest-start-3 : lts.Need-part-rest-start-3 callees Given walk-elements.Post
+  part-rest-start-3 c = fits (other-step (c .before))
 
-  part-walk-elements-end-3 : lts.Need-part-walk-elements-end-3 callees Given walk-elements.Post
-  part-walk-elements-end-3 c = omega arith
+  part-rest-end-3 : lts.Need-part-rest-end-3 callees Given walk-elements.Post
+  part-rest-end-3 c = omega arith
 
   walk-elements-requires-3 : lts.Need-walk-elements-requires-3 callees Given walk-elements.Post
   walk-elements-requires-3 c κs =
@@ -248,24 +248,24 @@ pub +walk-elements-spec : {M : Type 1} → statement M
     (note-first-requires t)
     (judge-end-requires t)
     (returns-2 t)
-    (sub-walk-elements t)
-    (part-walk-elements-start t)
-    (part-walk-elements-end t)
+    (sub-rest t)
+    (part-rest-start t)
+    (part-rest-end t)
     (walk-elements-requires t)
     (enum-known-size t)
     (note-first-requires-2 t)
     (judge-end-requires-2 t)
     (returns-3 t)
-    (sub-walk-elements-2 t)
-    (part-walk-elements-start-2 t)
-    (part-walk-elements-end-2 t)
+    (sub-rest-2 t)
+    (part-rest-start-2 t)
+    (part-rest-end-2 t)
     (walk-elements-requires-2 t)
     (enum-known-size-2 t)
     (judge-end-requires-3 t)
     (returns-4 t)
-    (sub-walk-elements-3 t)
-    (part-walk-elements-start-3 t)
-    (part-walk-elements-end-3 t)
+    (sub-rest-3 t)
+    (part-rest-start-3 t)
+    (part-rest-end-3 t)
     (walk-elements-requires-3 t)
     (returns-5 t)
     (returns-6 t)
