@@ -1064,7 +1064,8 @@ static void no_columns(void)
         "no columns, no list", testkit_sheet_record_received_tpdus(&none, NULL, 0, NULL, 0, NULL, 0, NULL, 0, NULL, 0),
         list_due);
     compare_testkit_datagram_recorded(
-        "no columns", testkit_sheet_record_return_gtpu_datagram(&none, 1, 26, copy(element_bytes[TEID].bytes, 5), 5),
+        "no columns, no address",
+        testkit_sheet_record_return_gtpu_datagram(&none, 1, 26, copy(element_bytes[TEID].bytes, 5), 5),
         datagram_as(TESTKIT_MISSING_PEER_ADDRESS, TESTKIT_OUTCOME_REFUSED, 0, counts_of(0, 0, 0, 0)));
     compare_testkit_datagram_recorded(
         "no columns", testkit_sheet_record_return_gtpu_datagram(&none, 1, 26, copy(elements, 12), 12),

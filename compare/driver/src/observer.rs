@@ -85,7 +85,7 @@ impl Given {
         self.tried.require(part);
         let types = self.other_types.len();
         part.case(&[], types, 255);
-        part.note(format!("other types with elements in order: {types}"));
+        part.note(format!("other types with elements that are accepted: {types}"));
     }
 }
 
@@ -504,7 +504,7 @@ fn tunnel_calls(random: &mut Random) -> Vec<Call> {
     calls.collect()
 }
 
-/// Elements, in order or not, in a message of any type: every second one is an Error Indication.
+/// Elements, accepted or not, in a message of any type: every second one is an Error Indication.
 fn any_indication_call(random: &mut Random) -> Call {
     let other_types = [2, 31, 254, G_PDU, 1, random.any_u8()];
     let message_type = match random.below(2) {

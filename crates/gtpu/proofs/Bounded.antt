@@ -42,7 +42,15 @@ module _ {S A : Type 0} (W : ℕ → S → List ℕ → A) (end : S → A) (next
       one-more (length l) s b l
       ∙ ap (whole (b ∷ l)) (enough (length l) (length rest) (next s (b ∷ l)) rest (rest-shorter b l (length l) (omega arith)) (omega arith))
 
--- a walk that is refused by the first element that has a cause, and else goes by the answer for the rest
+-- a walk that is refused by the first element that has a cause, and else goes by the answer for the rest: its laws
+pub record Laws {S A : Type 0} (over : S → List ℕ → Outcome A) (end : S → Outcome A) (next : S → List ℕ → S) : Type 0 where
+  pub ends : (s : S) (l : List ℕ) → length l ≡ 0 → end s ≡ over s l
+  -- what follows an element is read by the same rule
+  pub onward : (s : S) (l : List ℕ) → 0 < length l → over s l ≡ firstCause (elementCauses l) (over (next s l) (drop (elementSize l) l))
+  -- a refused element refuses the list; a sound one hands on to the rest
+  pub refuses : (s : S) (l : List ℕ) (n : ℕ) → 0 < length l → refused n ≡ elementOf l → refused n ≡ over s l
+  pub follows : (s : S) (l : List ℕ) (n : ℕ) → 0 < length l → gives n ≡ elementOf l → over (next s l) (drop n l) ≡ over s l
+
 module _ {S A : Type 0} (W : ℕ → S → List ℕ → Outcome A) (end : S → Outcome A) (next : S → List ℕ → S)
     (none-left : (s : S) (l : List ℕ) → W zero s l ≡ end s) (empty : (n : ℕ) (s : S) → W (suc n) s [] ≡ end s)
     (one-more : (n : ℕ) (s : S) (b : ℕ) (l : List ℕ)
@@ -53,18 +61,15 @@ module _ {S A : Type 0} (W : ℕ → S → List ℕ → Outcome A) (end : S → 
   abbrev judged : List ℕ → Outcome A → Outcome A
   judged l o = firstCause (elementCauses l) o
 
-  pub judged-ends : (s : S) (l : List ℕ) → length l ≡ 0 → end s ≡ over s l
-  judged-ends s l e = sym (ends-at W end next judged none-left empty one-more s l e)
+  on : (s : S) (l : List ℕ) → 0 < length l → over s l ≡ judged l (over (next s l) (drop (elementSize l) l))
+  on s l h = goes-on W end next judged none-left empty one-more s l h
 
-  -- what follows an element is read by the same rule
-  pub judged-onward : (s : S) (l : List ℕ) → 0 < length l → over s l ≡ judged l (over (next s l) (drop (elementSize l) l))
-  judged-onward s l h = goes-on W end next judged none-left empty one-more s l h
-
-  -- a refused element refuses the list; a sound one hands on to the rest
-  pub judged-refuses : (s : S) (l : List ℕ) (n : ℕ) → 0 < length l → refused n ≡ elementOf l → refused n ≡ over s l
-  judged-refuses s l n h e = refused-by (elementCauses l) (elementSize l) n _ e ∙ sym (judged-onward s l h)
-
-  pub judged-follows : (s : S) (l : List ℕ) (n : ℕ) → 0 < length l → gives n ≡ elementOf l → over (next s l) (drop n l) ≡ over s l
-  judged-follows s l n h e =
-      let r = sound l n e in
-      ap (λ (k : ℕ). over (next s l) (drop k l)) (r .size) ∙ passes _ (r .passes) ∙ sym (judged-onward s l h)
+  pub laws : Laws over end next
+  laws = record {
+    ends = λ s l e. sym (ends-at W end next judged none-left empty one-more s l e);
+    onward = on;
+    refuses = λ s l n h e. refused-by (elementCauses l) (elementSize l) n _ e ∙ sym (on s l h);
+    follows = λ s l n h e.
+        let r = sound l n e in
+        ap (λ (k : ℕ). over (next s l) (drop k l)) (r .size) ∙ passes _ (r .passes) ∙ sym (on s l h);
+  }

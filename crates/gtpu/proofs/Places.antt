@@ -14,7 +14,7 @@ use Rattle.gtpu.specs.Element.{elementType, isTeidDataI, isPeerAddress, 
 use Rattle.gtpu.specs.Places.{found, leftIn, teidPlace, peerPlace, noted, foundAt, Places, placesEnd, placesWalk, placesFrom}
 use Rattle.gtpu.specs.Answer.{numbered, goOn, teidDataSeen, peerAddressSeen, walkedMeans, Advanced}
 use Rattle.gtpu.proofs.Rows.{size-positive, sound, refusal-number}
-use Rattle.gtpu.proofs.Bounded.{judged-ends, judged-refuses, judged-follows}
+use Rattle.gtpu.proofs.Bounded.{Laws, laws}
 
 -- where the two are, behind the element at the front
 abbrev teidAfter : Option ℕ → List ℕ → Option ℕ
@@ -23,7 +23,6 @@ teidAfter t l = foundAt t (isTeidDataI (elementType l)) (length l)
 abbrev peerAfter : Option ℕ → List ℕ → Option ℕ
 peerAfter p l = foundAt p (isPeerAddress (elementType l)) (length l)
 
--- the laws of a walk
 abbrev Seen : Type 0
 Seen = Option ℕ × Option ℕ
 
@@ -33,21 +32,19 @@ behind s l = (teidAfter (s .0) l, peerAfter (s .1) l)
 abbrev endsBy : Seen → Outcome Places
 endsBy s = placesEnd (s .0) (s .1)
 
-abbrev walks : ℕ → Seen → List ℕ → Outcome Places
-walks n s l = placesWalk n (s .0) (s .1) l
+of-the-walk : Laws (λ (s : Seen) (l : List ℕ). placesFrom (s .0) (s .1) l) endsBy behind
+unfolding placesFrom placesWalk
+of-the-walk = laws (λ (n : ℕ) (s : Seen) (l : List ℕ). placesWalk n (s .0) (s .1) l) endsBy behind (λ s l. refl) (λ n s. refl) (λ n s b l. refl)
 
 module _ (t p : Option ℕ) (l : List ℕ) where
   pub at-end : length l ≡ 0 → placesEnd t p ≡ placesFrom t p l
-  unfolding placesFrom placesWalk
-  at-end e = judged-ends walks endsBy behind (λ s l. refl) (λ n s. refl) (λ n s b l. refl) (t, p) l e
+  at-end e = of-the-walk .ends (t, p) l e
 
   refuses-list : (n : ℕ) → 0 < length l → refused n ≡ elementOf l → refused n ≡ placesFrom t p l
-  unfolding placesFrom placesWalk
-  refuses-list n h e = judged-refuses walks endsBy behind (λ s l. refl) (λ n s. refl) (λ n s b l. refl) (t, p) l n h e
+  refuses-list n h e = of-the-walk .refuses (t, p) l n h e
 
   follows : (n : ℕ) → 0 < length l → gives n ≡ elementOf l → placesFrom (teidAfter t l) (peerAfter p l) (drop n l) ≡ placesFrom t p l
-  unfolding placesFrom placesWalk
-  follows n h e = judged-follows walks endsBy behind (λ s l. refl) (λ n s. refl) (λ n s b l. refl) (t, p) l n h e
+  follows n h e = of-the-walk .follows (t, p) l n h e
 
 -- a flag and a place beside it, after one element more: of the type, or of another
 noted-here : (seen : Bool) (place left : ℕ) (places : List ℕ) → place < length places

@@ -9,9 +9,11 @@ use mathlib.Core.Option.{Option, some, none}
 use lib.Dec.{eqb, ltb}
 use lib.ListN.{length, take, drop, length-append, take-append-drop}
 use lib.Seq.{take-at, drop-at}
-use borrow.Author.Tests.{eqb-true, eq-eqb, ne-eqb, ltb-false}
+use borrow.Author.Tests.{eqb-true, eq-eqb, ne-eqb, ltb-true, ltb-false}
 use Rattle.error.specs.Outcome.{Outcome, refused, gives, firstCause}
 use Rattle.error.specs.Number.{missingTeidDataI, missingPeerAddress}
+use Rattle.error.proofs.Among.{among, of-each, by-one-of}
+use Rattle.error.proofs.Tests.{both}
 use Rattle.error.proofs.Causes.{Passes, passes, passed, first-false, refused-gives}
 use Rattle.field.specs.Field.{Bytes, valueOf, bigEndian, bytesAt, field}
 use Rattle.field.proofs.Fields.{bytes-drop, bytes-at, length-big-endian, length-bytesAt, value-big-endian, value-below, big-endian-value, bytesAt-drop, front-bytes, whole-bytes}
@@ -21,7 +23,7 @@ use Rattle.measurement.specs.declared.IpVersion.the-variants.{V4, V6}
 use Rattle.gtpu.specs.Element.{elementType, teidDataI, gtpuPeerAddress, isTeidDataI, isPeerAddress, valueLength, otherLength, elementOf, elementSize, elementCauses, endOf, walk, elementsFrom, elementsOf}
 use Rattle.gtpu.specs.Indication.{andThen, cut, elementsIn, firstOf, teidIn, versionIn, addressIn, named, indicationOf}
 use Rattle.gtpu.specs.Places.{foundAt, Places, placesEnd, placesWalk, placesFrom, tunnelAt, TeidData}
-use Rattle.gtpu.specs.Tunnels.{yesOrNo, SameAnswer, Element, teidData, variable, written, writtenAll, Writable, AllWritable, firstTeid, firstAddress, tunnelFrom, FirstOfEach, EveryAccepted, ErrorIndicationNames, TunnelExamples}
+use Rattle.gtpu.specs.Tunnels.{yesOrNo, SameAnswer, IndicationNumbers, Element, teidData, variable, written, writtenAll, Writable, AllWritable, firstTeid, firstAddress, tunnelFrom, FirstOfEach, EveryAccepted, ErrorIndicationNames, TunnelExamples}
 use Rattle.gtpu.specs.declared.RefusedTunnel.{RefusedTunnel}
 use Rattle.gtpu.proofs.Bounded.{rest-shorter, goes-on}
 use Rattle.gtpu.proofs.Cut.{then-causes, then-then, is-teid-data, is-peer-address, indication-at}
@@ -38,13 +40,18 @@ seen (some place) here left = refl
 seen none true left = refl
 seen none false left = refl
 
-end-told : (t p : Option ℕ) → yesOrNo (placesEnd t p) ≡ endOf (isSome t) (isSome p)
+end-told : (t p : Option ℕ) → andThen (placesEnd t p) (λ x. gives tt) ≡ endOf (isSome t) (isSome p)
 unfolding endOf firstCause
 end-told none p = refl
 end-told (some t) none = refl
 end-told (some t) (some p) = refl
 
-walk-told : (bound : ℕ) (t p : Option ℕ) (l : List ℕ) → yesOrNo (placesWalk bound t p l) ≡ walk bound (isSome t) (isSome p) l
+-- without what was given, whether it was refused
+told : {A : Type 0} (o : Outcome A) → andThen o (λ x. gives tt) ≡ yesOrNo o
+told (refused n) = refl
+told (gives x) = refl
+
+walk-told : (bound : ℕ) (t p : Option ℕ) (l : List ℕ) → andThen (placesWalk bound t p l) (λ x. gives tt) ≡ walk bound (isSome t) (isSome p) l
 unfolding placesWalk walk
 walk-told zero t p l = end-told t p
 walk-told (suc bound) t p [] = end-told t p
@@ -59,8 +66,47 @@ walk-told (suc bound) t p (b ∷ l) =
 pub same-answer : SameAnswer
 unfolding SameAnswer elementsOf elementsFrom placesFrom
 same-answer payload =
-    ap yesOrNo (indication-at payload) ∙ then-then (placesFrom none none payload) (λ (places : Places). tunnelAt payload (places .teidData) (places .peerAddress)) (λ x. gives tt)
+    sym (told (indicationOf payload))
+    ∙ ap (λ (o : Outcome RefusedTunnel). andThen o (λ x. gives tt)) (indication-at payload)
+    ∙ then-then (placesFrom none none payload) (λ (places : Places). tunnelAt payload (places .teidData) (places .peerAddress)) (λ x. gives tt)
     ∙ walk-told (length payload) none none payload
+
+-- ---- and has no number but 25 to 29
+
+abbrev elementNumbers : List ℕ
+elementNumbers = 25 ∷ 26 ∷ 27 ∷ 28 ∷ 29 ∷ []
+
+then-refused : {A B : Type 0} (o : Outcome A) (f : A → B) (n : ℕ) → andThen o (λ x. gives (f x)) ≡ refused n → o ≡ refused n
+then-refused (refused m) f n e = let same : m ≡ n = cc in ap refused same
+then-refused (gives x) f n e = absurd (refused-gives (sym e))
+
+cut-by : (bound : ℕ) (l : List ℕ) (n : ℕ) → cut bound l ≡ refused n → among n elementNumbers ≡ true
+unfolding cut elementCauses
+cut-by zero l n e = absurd (refused-gives (sym e))
+cut-by (suc bound) [] n e = absurd (refused-gives (sym e))
+cut-by (suc bound) (b ∷ l) n e =
+    let list = b ∷ l in
+    by-one-of elementNumbers (elementCauses list) _ refl (λ m f. cut-by bound (drop (elementSize list) list) m (then-refused (cut bound (drop (elementSize list) list)) (λ rest. take (elementSize list) list ∷ rest) m f)) n e
+
+named-by : (t p : Option (List ℕ)) (n : ℕ) → named t p ≡ refused n → among n elementNumbers ≡ true
+named-by none p n e = let same : 28 ≡ n = cc in ap (λ (m : ℕ). among m elementNumbers) (sym same)
+named-by (some t) none n e = let same : 29 ≡ n = cc in ap (λ (m : ℕ). among m elementNumbers) (sym same)
+named-by (some t) (some p) n e = absurd (refused-gives (sym e))
+
+indication-by : (payload : List ℕ) (n : ℕ) → indicationOf payload ≡ refused n → among n elementNumbers ≡ true
+unfolding indicationOf elementsIn
+indication-by payload n e = by (cut (length payload) payload) refl e
+  where
+    by : (o : Outcome (List (List ℕ))) → cut (length payload) payload ≡ o → andThen o (λ elements. named (firstOf 16 elements) (firstOf 133 elements)) ≡ refused n
+        → among n elementNumbers ≡ true
+    by (refused m) f e = let same : m ≡ n = cc in cut-by (length payload) payload n (f ∙ ap refused same)
+    by (gives elements) f e = named-by (firstOf 16 elements) (firstOf 133 elements) n e
+
+pub indication-numbers : IndicationNumbers
+unfolding IndicationNumbers
+indication-numbers payload n e =
+    let b = both (ltb 24 n) (ltb n 30) (of-each (λ m. ltb 24 m && ltb m 30) elementNumbers refl n (indication-by payload n e)) in
+    (omega (arith, ltb-true 24 n (b .0)), omega (arith, ltb-true n 30 (b .1)))
 
 pub tunnel-examples : TunnelExamples
 unfolding TunnelExamples indicationOf elementsIn cut elementCauses elementSize firstCause padded

@@ -12,17 +12,24 @@ use Rattle.error.specs.Outcome.{Outcome, refused, gives}
 use Rattle.field.specs.Field.{Bytes, bigEndian}
 use Rattle.measurement.specs.declared.IpVersion.the-variants.{V4, V6}
 use Rattle.gtpu.specs.Element.{teidDataI, gtpuPeerAddress, elementsOf, errorIndication}
-use Rattle.gtpu.specs.Indication.{andThen, indicationOf}
+use Rattle.gtpu.specs.Indication.{indicationOf}
 use Rattle.gtpu.specs.Claims.{Example, _↝_, Hold}
 use Rattle.gtpu.specs.declared.RefusedTunnel.{RefusedTunnel}
 
 -- Whether something was refused, and by which number, without what was given.
 abbrev pub yesOrNo : {A : Type 0} → Outcome A → Outcome (Unit {0})
-yesOrNo outcome = andThen outcome (λ x. gives tt)
+yesOrNo (refused number) = refused number
+yesOrNo (gives x) = gives tt
 
--- "The causes and order of 25 to 29 do not move": every list is refused by leaf 8's number, and only there.
+-- "The causes and order of 25 to 29 do not move": a list is refused exactly where leaf 8 refuses it, and by the same
+-- number.
 unfoldable pub SameAnswer : Type 0
 SameAnswer = (payload : List ℕ) → yesOrNo (indicationOf payload) ≡ elementsOf payload
+
+-- And there are no other numbers: so none is 0, which C takes for accepted.
+unfoldable pub IndicationNumbers : Type 0
+IndicationNumbers = (payload : List ℕ) (number : ℕ) → indicationOf payload ≡ refused number
+    → (25 ≤ number) × (number ≤ 29)
 
 -- An element as it is written: "Type 16: 4 bytes. Types 128 to 255: a 2-byte length, then the value."
 pub data Element : Type 0 where

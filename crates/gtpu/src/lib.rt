@@ -13,8 +13,8 @@ ghost use Rattle.gtpu.specs.Indication.{teidIn, versionIn, addressIn, in
 ghost use Rattle.gtpu.specs.Places.{found, noted, teidPlace, peerPlace, placesFrom, tunnelAt, Placed};
 ghost use Rattle.gtpu.specs.Places.{TeidData, PeerAddress};
 ghost use Rattle.gtpu.specs.Claims.{SameRule, EndRule, EmptyList, ErrorIndicationAccepted, Examples};
-ghost use Rattle.gtpu.specs.Tunnels.{SameAnswer, FirstOfEach, EveryAccepted, ErrorIndicationNames};
-ghost use Rattle.gtpu.specs.Tunnels.{TunnelExamples};
+ghost use Rattle.gtpu.specs.Tunnels.{SameAnswer, IndicationNumbers, FirstOfEach, EveryAccepted, TunnelExamples};
+ghost use Rattle.gtpu.specs.Tunnels.{ErrorIndicationNames};
 ghost use Rattle.gtpu.specs.Answer.{elementsMean, noTunnel, elementsResult, Judged, goOn, walkedMeans, Advanced};
 
 // The message types, under the Rust's names. `message_types` proves that they are those of specs/Message.antt.
@@ -384,9 +384,10 @@ pub fn error_indication_accepted()
     ensures { λ _. ⌜ ErrorIndicationAccepted ⌝ }
 {}
 
-// Carries that telling the tunnel changes no answer: a list is refused by the number that leaf 8 has for it.
+// Carries that telling the tunnel changes no answer: a list is refused where leaf 8 refuses it, by the same number, and
+// by no other than 25 to 29.
 pub fn answer_is_the_same()
-    ensures { λ _. ⌜ SameAnswer ⌝ }
+    ensures { λ _. ⌜ SameAnswer × IndicationNumbers ⌝ }
 {}
 
 // Carries that the tunnel is that of the first element of each type, for every list that is accepted.

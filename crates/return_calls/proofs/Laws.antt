@@ -255,10 +255,6 @@ module _ (t : ℕ) (payload : List ℕ) where
   abbrev returnedAs : Outcome GtpuReturnDatagramOutcome → Returned
   returnedAs x = elim x [ refused n ↦ returned.Refused n | gives kind ↦ kindReturned payload kind ]
 
-  returned-as : (x : Outcome GtpuReturnDatagramOutcome) → x ≡ messageKind t → returnedAs x ≡ messageReturned t payload
-  unfolding messageReturned
-  returned-as x e = ap returnedAs e
-
   pub read-message-as : (x : Outcome GtpuReturnDatagramOutcome) → x ≡ messageKind t
       → withTunnel (returnedAs x) (tunnelHandedOn x payload) ≡ withTunnel (messageReturned t payload) (tunnelHandedOn (messageKind t) payload)
   unfolding messageReturned
@@ -274,7 +270,8 @@ module _ (t : ℕ) (payload : List ℕ) where
     message-as = refl
 
     pub message-is : withKind (messageKind t) (recordReturned o time (messageReturned t payload)) ≡ recordReturnMessage o time t payload
-    message-is = ap (λ (x : Returned). withKind (messageKind t) (recordReturned o time x)) (sym (returned-as (messageKind t) refl)) ∙ go (messageKind t) ∙ sym message-as
+    unfolding messageReturned
+    message-is = go (messageKind t) ∙ sym message-as
       where
         go : (x : Outcome GtpuReturnDatagramOutcome) → withKind x (recordReturned o time (returnedAs x)) ≡ recordAs x
         go (refused n) = not-noticed o n

@@ -1,6 +1,7 @@
 // The observer's two return calls (leaf 6; the Rust's traffic.rs): a T-PDU that came back, and a parsed GTP-U message.
 // specs/Returns.antt defines what each answers and leaves, and its contract is that one equation: answer, counts and
-// every column at exit, on refusals too. What came back is read first; then `record_returned` judges 21 and records it.
+// every column at exit, on refusals too. The message's call also promises which tunnel it hands on: specs/Tunnel.antt.
+// What came back is read first; then `record_returned` judges 21 and records it.
 use gtpu::ElementsChecked;
 use gtpu::GtpuMessage;
 use gtpu::RefusedTunnel;

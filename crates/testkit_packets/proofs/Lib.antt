@@ -1,2 +1,3 @@
--- The laws of the calls on packets.
+-- The laws of the calls on packets, and the claim.
 pub mod Calls
+pub mod Claims

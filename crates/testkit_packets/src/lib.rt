@@ -24,6 +24,7 @@ ghost use Rattle.forecast.specs.Answer.{forecastMeans};
 ghost use Rattle.gtpu.specs.Indication.{indicationOf};
 ghost use Rattle.testkit_packets.specs.Interface.{versionOf, flowOf, writtenNumbers, testkitTpdu, GeneratedStep};
 ghost use Rattle.testkit_packets.specs.Interface.{withoutLast, forecastNumbers, elementsNumbers, addressLeft};
+ghost use Rattle.testkit_packets.specs.Claims.{ElementsReadBack};
 
 // The version of the interface. The major version rises if a program may have to be changed, otherwise the minor if
 // something was added, otherwise the patch (include/testkit.h).
@@ -280,3 +281,8 @@ pub extern "C" fn testkit_validate_elements(
         }
     }
 }
+
+// Carries that C can tell from the answer and the lent address which tunnel was named, or the refusal.
+pub fn elements_read_back()
+    ensures { λ _. ⌜ ElementsReadBack ⌝ }
+{}
