@@ -85,7 +85,9 @@ impl Given {
         self.tried.require(part);
         let types = self.other_types.len();
         part.case(&[], types, 255);
-        part.note(format!("other types with elements that are accepted: {types}"));
+        part.note(format!(
+            "other types with elements that are accepted: {types}"
+        ));
     }
 }
 

@@ -170,7 +170,7 @@ struct TestkitReturnsRecorded {
 
 /// As `TestkitRecorded`, with what the datagram was, and the tunnel that it names.
 #[repr(C)]
-struct TestkitDatagramRecorded {
+pub struct TestkitDatagramRecorded {
     counts: Counts,
     number: u8,
     outcome: u8,
@@ -496,12 +496,13 @@ impl RunSheet {
         (recorded.returns, recorded.number)
     }
 
-    pub fn record_return_gtpu_datagram(
+    /// Takes a message as C does: the answer stays where the call writes it.
+    pub fn record_return_gtpu_datagram_as_c(
         &mut self,
         return_timestamp_ns: u64,
         message_type: u8,
         payload: &[u8],
-    ) -> Noted {
+    ) -> TestkitDatagramRecorded {
         let payload = lent(payload);
         // SAFETY: as in `record_sent`; the call reads `length` bytes from `payload`.
         let message = unsafe {
@@ -515,6 +516,17 @@ impl RunSheet {
             )
         };
         self.counts = message.counts;
+        message
+    }
+
+    pub fn record_return_gtpu_datagram(
+        &mut self,
+        return_timestamp_ns: u64,
+        message_type: u8,
+        payload: &[u8],
+    ) -> Noted {
+        let message =
+            self.record_return_gtpu_datagram_as_c(return_timestamp_ns, message_type, payload);
         Noted {
             number: message.number,
             outcome: message.outcome,

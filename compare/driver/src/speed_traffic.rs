@@ -189,8 +189,8 @@ fn duplicate() -> Timing {
 /// The rows of the sheet that takes messages.
 const MESSAGE_ROWS: usize = 16;
 
-/// The time of a message on a sheet whose rows were sent, and what both sides hold afterwards. The Rust's
-/// time has the stand-in codec's reading of the message in it.
+/// The time of a message on a sheet whose rows were sent, and what both sides hold afterwards. Our answer
+/// stays where the call writes it; the Rust's time has the stand-in codec's reading of the message in it.
 fn messages(message_type: u8, payload: &[u8]) -> (RunSheet, PacketContinuityReport, (f64, f64)) {
     let mut sheet = sheet(MESSAGE_ROWS);
     let mut observer = ContinuityObserver::default();
@@ -204,8 +204,8 @@ fn messages(message_type: u8, payload: &[u8]) -> (RunSheet, PacketContinuityRepo
     let (ours, rust) = take_turns(
         || {
             for _ in 0..REPEATS {
-                let payload = black_box(payload);
-                black_box(sheet.record_return_gtpu_datagram(time, message_type, payload));
+                let answer = sheet.record_return_gtpu_datagram_as_c(time, message_type, payload);
+                black_box(&answer);
             }
         },
         || {
