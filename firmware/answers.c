@@ -638,7 +638,13 @@ static void element_lists(void)
 /* Two sheets: one for the calls over a sheet, the other for those with single arguments. They must stay alike. */
 static struct testkit_sheet one, two;
 
-#define COLUMNS two.sequences, ROWS, two.send_timestamps, ROWS, two.latencies, ROWS, two.marks, ROWS, two.counts
+/* A sheet as single arguments, its columns with these lengths; and so the second sheet. */
+#define COLUMNS_OF(sheet, lengths)                                                                                     \
+    (sheet).sequences, (lengths)[0], (sheet).send_timestamps, (lengths)[1], (sheet).latencies, (lengths)[2],           \
+        (sheet).marks, (lengths)[3], (sheet).arrival_timestamps, (lengths)[4], (sheet).counts
+#define COLUMNS COLUMNS_OF(two, all_rows)
+
+static const size_t all_rows[5] = {ROWS, ROWS, ROWS, ROWS, ROWS};
 
 /* By position, as a program may have it: so that the order of the fields is held too. */
 static void open_sheet(struct testkit_sheet *sheet)
@@ -647,11 +653,14 @@ static void open_sheet(struct testkit_sheet *sheet)
     uint64_t *send_timestamps = (uint64_t *)lend(ROWS * sizeof(uint64_t));
     uint64_t *latencies = (uint64_t *)lend(ROWS * sizeof(uint64_t));
     uint8_t *marks = (uint8_t *)lend(ROWS);
-    struct testkit_sheet opened = {sequences, send_timestamps, latencies, marks, ROWS, {0, 0, 0, 0}};
+    uint64_t *arrival_timestamps = (uint64_t *)lend(ROWS * sizeof(uint64_t));
+    struct testkit_sheet opened = {
+        sequences, send_timestamps, latencies, marks, arrival_timestamps, ROWS, {0, 0, 0, 0}};
     expect("the sequences' place", opened.sequences == sequences, true);
     expect("the send times' place", opened.send_timestamps == send_timestamps, true);
     expect("the latencies' place", opened.latencies == latencies, true);
     expect("the marks' place", opened.marks == marks, true);
+    expect("the arrival times' place", opened.arrival_timestamps == arrival_timestamps, true);
     expect("the capacity's place", opened.capacity, ROWS);
     *sheet = opened;
 }
@@ -662,6 +671,7 @@ static void expect_alike(const char *what)
     expect_bytes(what, one.send_timestamps, two.send_timestamps, ROWS * sizeof(uint64_t));
     expect_bytes(what, one.latencies, two.latencies, ROWS * sizeof(uint64_t));
     expect_bytes(what, one.marks, two.marks, ROWS);
+    expect_bytes(what, one.arrival_timestamps, two.arrival_timestamps, ROWS * sizeof(uint64_t));
     compare_testkit_counts(what, one.counts, two.counts);
 }
 
@@ -754,12 +764,14 @@ static void message(
     check_message(what, time, type, bytes, length, datagram_as(number, outcome, ignored, counts));
 }
 
-static void row(const char *what, size_t k, uint64_t sequence, uint64_t time, uint64_t latency, uint8_t mark)
+static void row(
+    const char *what, size_t k, uint64_t sequence, uint64_t time, uint64_t latency, uint8_t mark, uint64_t arrival)
 {
     expect(what, one.sequences[k], sequence);
     expect(what, one.send_timestamps[k], time);
     expect(what, one.latencies[k], latency);
     expect(what, one.marks[k], mark);
+    expect(what, one.arrival_timestamps[k], arrival);
 }
 
 /* Rows 11, 12, 13, 14, 20, 21, 22 sent at different times, 12 sent again. */
@@ -770,16 +782,16 @@ static void sending(void)
     sent("a packet sent below it", 11, 4000, 0, counts_of(2, 101, 202, 303));
     sent_plan("a plan sent", plan_of(3, 1000000, 6000), 12, 0, counts_of(5, 101, 202, 303));
     sent("a packet sent again", 12, 6100, 0, counts_of(5, 101, 202, 303));
-    row("row 0", 0, 11, 4000, 0, 0);
-    row("row 1", 1, 12, 6100, 0, 0);
-    row("row 2", 2, 13, 7000, 0, 0);
-    row("row 3", 3, 14, 8000, 0, 0);
-    row("row 4", 4, 20, 5000, 0, 0);
+    row("row 0", 0, 11, 4000, 0, 0, 0);
+    row("row 1", 1, 12, 6100, 0, 0, 0);
+    row("row 2", 2, 13, 7000, 0, 0, 0);
+    row("row 3", 3, 14, 8000, 0, 0, 0);
+    row("row 4", 4, 20, 5000, 0, 0, 0);
     sent_plan("no rate", plan_of(3, 0, 6000), 12, TESTKIT_TARGET_RATE_IS_ZERO, counts_of(5, 101, 202, 303));
     sent_plan("too large a plan", plan_of(4, 1000, 9000), 21, TESTKIT_OBSERVER_FULL, counts_of(5, 101, 202, 303));
     sent_plan("a plan that fits", plan_of(3, 1000000000, 9000), 20, 0, counts_of(7, 101, 202, 303));
-    row("row 4", 4, 20, 9000, 0, 0);
-    row("row 6", 6, 22, 9002, 0, 0);
+    row("row 4", 4, 20, 9000, 0, 0, 0);
+    row("row 6", 6, 22, 9002, 0, 0, 0);
     sent("the last row", 23, 9003, 0, counts_of(8, 101, 202, 303));
     sent("a full sheet", 24, 9004, TESTKIT_OBSERVER_FULL, counts_of(8, 101, 202, 303));
     sent("a full sheet, known", 23, 9005, 0, counts_of(8, 101, 202, 303));
@@ -789,26 +801,27 @@ static void returning(void)
 {
     size_t length = make(6, 13);
     received("a return", 7070, length, 0, counts_of(8, 101, 202, 303));
-    row("row 2", 2, 13, 7000, 70, 1);
+    row("row 2", 2, 13, 7000, 70, 1, 7070);
     received("a return again", 7080, length, 0, counts_of(8, 102, 202, 303));
-    row("row 2", 2, 13, 7000, 70, 1);
+    row("row 2", 2, 13, 7000, 70, 1, 7070);
     length = make(4, 11);
     received("a return of a lower sequence", 4010, length, 0, counts_of(8, 102, 203, 303));
-    row("row 0", 0, 11, 4000, 10, 1);
+    row("row 0", 0, 11, 4000, 10, 1, 4010);
     received("no T-PDU", 4010, 0, TESTKIT_TRUNCATED_IP_HEADER, counts_of(8, 102, 203, 303));
     received("a T-PDU that is cut", 4010, 27, TESTKIT_TRUNCATED_IPV4_UDP_PACKET, counts_of(8, 102, 203, 303));
     set_flags(0x2000);
     received("a fragment", 4010, length, TESTKIT_IPV4_FRAGMENT, counts_of(8, 102, 203, 303));
-    row("row 0", 0, 11, 4000, 10, 1);
+    row("row 0", 0, 11, 4000, 10, 1, 4010);
     length = make(4, 19);
     received("another's", 9999, length, TESTKIT_SEQUENCE_WAS_NOT_SENT, counts_of(8, 102, 203, 303));
     length = make(4, 14);
     received("too early", 7999, length, TESTKIT_TIMESTAMP_REVERSED, counts_of(8, 102, 203, 303));
+    row("row 3", 3, 14, 8000, 0, 0, 0);
 
     message(
         "a message with a T-PDU", 8200, 255, packet, length, 0, TESTKIT_OUTCOME_MEASUREMENT_TPDU, 0,
         counts_of(8, 102, 203, 303));
-    row("row 3", 3, 14, 8000, 200, 1);
+    row("row 3", 3, 14, 8000, 200, 1, 8200);
     check_message(
         "an Error Indication", 1, 26, elements, 12, indication_as(named_by_elements(), counts_of(8, 102, 203, 304)));
     message("an Echo Response", 1, 2, elements, 12, 0, TESTKIT_OUTCOME_ECHO_RESPONSE, 0, counts_of(8, 102, 203, 304));
@@ -903,7 +916,7 @@ static void returning_in_lists(void)
     compare_testkit_returns_recorded("a list", single, due);
     two.counts = single.counts;
     expect_alike("a list");
-    row("row 6", 6, 22, 9002, 298, 1);
+    row("row 6", 6, 22, 9002, 298, 1, 9300);
 
     /* the same once more, in columns of which another one is the shortest each time */
     for (size_t shortest = 0; shortest < 4; shortest++) {
@@ -1026,6 +1039,258 @@ static void reporting(void)
     message(
         "a malformed sheet", 1, 77, elements, 12, TESTKIT_MALFORMED_OBSERVER, TESTKIT_OUTCOME_REFUSED, 0,
         counts_of(99, 101, 202, 303));
+}
+
+/* A return in a list, and the number that is due for it. */
+struct listed {
+    uint64_t sequence, time;
+    uint8_t number;
+};
+
+/* Returns in a list, as IPv4 packets. Where the whole list is refused, no number and no sequence is written. */
+static void received_list(
+    const char *what, const struct listed *returns, size_t count, uint8_t number, struct testkit_counts counts)
+{
+    size_t bytes = count * TESTKIT_IPV4_TPDU_BYTES;
+    uint64_t *times = (uint64_t *)lend(count * sizeof *times);
+    size_t *lengths = (size_t *)lend(count * sizeof *lengths);
+    uint8_t *tpdus = (uint8_t *)lend(bytes);
+    uint64_t *returned = (uint64_t *)lend(count * sizeof *returned);
+    uint8_t *answered = (uint8_t *)lend(count), *answered_single = (uint8_t *)lend(count);
+    struct testkit_returns_recorded due, single;
+    for (size_t k = 0; k < count; k++) {
+        times[k] = returns[k].time;
+        lengths[k] = make(4, returns[k].sequence);
+        memcpy(tpdus + k * TESTKIT_IPV4_TPDU_BYTES, packet, TESTKIT_IPV4_TPDU_BYTES);
+    }
+    due.number = number;
+    due.returns = number == 0 ? count : 0;
+    due.counts = counts;
+    compare_testkit_returns_recorded(
+        what,
+        testkit_sheet_record_received_tpdus(
+            &one, times, count, lengths, count, tpdus, bytes, returned, count, answered, count),
+        due);
+    single = testkit_record_received_tpdus(
+        COLUMNS, times, count, lengths, count, tpdus, bytes, returned, count, answered_single, count);
+    compare_testkit_returns_recorded(what, single, due);
+    for (size_t k = 0; k < count; k++) {
+        expect(what, answered[k], number == 0 ? returns[k].number : 0xA5);
+        expect(what, answered_single[k], answered[k]);
+        expect(what, returned[k], number == 0 ? returns[k].sequence : 0xA5A5A5A5A5A5A5A5);
+    }
+    two.counts = single.counts;
+    expect_alike(what);
+}
+
+/* A new row has arrival time 0 and moves the rows above it; a first return enters its time; nothing else changes an
+ * arrival time, and those past the used rows are not looked at. In the end the rows 5, 30, 31, 32 and 33 have returned,
+ * and 34 has not. */
+static void arrival_times(void)
+{
+    static const struct listed list_due[] = {
+        {30, 999, TESTKIT_TIMESTAMP_REVERSED},
+        {30, 2700, 0},
+        {30, 2701, 0},
+        {34, 2102, TESTKIT_TIMESTAMP_REVERSED},
+        {32, 2650, 0},
+    };
+    const uint64_t rest = 0xA5A5A5A5A5A5A5A5;
+    size_t length = make(4, 33);
+    open_sheet(&one);
+    open_sheet(&two);
+    sent("a row", 30, 1000, 0, counts_of(1, 0, 0, 0));
+    sent("a row above it", 33, 2000, 0, counts_of(2, 0, 0, 0));
+    row("a new row", 0, 30, 1000, 0, 0, 0);
+    row("a new row", 1, 33, 2000, 0, 0, 0);
+    received("a first return", 2500, length, 0, counts_of(2, 0, 0, 0));
+    row("a row that returned", 1, 33, 2000, 500, 1, 2500);
+    sent("a row below it", 31, 1500, 0, counts_of(3, 0, 0, 0));
+    row("a row that stays", 0, 30, 1000, 0, 0, 0);
+    row("a new row", 1, 31, 1500, 0, 0, 0);
+    row("a row that moved", 2, 33, 2000, 500, 1, 2500);
+    expect("the arrival time past the used rows", one.arrival_timestamps[3], rest);
+    received("a duplicate", 2600, length, 0, counts_of(3, 1, 0, 0));
+    row("a row that returned twice", 2, 33, 2000, 500, 1, 2500);
+    sent("a row that returned, sent again", 33, 2200, 0, counts_of(3, 1, 0, 0));
+    row("a row that returned, sent again", 2, 33, 2200, 500, 1, 2500);
+    expect(
+        "that send time and latency no longer add up to the arrival time",
+        one.send_timestamps[2] + one.latencies[2] != one.arrival_timestamps[2], true);
+    received("a duplicate before the new send time", 2199, length, TESTKIT_TIMESTAMP_REVERSED, counts_of(3, 1, 0, 0));
+    received("a duplicate after it", 2800, length, 0, counts_of(3, 2, 0, 0));
+    row("a row that returned, sent again", 2, 33, 2200, 500, 1, 2500);
+    length = make(6, 30);
+    received("a return before its send time", 999, length, TESTKIT_TIMESTAMP_REVERSED, counts_of(3, 2, 0, 0));
+    row("a row whose return was refused", 0, 30, 1000, 0, 0, 0);
+
+    sent_plan("a plan of old and new rows", plan_of(4, 1000000000, 2100), 31, 0, counts_of(5, 2, 0, 0));
+    row("a row sent again by a plan", 1, 31, 2100, 0, 0, 0);
+    row("a new row of a plan", 2, 32, 2101, 0, 0, 0);
+    row("a row that returned, sent again by a plan", 3, 33, 2102, 500, 1, 2500);
+    row("a new row of a plan", 4, 34, 2103, 0, 0, 0);
+    expect("the arrival time past the used rows", one.arrival_timestamps[5], rest);
+
+    received_list("a list", list_due, 5, 0, counts_of(5, 3, 2, 0));
+    row("a row that returned in a list, first too early, then twice", 0, 30, 1000, 1700, 1, 2700);
+    row("a row that returned in a list", 2, 32, 2101, 549, 1, 2650);
+    row("a row whose return was refused in a list", 4, 34, 2103, 0, 0, 0);
+    length = make(4, 31);
+    message("a message", 2900, 255, packet, length, 0, TESTKIT_OUTCOME_MEASUREMENT_TPDU, 0, counts_of(5, 3, 3, 0));
+    row("a row that returned in a message", 1, 31, 2100, 800, 1, 2900);
+
+    length = make(4, 5);
+    sent("a row at time 0", 5, 0, 0, counts_of(6, 3, 3, 0));
+    received("a return at time 0", 0, length, 0, counts_of(6, 3, 4, 0));
+    row("a row that returned at time 0", 0, 5, 0, 0, 1, 0);
+    row("the last row", 5, 34, 2103, 0, 0, 0);
+    expect("the arrival time past the used rows", one.arrival_timestamps[6], rest);
+}
+
+/* What the columns of a sheet hold. */
+struct contents {
+    uint64_t sequences[ROWS], send_timestamps[ROWS], latencies[ROWS], arrival_timestamps[ROWS];
+    uint8_t marks[ROWS];
+};
+
+static struct contents contents_of(const struct testkit_sheet *sheet)
+{
+    struct contents made;
+    memset(&made, 0, sizeof made);
+    memcpy(made.sequences, sheet->sequences, sizeof made.sequences);
+    memcpy(made.send_timestamps, sheet->send_timestamps, sizeof made.send_timestamps);
+    memcpy(made.latencies, sheet->latencies, sizeof made.latencies);
+    memcpy(made.marks, sheet->marks, sizeof made.marks);
+    memcpy(made.arrival_timestamps, sheet->arrival_timestamps, sizeof made.arrival_timestamps);
+    return made;
+}
+
+/* Every call accepts the sheets as they are. The first row, which has returned, is sent again at its time and returns
+ * again, so that nothing changes but a counter. */
+static void each_accepts(const char *what)
+{
+    struct contents before = contents_of(&one), after;
+    struct testkit_counts counts = one.counts;
+    struct listed again = {one.sequences[0], 9999, 0};
+    uint64_t time = one.send_timestamps[0];
+    size_t length;
+    sent(what, again.sequence, time, 0, counts);
+    sent_plan(what, plan_of(1, 1000, time), again.sequence, 0, counts);
+    counts.duplicate_packets++;
+    received_list(what, &again, 1, 0, counts);
+    length = make(4, again.sequence);
+    counts.duplicate_packets++;
+    received(what, 9999, length, 0, counts);
+    counts.duplicate_packets++;
+    message(what, 9999, 255, packet, length, 0, TESTKIT_OUTCOME_MEASUREMENT_TPDU, 0, counts);
+    expect(what, testkit_sheet_report(&one, 55, 123456, budget_of(1, 2, 3)).number, TESTKIT_ACCEPTED);
+    expect(what, testkit_report(COLUMNS, 55, 123456, budget_of(1, 2, 3)).number, TESTKIT_ACCEPTED);
+    after = contents_of(&one);
+    expect_bytes(what, &after, &before, sizeof before);
+}
+
+/* Every call refuses the sheets as they are, and changes nothing. On a sheet in order that has a free row each would,
+ * the report apart: its packets are new, or return for the first time. */
+static void each_refuses(const char *what)
+{
+    struct contents before = contents_of(&one), after;
+    struct testkit_counts counts = one.counts;
+    struct listed first = {34, 9999, 0};
+    struct testkit_continuity_report due;
+    size_t length;
+    sent(what, 40, 9000, TESTKIT_MALFORMED_OBSERVER, counts);
+    sent_plan(what, plan_of(1, 1000, 9000), 40, TESTKIT_MALFORMED_OBSERVER, counts);
+    received_list(what, &first, 1, TESTKIT_MALFORMED_OBSERVER, counts);
+    length = make(4, first.sequence);
+    received(what, 9999, length, TESTKIT_MALFORMED_OBSERVER, counts);
+    message(what, 9999, 255, packet, length, TESTKIT_MALFORMED_OBSERVER, TESTKIT_OUTCOME_REFUSED, 0, counts);
+    message(what, 9999, 26, elements, 12, TESTKIT_MALFORMED_OBSERVER, TESTKIT_OUTCOME_REFUSED, 0, counts);
+    memset(&due, 0, sizeof due);
+    due.number = TESTKIT_MALFORMED_OBSERVER;
+    compare_testkit_continuity_report(what, testkit_sheet_report(&one, 55, 123456, budget_of(1, 2, 3)), due);
+    compare_testkit_continuity_report(what, testkit_report(COLUMNS, 55, 123456, budget_of(1, 2, 3)), due);
+    after = contents_of(&one);
+    expect_bytes(what, &after, &before, sizeof before);
+}
+
+/* An arrival time without a mark, in one used row and of one bit, is refused. The same with a mark or past the used
+ * rows is not, nor a mark with arrival time 0, which the first row has, nor a latency without a mark. At first six
+ * rows are used, then all. */
+static void arrivals_without_marks(void)
+{
+    each_accepts("a mark and arrival time 0");
+    one.marks[6] = two.marks[6] = 0;
+    each_accepts("an arrival time without a mark past the used rows");
+    one.latencies[5] = two.latencies[5] = 77;
+    each_accepts("a latency without a mark");
+    for (int turn = 0; turn < 2; turn++) {
+        for (size_t k = 0; k < one.counts.used; k++) {
+            uint8_t mark = one.marks[k];
+            uint64_t arrival = one.arrival_timestamps[k];
+            one.arrival_timestamps[k] = two.arrival_timestamps[k] = UINT64_C(1) << (9 * k);
+            one.marks[k] = two.marks[k] = 0;
+            each_refuses("an arrival time without a mark");
+            one.marks[k] = two.marks[k] = 1;
+            each_accepts("an arrival time with a mark");
+            one.arrival_timestamps[k] = two.arrival_timestamps[k] = arrival;
+            one.marks[k] = two.marks[k] = mark;
+        }
+        if (turn == 0) {
+            struct testkit_counts full = one.counts;
+            full.used = ROWS;
+            sent_plan("the last rows", plan_of(ROWS - one.counts.used, 1000000000, 3000), 35, 0, full);
+        }
+    }
+}
+
+/* Six used rows, and in turn each column shorter than the others: as long as the used rows, so that none is free, or
+ * shorter than they are. Each is lent as long as it is, so that an element past its end is seen. */
+static void short_columns(void)
+{
+    enum { USED = 6 };
+    static const uint64_t at = 9999;
+    uint64_t *when = (uint64_t *)lend_filled(&at, sizeof at);
+    size_t length = make(4, 34);
+    size_t *long_as = (size_t *)lend_filled(&length, sizeof length);
+    uint64_t *returned = (uint64_t *)lend(sizeof *returned);
+    uint8_t *answered = (uint8_t *)lend(1);
+    for (size_t k = 0; k < 10; k++) {
+        size_t lengths[5] = {ROWS, ROWS, ROWS, ROWS, ROWS};
+        bool whole = k % 2 == 0;
+        uint8_t in_order = whole ? TESTKIT_ACCEPTED : TESTKIT_MALFORMED_OBSERVER;
+        uint8_t full = whole ? TESTKIT_OBSERVER_FULL : TESTKIT_MALFORMED_OBSERVER;
+        struct testkit_sheet lent;
+        lengths[k / 2] = whole ? USED : USED - 1;
+        lent.sequences = (uint64_t *)lend_filled(one.sequences, lengths[0] * sizeof(uint64_t));
+        lent.send_timestamps = (uint64_t *)lend_filled(one.send_timestamps, lengths[1] * sizeof(uint64_t));
+        lent.latencies = (uint64_t *)lend_filled(one.latencies, lengths[2] * sizeof(uint64_t));
+        lent.marks = (uint8_t *)lend_filled(one.marks, lengths[3]);
+        lent.arrival_timestamps = (uint64_t *)lend_filled(one.arrival_timestamps, lengths[4] * sizeof(uint64_t));
+        lent.counts = counts_of(USED, 0, 0, 0);
+        expect("a new row", testkit_record_sent(COLUMNS_OF(lent, lengths), 99, 9).number, full);
+        expect("a plan", testkit_record_sent_plan(COLUMNS_OF(lent, lengths), plan_of(1, 1000, 9), 99).number, full);
+        expect("a row sent again", testkit_record_sent(COLUMNS_OF(lent, lengths), 34, 2103).number, in_order);
+        expect("a report", testkit_report(COLUMNS_OF(lent, lengths), 1, 2, budget_of(1, 2, 3)).number, in_order);
+        expect(
+            "a first return",
+            testkit_record_received_tpdu(COLUMNS_OF(lent, lengths), at, copy(packet, length), length).number,
+            in_order);
+        expect(
+            "a return in a message",
+            testkit_record_return_gtpu_datagram(COLUMNS_OF(lent, lengths), at, 255, copy(packet, length), length)
+                .number,
+            in_order);
+        expect(
+            "a return in a list",
+            testkit_record_received_tpdus(
+                COLUMNS_OF(lent, lengths), when, 1, long_as, 1, copy(packet, length), length, returned, 1, answered, 1)
+                .number,
+            in_order);
+        if (whole) {
+            expect("the last row's mark", lent.marks[USED - 1], 1);
+            expect("the last row's arrival time", lent.arrival_timestamps[USED - 1], at);
+        }
+    }
 }
 
 /* Columns of length 0, by null. */
@@ -1461,6 +1726,9 @@ int main(int argc, char **argv)
     tunnels();
     returning_in_lists();
     reporting();
+    arrival_times();
+    arrivals_without_marks();
+    short_columns();
     no_columns();
     open_table(&table);
     open_table(&twin);

@@ -153,11 +153,23 @@ static struct testkit_budget budget(uint64_t lost, uint64_t consecutive, uint64_
     return made;
 }
 
+/* Of every row when it first came back, or 0. Send time and latency add up to it, since the probe enters no new send
+ * time once a packet has returned. */
+static void expect_arrivals(const struct testkit_sheet *sheet)
+{
+    for (size_t k = 0; k < sheet->counts.used; k++) {
+        expect(
+            "an arrival time", sheet->arrival_timestamps[k],
+            sheet->marks[k] == 1 ? sheet->send_timestamps[k] + sheet->latencies[k] : 0);
+    }
+}
+
 /* The report, judged: its verdict must have this reason. */
 static struct testkit_continuity_report verdict(struct testkit_budget allowed, uint8_t reason)
 {
     struct testkit_continuity_report report = probe_report(&probe, allowed);
     expect("the verdict", probe_judge(report, allowed), reason);
+    expect_arrivals(&probe.sheet);
     expect(
         "the report's own", report.forwarding_proven && report.packet_continuity_proven,
         reason == TESTKIT_VERDICT_PASS);

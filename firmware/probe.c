@@ -23,6 +23,7 @@ void probe_open(struct probe *probe, struct testkit_socket_addr self, struct tes
     probe->sheet.send_timestamps = (uint64_t *)lend(ROWS * sizeof *probe->sheet.send_timestamps);
     probe->sheet.latencies = (uint64_t *)lend(ROWS * sizeof *probe->sheet.latencies);
     probe->sheet.marks = (uint8_t *)lend(ROWS * sizeof *probe->sheet.marks);
+    probe->sheet.arrival_timestamps = (uint64_t *)lend(ROWS * sizeof *probe->sheet.arrival_timestamps);
     probe->sheet.capacity = ROWS;
     probe->next_sequence = (uint64_t *)lend(sizeof *probe->next_sequence);
     *probe->next_sequence = 1;

@@ -17,11 +17,11 @@
  * lists of two returns, the first whole and the second whole, cut or empty. Plans: of 0, 1 and 2048 packets, and each
  * refusal. Element lists: up to 4096 elements before an address of each version, each cut. Run sheets: empty, of 1 row
  * and of 2048 rows, none, one, all or every other returned; a new row at the front, in the middle and at the end;
- * returns before and after their send time; counts of 0 and at their top; and malformed. Reports under budgets that
- * each alone is and is not kept, and refused ones. Session tables: empty, of 1 and of 4096 sessions, full and not, and
- * refused; the first, the last and no session asked for; sessions that differ from a registered one in one field;
- * packets as above under each policy, and messages of every type with and without TEID and sequence; counts of 0 and at
- * their top, and the last error sequence.
+ * returns before and after their send time; counts of 0 and at their top; and malformed, by the used count, by a mark
+ * and by an arrival time. Reports under budgets that each alone is and is not kept, and refused ones. Session tables:
+ * empty, of 1 and of 4096 sessions, full and not, and refused; the first, the last and no session asked for; sessions
+ * that differ from a registered one in one field; packets as above under each policy, and messages of every type with
+ * and without TEID and sequence; counts of 0 and at their top, and the last error sequence.
  *
  * For x86-64 and GNU C. Linked with -z now, so that finding memcpy is not counted.
  */
@@ -65,7 +65,7 @@ static uint8_t in[LIST], out[OUT];
 static size_t in_length, out_length;
 static struct testkit_plan plan;
 static uint64_t plan_sequence;
-static uint64_t sequences[ROWS], times[ROWS], latencies[ROWS];
+static uint64_t sequences[ROWS], times[ROWS], latencies[ROWS], arrivals[ROWS];
 static uint8_t marks[ROWS];
 static struct testkit_counts counts;
 static uint64_t sequence;
@@ -89,7 +89,7 @@ static void note(uint8_t number, unsigned said)
     kind = said;
 }
 
-#define SHEET sequences, ROWS, times, ROWS, latencies, ROWS, marks, ROWS, counts
+#define SHEET sequences, ROWS, times, ROWS, latencies, ROWS, marks, ROWS, arrivals, ROWS, counts
 
 static void call_version(void) { kept = ENTER(testkit_version)(); }
 static void call_sum(void) { kept = ENTER(testkit_sum)(1, in, in_length); }
@@ -241,13 +241,14 @@ static size_t depth(void (*call)(void), uint8_t pattern)
 static void measure(void (*call)(void))
 {
     static uint8_t marks_before[ROWS];
-    static uint64_t sequences_before[ROWS], times_before[ROWS];
+    static uint64_t sequences_before[ROWS], times_before[ROWS], arrivals_before[ROWS];
     static struct testkit_reflector_session sessions_before[SESSIONS];
     size_t table = call == call_register || call == call_remove ? sizeof sessions : 0;
     struct row *row = rows;
     memcpy(marks_before, marks, sizeof marks);
     memcpy(sequences_before, sequences, sizeof sequences);
     memcpy(times_before, times, sizeof times);
+    memcpy(arrivals_before, arrivals, sizeof arrivals);
     memcpy(sessions_before, sessions, table);
     while (row->call != call) {
         row++;
@@ -265,6 +266,7 @@ static void measure(void (*call)(void))
         memcpy(marks, marks_before, sizeof marks);
         memcpy(sequences, sequences_before, sizeof sequences);
         memcpy(times, times_before, sizeof times);
+        memcpy(arrivals, arrivals_before, sizeof arrivals);
         memcpy(sessions, sessions_before, table);
     }
 }
@@ -488,6 +490,7 @@ static void set_sheet(size_t used, size_t step)
         times[k] = k < 1000 ? 5 : 10;
         latencies[k] = UINT64_MAX;
         marks[k] = step != 0 && k % step == 0;
+        arrivals[k] = marks[k] ? UINT64_MAX : 0;
     }
     counts = (struct testkit_counts){.used = used};
 }
@@ -527,6 +530,17 @@ static void measure_indication(void)
     measure(call_message);
 }
 
+/* Every call on a sheet that is malformed, if the row in question is used. */
+static void measure_malformed(size_t used)
+{
+    measure_report();
+    measure(call_sent);
+    measure(call_received);
+    measure(call_message);
+    measure_plans(used);
+    measure_returns();
+}
+
 static void measure_sheet(size_t used, size_t step)
 {
     static const uint64_t new_sequences[] = {0, 1, 2, 2049, 2050, 4095, 4096, 9999, UINT64_MAX - 1};
@@ -556,11 +570,13 @@ static void measure_sheet(size_t used, size_t step)
     }
     measure_indication();
     marks[0] = 2;
-    measure_report();
-    measure(call_sent);
-    measure(call_received);
-    measure_plans(used);
-    measure_returns();
+    measure_malformed(used);
+    for (size_t k = 0; k < ROWS; k += ROWS - 1) {
+        set_sheet(used, step);
+        marks[k] = 0;
+        arrivals[k] = 1;
+        measure_malformed(used);
+    }
 }
 
 int main(void)

@@ -12,10 +12,10 @@
  *
  * What is proved, what is checked, what is only said. Each call is proved to meet its contract, which stands beside its
  * code in crates/testkit_packets, testkit_sheet and testkit_reflector. The contract is what document 01 (docs/SCOPE.md)
- * and the RFCs say; document 02 has testkit_forecast, and the tunnel that testkit_validate_elements and
- * testkit_record_return_gtpu_datagram give; testkit_version, testkit_record_sent_plan, testkit_record_received_tpdus
- * and testkit_judge_report are in neither, and have contracts of our own. This header is not proved. firmware/run,
- * which is part of the gate, checks the following:
+ * and the RFCs say; document 02 has testkit_forecast, the tunnel that testkit_validate_elements and
+ * testkit_record_return_gtpu_datagram give, and the arrival times of a run sheet; testkit_version,
+ * testkit_record_sent_plan, testkit_record_received_tpdus and testkit_judge_report are in neither, and have contracts
+ * of our own. This header is not proved. firmware/run, which is part of the gate, checks the following:
  *   - each call and each struct that the archive has, with types and names in their order, against the proved source.
  *     struct testkit_sheet, struct testkit_table and the calls over them are the header's own: each of those calls is
  *     declared as it is defined, and is tried beside the archive's call (firmware/answers.c);
@@ -110,7 +110,7 @@
  * three parts alike. From one version to the next, MAJOR rises where a program may have to be changed; otherwise MINOR,
  * where something was added (a call, a number, a field) and a program need only be compiled again; otherwise PATCH.
  */
-#define TESTKIT_VERSION_MAJOR 4
+#define TESTKIT_VERSION_MAJOR 5
 #define TESTKIT_VERSION_MINOR 0
 #define TESTKIT_VERSION_PATCH 0
 #define TESTKIT_VERSION (TESTKIT_VERSION_MAJOR * 65536 + TESTKIT_VERSION_MINOR * 256 + TESTKIT_VERSION_PATCH)
@@ -210,7 +210,8 @@ static inline const char *testkit_number_text(uint8_t number)
     case TESTKIT_SEQUENCE_OVERFLOW: return "sequence would pass its top at packet k";
     case TESTKIT_SEND_TIMESTAMP_OVERFLOW: return "time would pass its top at packet k";
     case TESTKIT_MALFORMED_OBSERVER:
-        return "used count above capacity, used rows not rising, a used row's mark not 0 or 1";
+        return "used count above capacity, used rows not rising, a used row's mark not 0 or 1, "
+               "a nonzero return time on an unmarked used row";
     case TESTKIT_OBSERVER_FULL: return "new sequence, used count equals capacity";
     case TESTKIT_SEQUENCE_WAS_NOT_SENT: return "returned sequence not on the sheet";
     case TESTKIT_TIMESTAMP_REVERSED: return "returned before sent";
@@ -255,12 +256,12 @@ enum testkit_stack {
     TESTKIT_STACK_GENERATE = 344,
     TESTKIT_STACK_FORECAST = 16,
     TESTKIT_STACK_VALIDATE_ELEMENTS = 1200,
-    TESTKIT_STACK_RECORD_SENT = 240,
-    TESTKIT_STACK_RECORD_SENT_PLAN = 288,
-    TESTKIT_STACK_RECORD_RECEIVED_TPDU = 280,
-    TESTKIT_STACK_RECORD_RECEIVED_TPDUS = 248,
+    TESTKIT_STACK_RECORD_SENT = 320,
+    TESTKIT_STACK_RECORD_SENT_PLAN = 336,
+    TESTKIT_STACK_RECORD_RECEIVED_TPDU = 424,
+    TESTKIT_STACK_RECORD_RECEIVED_TPDUS = 296,
     TESTKIT_STACK_RECORD_RETURN_GTPU_DATAGRAM = 1328,
-    TESTKIT_STACK_REPORT = 140,
+    TESTKIT_STACK_REPORT = 216,
     TESTKIT_STACK_JUDGE_REPORT = 48,
     TESTKIT_STACK_REGISTER_SESSION = 184,
     TESTKIT_STACK_REMOVE_SESSION = 128,
@@ -437,7 +438,7 @@ struct testkit_counts {
 };
 
 /*
- * A run sheet: four columns of `capacity` elements each, which the caller lends to every call, and counts, which the
+ * A run sheet: five columns of `capacity` elements each, which the caller lends to every call, and counts, which the
  * calls below store. A row is a sent packet. Rows past TESTKIT_MAXIMUM_ROWS are never used. Fresh: all counts 0; what
  * the columns hold does not matter.
  */
@@ -446,6 +447,7 @@ struct testkit_sheet {
     uint64_t *send_timestamps;
     uint64_t *latencies;
     uint8_t *marks; /* 1 returned, 0 not */
+    uint64_t *arrival_timestamps; /* when the first accepted return came; 0 while the mark is 0 */
     size_t capacity;
     struct testkit_counts counts;
 };
@@ -572,16 +574,20 @@ static inline struct testkit_continuity_report testkit_sheet_report(
 struct testkit_verdict testkit_judge_report(struct testkit_continuity_report report, struct testkit_budget budget);
 
 /*
- * The calls with single arguments: the four columns, each with its length, and the counts, which go in by value. The
+ * The calls with single arguments: the five columns, each with its length, and the counts, which go in by value. The
  * caller stores the answer's counts, on refusals too. The columns may differ in length: there are as many rows as the
  * shortest has elements, and at most TESTKIT_MAXIMUM_ROWS.
  *
  * Every call refuses first by TESTKIT_MALFORMED_OBSERVER (21): the used count is above the number of rows, the
- * sequences of the used rows do not rise, or one of their marks is not 0 or 1. No call leaves a sheet in that state.
+ * sequences of the used rows do not rise, one of their marks is not 0 or 1, or one of them has mark 0 and an arrival
+ * time other than 0. No call leaves a sheet in that state. Nothing else in the columns is a cause: beside mark 1 any
+ * arrival time will do, 0 too, and in every row any send time and any latency.
  */
 
 /*
- * Enters a sent packet. A sequence that is on the sheet gets the new send time and keeps all else.
+ * Enters a sent packet. A new sequence gets a row whose latency, mark and arrival time are 0; the used rows above it
+ * move by one, and elements past them stay. A sequence that is on the sheet gets the new send time and keeps all else:
+ * where it had returned, send time and latency then need no longer add up to the arrival time.
  * Refuses by TESTKIT_MALFORMED_OBSERVER (21); then by TESTKIT_OBSERVER_FULL (22), which is due only where the sequence
  * is new and no row is free.
  */
@@ -590,6 +596,7 @@ struct testkit_recorded testkit_record_sent(
     uint64_t *send_timestamps, size_t send_timestamps_length,
     uint64_t *latencies, size_t latencies_length,
     uint8_t *marks, size_t marks_length,
+    uint64_t *arrival_timestamps, size_t arrival_timestamps_length,
     struct testkit_counts counts,
     uint64_t sequence,
     uint64_t send_timestamp_ns);
@@ -608,12 +615,14 @@ struct testkit_recorded testkit_record_sent_plan(
     uint64_t *send_timestamps, size_t send_timestamps_length,
     uint64_t *latencies, size_t latencies_length,
     uint8_t *marks, size_t marks_length,
+    uint64_t *arrival_timestamps, size_t arrival_timestamps_length,
     struct testkit_counts counts,
     struct testkit_plan plan,
     uint64_t next_sequence);
 
 /*
- * Enters a packet that came back as a T-PDU at `return_timestamp_ns`. A second return of a sequence is only counted.
+ * Enters a packet that came back as a T-PDU at `return_timestamp_ns`. The first return of a sequence gives its row mark
+ * 1, the latency, and `return_timestamp_ns` as arrival time; a second one is only counted.
  * Refuses by TESTKIT_MALFORMED_OBSERVER (21); then as testkit_decode; then by TESTKIT_SEQUENCE_WAS_NOT_SENT (23),
  * TESTKIT_TIMESTAMP_REVERSED (24).
  */
@@ -622,6 +631,7 @@ struct testkit_recorded testkit_record_received_tpdu(
     const uint64_t *send_timestamps, size_t send_timestamps_length,
     uint64_t *latencies, size_t latencies_length,
     uint8_t *marks, size_t marks_length,
+    uint64_t *arrival_timestamps, size_t arrival_timestamps_length,
     struct testkit_counts counts,
     uint64_t return_timestamp_ns,
     const uint8_t *tpdu, size_t tpdu_length);
@@ -646,6 +656,7 @@ struct testkit_returns_recorded testkit_record_received_tpdus(
     const uint64_t *send_timestamps, size_t send_timestamps_length,
     uint64_t *latencies, size_t latencies_length,
     uint8_t *marks, size_t marks_length,
+    uint64_t *arrival_timestamps, size_t arrival_timestamps_length,
     struct testkit_counts counts,
     const uint64_t *return_timestamps, size_t return_timestamps_length,
     const size_t *lengths, size_t lengths_length,
@@ -668,13 +679,14 @@ struct testkit_datagram_recorded testkit_record_return_gtpu_datagram(
     const uint64_t *send_timestamps, size_t send_timestamps_length,
     uint64_t *latencies, size_t latencies_length,
     uint8_t *marks, size_t marks_length,
+    uint64_t *arrival_timestamps, size_t arrival_timestamps_length,
     struct testkit_counts counts,
     uint64_t return_timestamp_ns,
     uint8_t message_type,
     const uint8_t *payload, size_t payload_length);
 
 /*
- * The report of a run sheet.
+ * The report of a run sheet. No figure of it comes from the arrival times.
  *   window_start_ns    copied into the report, and used for nothing else
  *   window_end_ns      when an outage ends that no return ended: the time at which the caller stopped waiting
  *   budget             what the report's packet_continuity_proven is about
@@ -685,6 +697,7 @@ struct testkit_continuity_report testkit_report(
     const uint64_t *send_timestamps, size_t send_timestamps_length,
     const uint64_t *latencies, size_t latencies_length,
     const uint8_t *marks, size_t marks_length,
+    const uint64_t *arrival_timestamps, size_t arrival_timestamps_length,
     struct testkit_counts counts,
     uint64_t window_start_ns,
     uint64_t window_end_ns,
@@ -885,6 +898,7 @@ static inline struct testkit_recorded testkit_sheet_record_sent(
     struct testkit_recorded answer = testkit_record_sent(
         sheet->sequences, sheet->capacity, sheet->send_timestamps, sheet->capacity,
         sheet->latencies, sheet->capacity, sheet->marks, sheet->capacity,
+        sheet->arrival_timestamps, sheet->capacity,
         sheet->counts, sequence, send_timestamp_ns);
     sheet->counts = answer.counts;
     return answer;
@@ -896,6 +910,7 @@ static inline struct testkit_recorded testkit_sheet_record_sent_plan(
     struct testkit_recorded answer = testkit_record_sent_plan(
         sheet->sequences, sheet->capacity, sheet->send_timestamps, sheet->capacity,
         sheet->latencies, sheet->capacity, sheet->marks, sheet->capacity,
+        sheet->arrival_timestamps, sheet->capacity,
         sheet->counts, plan, next_sequence);
     sheet->counts = answer.counts;
     return answer;
@@ -907,6 +922,7 @@ static inline struct testkit_recorded testkit_sheet_record_received_tpdu(
     struct testkit_recorded answer = testkit_record_received_tpdu(
         sheet->sequences, sheet->capacity, sheet->send_timestamps, sheet->capacity,
         sheet->latencies, sheet->capacity, sheet->marks, sheet->capacity,
+        sheet->arrival_timestamps, sheet->capacity,
         sheet->counts, return_timestamp_ns, tpdu, tpdu_length);
     sheet->counts = answer.counts;
     return answer;
@@ -923,6 +939,7 @@ static inline struct testkit_returns_recorded testkit_sheet_record_received_tpdu
     struct testkit_returns_recorded answer = testkit_record_received_tpdus(
         sheet->sequences, sheet->capacity, sheet->send_timestamps, sheet->capacity,
         sheet->latencies, sheet->capacity, sheet->marks, sheet->capacity,
+        sheet->arrival_timestamps, sheet->capacity,
         sheet->counts, return_timestamps, return_timestamps_length, lengths, lengths_length, tpdus, tpdus_length,
         returned, returned_length, numbers, numbers_length);
     sheet->counts = answer.counts;
@@ -938,6 +955,7 @@ static inline struct testkit_datagram_recorded testkit_sheet_record_return_gtpu_
     struct testkit_datagram_recorded answer = testkit_record_return_gtpu_datagram(
         sheet->sequences, sheet->capacity, sheet->send_timestamps, sheet->capacity,
         sheet->latencies, sheet->capacity, sheet->marks, sheet->capacity,
+        sheet->arrival_timestamps, sheet->capacity,
         sheet->counts, return_timestamp_ns, message_type, payload, payload_length);
     sheet->counts = answer.counts;
     return answer;
@@ -949,6 +967,7 @@ static inline struct testkit_continuity_report testkit_sheet_report(
     return testkit_report(
         sheet->sequences, sheet->capacity, sheet->send_timestamps, sheet->capacity,
         sheet->latencies, sheet->capacity, sheet->marks, sheet->capacity,
+        sheet->arrival_timestamps, sheet->capacity,
         sheet->counts, window_start_ns, window_end_ns, budget);
 }
 

@@ -1,43 +1,57 @@
 //! Our batch calls against single calls in a loop, the Rust's and ours: the packets of a plan, all or
 //! none, and lists of returns. The Rust has no batch calls.
 
+use crate::arrivals::ArrivalCounts;
 use crate::compared::{as_the_rust_tells, require_unfilled, stand_in, told_apart, Answer};
+use crate::malformed::{malformed_sheet, Causes};
 use crate::numbers::*;
-use crate::observer::{any_call, any_contents, any_rows, malformed_sheet, time_near, Call, Pair};
+use crate::observer::{any_call, any_contents, any_rows, time_near, Call, Pair};
 use crate::ours_traffic::RunSheet;
 use crate::part::Part;
 use crate::random::Random;
-use crate::rust_side::measurement::{decode, Probe};
+use crate::rust_side::measurement::{build, decode, Probe};
 use crate::rust_side::traffic::{Engine, Sheet};
 use crate::seen::Seen;
-use crate::sheets::{difference, fresh, MOST_ROWS};
+use crate::sheets::{difference, MOST_ROWS};
 use crate::traffic::{due_packets, MOST_PACKETS};
 use crate::wild::any_probe;
 
 /// A plan: what its first packet says, how many packets, and its rate.
 type Plan = (Probe, u64, u64);
 
+/// What the calls of a part had in them.
+#[derive(Default)]
+struct Given {
+    /// The numbers that ours answered.
+    seen: Seen,
+    /// What the rules on arrival times are about.
+    arrivals: ArrivalCounts,
+}
+
 /// Plans entered and lists of returns taken, on sheets in any state.
 pub fn batches(seed: u64, rounds: u64) -> Part {
     let mut part = Part::new("batch calls and reports");
-    let mut seen = Seen::default();
+    let mut given = Given::default();
     let mut random = Random::new(seed);
     for rows in [2, 48, MOST_ROWS] {
-        fit(&mut part, &mut seen, &mut random, rows);
+        fit(&mut part, &mut given, &mut random, rows);
     }
     for round in 0..rounds / 10 {
         let rows = any_rows(&mut random, round);
         let used = rows - random.length(rows).min(rows);
         let contents = any_contents(&mut random, used);
-        let mut pair = Pair::new(fresh(&mut random, rows), contents);
+        let mut pair = Pair::any(&mut random, rows, contents);
         for _ in 0..3 {
             let plan = any_plan(&mut random, &pair.contents, rows);
-            enter(&mut part, &mut seen, &mut pair, plan);
-            take(&mut part, &mut seen, &mut random, &mut pair, rows);
+            enter(&mut part, &mut given, &mut pair, plan);
+            let returns = any_returns(&mut random, &pair.contents, rows);
+            take(&mut part, &mut given, &mut random, &mut pair, &returns);
         }
         pair.reports(&mut part, &mut random);
     }
-    seen.require(&mut part, answers(&[READING, PLANNING, OBSERVING]));
+    let numbers = answers(&[READING, PLANNING, OBSERVING]);
+    given.seen.require(&mut part, numbers);
+    given.arrivals.require(&mut part);
     require_unfilled(&mut part);
     part
 }
@@ -47,23 +61,35 @@ pub fn batches(seed: u64, rounds: u64) -> Part {
 /// that are lent for the list.
 pub fn malformed_batches(seed: u64, rounds: u64) -> Part {
     let mut part = Part::new("batch calls");
+    let mut causes = Causes::default();
     let mut random = Random::new(seed);
     for round in 0..rounds / 10 {
         let (contents, sheet) = malformed_sheet(&mut random, round);
-        let rows = contents.rows.len();
-
-        let plan = any_plan(&mut random, &contents, rows);
-        let mut ours = sheet.clone();
-        let answer = send(&mut ours, plan);
-        let answer = (answer, difference(&ours, &sheet));
-        part.case(&[], answer, (MALFORMED_OBSERVER, None));
-
-        for returns in [vec![], any_returns(&mut random, &contents, rows)] {
-            let due = Due::left(&mut random, returns.len());
-            due.compare(&mut part, sheet.clone(), &sheet, &returns);
-        }
+        causes.add(&mut part, &sheet);
+        refuse_batches(&mut part, &mut random, &contents, &sheet);
     }
+    causes.require(&mut part);
     part
+}
+
+/// A plan and two lists of returns on a malformed sheet, which held these contents.
+pub(crate) fn refuse_batches(
+    part: &mut Part,
+    random: &mut Random,
+    contents: &Sheet,
+    sheet: &RunSheet,
+) {
+    let rows = contents.rows.len();
+    let plan = any_plan(random, contents, rows);
+    let mut ours = sheet.clone();
+    let answer = send(&mut ours, plan);
+    let answer = (answer, difference(&ours, sheet));
+    part.case(&[], answer, (MALFORMED_OBSERVER, None));
+
+    for returns in [vec![], any_returns(random, contents, rows)] {
+        let due = Due::left(random, returns.len());
+        due.compare(part, sheet.clone(), sheet, &returns);
+    }
 }
 
 fn send(sheet: &mut RunSheet, (first, count, rate): Plan) -> u8 {
@@ -109,7 +135,7 @@ fn any_plan(random: &mut Random, contents: &Sheet, rows: usize) -> Plan {
 
 /// Enters a plan on both sides: its packets as the Rust generates them are sent to the Rust, one after
 /// the other, and to a copy of our sheet. Where the copy refuses one, all of the plan is refused.
-fn enter(part: &mut Part, seen: &mut Seen, pair: &mut Pair, plan: Plan) -> u8 {
+fn enter(part: &mut Part, given: &mut Given, pair: &mut Pair, plan: Plan) -> u8 {
     let (first, count, rate) = plan;
     let mut singly = pair.ours.clone();
     let mut engine = Engine::with_first_sequence(first.sequence);
@@ -133,14 +159,15 @@ fn enter(part: &mut Part, seen: &mut Seen, pair: &mut Pair, plan: Plan) -> u8 {
                     sequence: packet.sequence,
                     send_timestamp_ns: packet.send_timestamp_ns,
                 };
-                pair.due_answer(&call);
+                pair.due_answer(&mut given.arrivals, &call);
             }
             0
         }
     };
     let mut ours = pair.ours.clone();
     let answer = send(&mut ours, plan);
-    seen.add(answer);
+    given.seen.add(answer);
+    given.arrivals.add_answer(&pair.ours, answer);
     let due = pair.due();
     let differences = (difference(&ours, &due), difference(&ours, &singly));
     part.case(
@@ -152,26 +179,32 @@ fn enter(part: &mut Part, seen: &mut Seen, pair: &mut Pair, plan: Plan) -> u8 {
     answer
 }
 
-/// Plans that just fit and that do not, on a fresh sheet of `rows` rows: one for half of them; one for
-/// all, of which half are entered; one that goes a sequence further, for which no row is free; the
-/// second again, which needs no row; and counts that no plan may have.
-fn fit(part: &mut Part, seen: &mut Seen, random: &mut Random, rows: usize) {
-    let mut pair = Pair::new(fresh(random, rows), Sheet::default());
+/// Plans that just fit and that do not, on a fresh sheet of `rows` rows: one for half of them, in the middle;
+/// one for all, from time 0, of which the others are entered before and behind it; one that goes a sequence
+/// further, for which no row is free; the second again, which needs no row; and counts that no plan may have.
+/// After each that is entered all rows return, when they were sent.
+fn fit(part: &mut Part, given: &mut Given, random: &mut Random, rows: usize) {
+    let mut pair = Pair::fresh(random, rows);
     let all = rows as u64;
+    let start = 1 + random.length(1 << 20) as u64;
     let plans = [
-        (5, all / 2, 0),
-        (5, all, 0),
-        (6, all, OBSERVER_FULL),
-        (5, all, 0),
-        (5, MOST_PACKETS + 1, TOO_MANY_PACKETS),
-        (6, u64::MAX, TOO_MANY_PACKETS),
+        (5 + all / 4, all / 2, start, 0),
+        (5, all, 0, 0),
+        (6, all, start, OBSERVER_FULL),
+        (5, all, start, 0),
+        (5, MOST_PACKETS + 1, start, TOO_MANY_PACKETS),
+        (6, u64::MAX, start, TOO_MANY_PACKETS),
     ];
-    for (sequence, count, number) in plans {
+    for (sequence, count, start, number) in plans {
         let mut first = any_probe(random);
         first.sequence = sequence;
-        first.send_timestamp_ns = random.length(1 << 20) as u64;
-        let answer = enter(part, seen, &mut pair, (first, count, 1_000));
+        first.send_timestamp_ns = start;
+        let answer = enter(part, given, &mut pair, (first, count, 1_000));
         part.case(&[], answer, number);
+        if number == 0 {
+            let returns = all_returns(random, &pair.contents);
+            take(part, given, random, &mut pair, &returns);
+        }
     }
 }
 
@@ -191,6 +224,17 @@ fn any_returns(random: &mut Random, contents: &Sheet, rows: usize) -> Returns {
         }
     }
     returns
+}
+
+/// Each row of a sheet, when it was sent.
+fn all_returns(random: &mut Random, contents: &Sheet) -> Returns {
+    let rows = contents.rows.iter();
+    rows.map(|row| {
+        let mut probe = any_probe(random);
+        probe.sequence = row.sequence;
+        (row.send_timestamp_ns, build(probe))
+    })
+    .collect()
 }
 
 /// What a list of returns has to leave in its two columns, which are longer or shorter than it.
@@ -275,20 +319,25 @@ impl Due {
 
 /// Takes a list of returns on both sides. The Rust is not given those that ours has to refuse without
 /// it: the sheet goes on as it was.
-fn take(part: &mut Part, seen: &mut Seen, random: &mut Random, pair: &mut Pair, rows: usize) {
-    let returns = any_returns(random, &pair.contents, rows);
-    let due = Due::of(random, &returns, |time, tpdu| match stand_in(part, tpdu) {
+fn take(
+    part: &mut Part,
+    given: &mut Given,
+    random: &mut Random,
+    pair: &mut Pair,
+    returns: &Returns,
+) {
+    let due = Due::of(random, returns, |time, tpdu| match stand_in(part, tpdu) {
         Err(number) => (number, 0),
         Ok(tpdu) => {
             let sequence = decode(&tpdu).map_or(0, |probe| probe.sequence);
             let tpdu = tpdu.into_owned();
-            let taken = pair.due_answer(&Call::Tpdu { time, tpdu });
+            let taken = pair.due_answer(&mut given.arrivals, &Call::Tpdu { time, tpdu });
             (taken.number, sequence)
         }
     });
     let sheet = pair.due();
-    for number in due.compare(part, pair.ours.clone(), &sheet, &returns) {
-        seen.add(number);
+    for number in due.compare(part, pair.ours.clone(), &sheet, returns) {
+        given.seen.add(number);
     }
     pair.ours = sheet;
 }

@@ -6,6 +6,7 @@
 #![deny(unsafe_code)]
 
 pub mod answers;
+pub mod arrivals;
 pub mod batch;
 pub mod cases;
 pub mod checksum;
@@ -15,6 +16,7 @@ pub mod gtpu;
 pub mod indication;
 pub mod indication_inputs;
 pub mod lists;
+pub mod malformed;
 pub mod measurement;
 pub mod numbers;
 pub mod observer;

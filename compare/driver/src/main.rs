@@ -9,7 +9,8 @@ use std::process::ExitCode;
 
 use driver::part::{grouped, left_out, Part};
 use driver::{
-    answers, batch, cases, checksum, gtpu, measurement, observer, reflector, tally, traffic,
+    answers, arrivals, batch, cases, checksum, gtpu, malformed, measurement, observer, reflector,
+    tally, traffic,
 };
 
 const USAGE: &str = "usage: compare [--seed N] [--rounds N] [--long] [--only NAME]..";
@@ -51,7 +52,8 @@ const PARTS: &[(&str, Run)] = &[
     ("element walk, 256 KiB of stack", Fixed(gtpu::deep_lists)),
     ("run sheet, runs", SeedAndRounds(observer::runs)),
     ("run sheet, any state", SeedAndRounds(observer::states)),
-    ("run sheet, malformed", SeedAndRounds(observer::malformed)),
+    ("run sheet, arrival times", Seed(arrivals::each_row)),
+    ("run sheet, malformed", SeedAndRounds(malformed::malformed)),
     ("run sheet, batches", SeedAndRounds(batch::batches)),
     ("run sheet, malformed, batches", SeedAndRounds(batch::malformed_batches)),
     ("reflector, runs", SeedAndRounds(reflector::runs)),

@@ -1,11 +1,12 @@
-//! Our run sheet against the Rust's observer: whole runs, sheets set to any state, and malformed
-//! sheets, which the Rust cannot have. The tunnel that is handed on is held to a model (`indication.rs`).
+//! Our run sheet against the Rust's observer: whole runs, and sheets set to any state. The tunnel that is
+//! handed on and the column of arrival times are held to models (`indication.rs`, `arrivals.rs`).
 
 use std::collections::{BTreeMap, BTreeSet};
 
 use testkit_open::evidence::PacketContinuityBudget;
 use testkit_open::traffic::GtpuReturnDatagramOutcome;
 
+use crate::arrivals::{sound_situations, ArrivalCounts, Arrivals};
 use crate::compared::{require_unfilled, stand_in, Answer};
 use crate::gtpu::any_elements;
 use crate::indication::due_tunnel;
@@ -16,15 +17,15 @@ use crate::packet::{part_at, protocol_at, set_lengths, set_word, sum_again, UDP_
 use crate::part::Part;
 use crate::random::Random;
 use crate::rust_side::gtpu::{validate_error_indication_ies, Message};
-use crate::rust_side::measurement::{build, echo, Probe};
+use crate::rust_side::measurement::{build, decode, echo, Probe};
 use crate::rust_side::traffic::{Observer, Row, Sheet};
 use crate::rust_side::Outcome;
-use crate::seen::Seen;
-use crate::sheets::{capacity, difference, fresh, holding, questions, MOST_ROWS};
+use crate::seen::{Met, Seen};
+use crate::sheets::{capacity, difference, fresh, holding, questions, Question, MOST_ROWS};
 use crate::wild::{any_covered, any_probe, padded_packet, set_any_flags, set_any_ihl, PROBE};
 
-const ERROR_INDICATION: u8 = 26;
-const G_PDU: u8 = 255;
+pub(crate) const ERROR_INDICATION: u8 = 26;
+pub(crate) const G_PDU: u8 = 255;
 
 /// The longest payload of a message.
 const MOST_PAYLOAD: usize = 65_535;
@@ -49,17 +50,19 @@ pub(crate) enum Call {
 
 /// What the calls of a part had in them.
 #[derive(Default)]
-struct Given {
+pub(crate) struct Given {
     /// The numbers that ours answered.
     seen: Seen,
     /// The elements of Error Indications.
     tried: Tried,
     /// The other types that came with elements which an Error Indication may have.
     other_types: BTreeSet<u8>,
+    /// What the rules on arrival times are about.
+    arrivals: ArrivalCounts,
 }
 
 impl Given {
-    fn add(&mut self, call: &Call, number: u8) {
+    pub(crate) fn add(&mut self, call: &Call, number: u8) {
         self.seen.add(number);
         match call {
             Call::Message {
@@ -80,7 +83,7 @@ impl Given {
 
     /// Each of these numbers must have been answered, and no other; the elements must have had everything
     /// that the rule on the tunnel is about; and all 255 other types must have come with such elements.
-    fn require(&self, part: &mut Part, numbers: impl IntoIterator<Item = u8>) {
+    pub(crate) fn require(&self, part: &mut Part, numbers: impl IntoIterator<Item = u8>) {
         self.seen.require(part, numbers);
         self.tried.require(part);
         let types = self.other_types.len();
@@ -98,7 +101,7 @@ pub fn runs(seed: u64, rounds: u64) -> Part {
     let mut random = Random::new(seed);
     for round in 0..rounds / 8 {
         let rows = any_rows(&mut random, round);
-        let mut pair = Pair::new(fresh(&mut random, rows), Sheet::default());
+        let mut pair = Pair::fresh(&mut random, rows);
         run(&mut part, &mut given, &mut random, &mut pair, 4 * rows + 20);
         fill(&mut part, &mut given, &mut random, &mut pair);
         if round % 256 == 1 {
@@ -107,22 +110,24 @@ pub fn runs(seed: u64, rounds: u64) -> Part {
         }
     }
     given.require(&mut part, every_number());
+    given.arrivals.require(&mut part);
     require_unfilled(&mut part);
     part
 }
 
-/// Runs from any state: counters at or near their top, latencies of any size, and on rows that
-/// have not returned a latency that nobody may look at.
+/// Runs from any state: counters at or near their top, latencies and arrival times of any size, and on
+/// rows that have not returned a latency that nobody may look at.
 pub fn states(seed: u64, rounds: u64) -> Part {
     let mut part = Part::new("calls and reports");
-    let mut given = Given::default();
+    let (mut given, mut sheets) = (Given::default(), Met::default());
     let mut random = Random::new(seed);
     for round in 0..rounds / 10 {
         let rows = any_rows(&mut random, round);
         let contents = any_contents(&mut random, rows);
         let room = (rows + random.below(4)).min(MOST_ROWS);
-        let mut pair = Pair::new(fresh(&mut random, room), contents);
+        let mut pair = Pair::any(&mut random, room, contents);
         pair.spoil_unmarked(&mut random);
+        sheets.add(&sound_situations(&pair.ours));
         pair.reports(&mut part, &mut random);
         run(&mut part, &mut given, &mut random, &mut pair, 20);
         if round % 256 == 1 {
@@ -131,6 +136,8 @@ pub fn states(seed: u64, rounds: u64) -> Part {
         }
     }
     given.require(&mut part, every_number());
+    given.arrivals.require(&mut part);
+    sheets.require(&mut part, "sheets in order");
     require_unfilled(&mut part);
     part
 }
@@ -148,69 +155,9 @@ fn every_number() -> Vec<u8> {
     answers(&[READING, OBSERVING, WALKING, &[UNSUPPORTED_MESSAGE_TYPE]])
 }
 
-/// A sheet that was spoiled in one of four ways, and what it held before; every 128th time of each way
-/// it has 2,048 rows.
-pub(crate) fn malformed_sheet(random: &mut Random, round: u64) -> (Sheet, RunSheet) {
-    let rows = match round % 128 {
-        0..4 => MOST_ROWS,
-        _ => 2 + random.length(30),
-    };
-    let contents = any_contents(random, rows);
-    let mut sheet = holding(&fresh(random, rows), &contents);
-    spoil(random, &mut sheet, round % 4);
-    (contents, sheet)
-}
-
-/// Malformed sheets: every call refuses by 21, leaves all and hands on no tunnel, before it looks at anything
-/// else.
-pub fn malformed(seed: u64, rounds: u64) -> Part {
-    let mut part = Part::new("calls and reports");
-    let mut given = Given::default();
-    let mut random = Random::new(seed);
-    for round in 0..rounds / 10 {
-        let (contents, sheet) = malformed_sheet(&mut random, round);
-        let rows = contents.rows.len();
-
-        let mut calls: Vec<Call> = (0..8)
-            .map(|_| any_call(&mut random, &contents.rows, 0, rows))
-            .collect();
-        calls.extend(
-            [0, 1, 2, 26, 31, 254, G_PDU].map(|message_type| Call::Message {
-                time: random.number(),
-                message_type,
-                payload: any_elements(&mut random, 12),
-            }),
-        );
-        calls.push(any_indication_call(&mut random));
-        if (4..8).contains(&(round % 256)) {
-            calls.extend(type_calls(&mut random, 0));
-            calls.extend(tunnel_calls(&mut random));
-        }
-        let due = Noted {
-            number: MALFORMED_OBSERVER,
-            ..Noted::default()
-        };
-        for call in calls {
-            let mut ours = sheet.clone();
-            let answer = call.on_ours(&mut ours);
-            given.add(&call, answer.number);
-            let answer = (answer, difference(&ours, &sheet));
-            part.case(call.input(), answer, (due, None));
-        }
-        let due = Report {
-            number: MALFORMED_OBSERVER,
-            ..Report::default()
-        };
-        let budget = PacketContinuityBudget::zero_loss();
-        part.case(&[], sheet.report(0, random.number(), budget), due);
-    }
-    given.require(&mut part, [MALFORMED_OBSERVER]);
-    part
-}
-
 impl Call {
     /// What is printed of it where the two sides differ.
-    fn input(&self) -> &[u8] {
+    pub(crate) fn input(&self) -> &[u8] {
         match self {
             Call::Sent { .. } => &[],
             Call::Tpdu { tpdu, .. } => tpdu,
@@ -231,6 +178,22 @@ impl Call {
         }
     }
 
+    /// Its time, if it is a return.
+    pub(crate) fn time(&self) -> Option<u64> {
+        match self {
+            Call::Sent { .. } => None,
+            Call::Tpdu { time, .. } | Call::Message { time, .. } => Some(*time),
+        }
+    }
+
+    /// The sequence that is sent, or that comes back in a T-PDU that can be read.
+    pub(crate) fn sequence(&self) -> Option<u64> {
+        match self {
+            Call::Sent { sequence, .. } => Some(*sequence),
+            _ => decode(self.tpdu()?).ok().map(|probe| probe.sequence),
+        }
+    }
+
     /// The call that the Rust is given in its place, or the number by which ours has to refuse it.
     fn stand_in(&self, part: &mut Part) -> Outcome<Call> {
         let mut call = self.clone();
@@ -246,7 +209,7 @@ impl Call {
         Ok(call)
     }
 
-    fn on_ours(&self, sheet: &mut RunSheet) -> Noted {
+    pub(crate) fn on_ours(&self, sheet: &mut RunSheet) -> Noted {
         match self {
             Call::Sent {
                 sequence,
@@ -320,22 +283,38 @@ pub(crate) struct Pair {
     rust: Observer,
     /// What the observer holds.
     pub(crate) contents: Sheet,
+    /// The arrival times beside it, which the observer does not have.
+    arrivals: Arrivals,
     /// What stands as latency on rows of ours that have not returned, if it is not 0.
     unmarked_latencies: BTreeMap<u64, u64>,
 }
 
 impl Pair {
-    pub(crate) fn new(sheet: RunSheet, contents: Sheet) -> Self {
+    pub(crate) fn new(sheet: &RunSheet, contents: Sheet, arrivals: Arrivals) -> Self {
         Self {
-            ours: holding(&sheet, &contents),
+            ours: holding(sheet, &contents, &arrivals.column(&contents)),
             rust: Observer::from_sheet(&contents),
             contents,
+            arrivals,
             unmarked_latencies: BTreeMap::new(),
         }
     }
 
+    /// Both fresh, ours of this capacity.
+    pub(crate) fn fresh(random: &mut Random, capacity: usize) -> Self {
+        let sheet = fresh(random, capacity);
+        Self::new(&sheet, Sheet::default(), Arrivals::default())
+    }
+
+    /// Both with these contents, ours of this capacity and with any arrival times.
+    pub(crate) fn any(random: &mut Random, capacity: usize, contents: Sheet) -> Self {
+        let sheet = fresh(random, capacity);
+        let arrivals = Arrivals::any(random, &contents);
+        Self::new(&sheet, contents, arrivals)
+    }
+
     /// Writes any latency on our rows that have not returned.
-    fn spoil_unmarked(&mut self, random: &mut Random) {
+    pub(crate) fn spoil_unmarked(&mut self, random: &mut Random) {
         for row in self.contents.rows.iter().filter(|row| !row.returned) {
             let latency = random.number();
             self.unmarked_latencies.insert(row.sequence, latency);
@@ -343,9 +322,14 @@ impl Pair {
         self.ours = self.due();
     }
 
+    /// The arrival times that are due on the used rows.
+    pub(crate) fn arrival_column(&self) -> Vec<u64> {
+        self.arrivals.column(&self.contents)
+    }
+
     /// Our sheet as it has to be for what the observer holds: every cell past the used rows kept.
     pub(crate) fn due(&self) -> RunSheet {
-        let mut due = holding(&self.ours, &self.contents);
+        let mut due = holding(&self.ours, &self.contents, &self.arrival_column());
         if !self.unmarked_latencies.is_empty() {
             for (at, row) in self.contents.rows.iter().enumerate() {
                 if let (false, Some(&latency)) =
@@ -363,15 +347,13 @@ impl Pair {
         let Call::Sent { sequence, .. } = call else {
             return false;
         };
-        let rows = &self.contents.rows;
-        rows.len() == capacity(&self.ours)
-            && rows
-                .binary_search_by_key(sequence, |row| row.sequence)
-                .is_err()
+        let used = self.contents.rows.len();
+        used == capacity(&self.ours) && self.contents.row(*sequence).is_none()
     }
 
-    /// Makes a call on the Rust's observer: what ours has to answer.
-    pub(crate) fn due_answer(&mut self, call: &Call) -> Noted {
+    /// Makes a call on the Rust's observer: what ours has to answer. The arrival times follow what the Rust
+    /// answers.
+    pub(crate) fn due_answer(&mut self, counts: &mut ArrivalCounts, call: &Call) -> Noted {
         let due_answer = if self.full_for(call) {
             Noted {
                 number: OBSERVER_FULL,
@@ -380,18 +362,21 @@ impl Pair {
         } else {
             call.on_rust(&mut self.rust)
         };
+        counts.add_call(&self.contents, &self.arrivals, call, due_answer.number);
+        self.arrivals.follow(call, due_answer.number);
         self.contents = self.rust.sheet();
         due_answer
     }
 
     /// Makes a call on both: the answers, the counts and every cell must be equal afterwards. The Rust
     /// is not given a T-PDU that ours has to refuse without it.
-    fn call(&mut self, part: &mut Part, given: &mut Given, call: &Call) {
+    pub(crate) fn call(&mut self, part: &mut Part, given: &mut Given, call: &Call) {
         let mut ours = self.ours.clone();
         let answer = call.on_ours(&mut ours);
         given.add(call, answer.number);
+        given.arrivals.add_answer(&self.ours, answer.number);
         let due_answer = match call.stand_in(part) {
-            Ok(call) => self.due_answer(&call),
+            Ok(call) => self.due_answer(&mut given.arrivals, &call),
             Err(number) => Noted {
                 number,
                 ..Noted::default()
@@ -404,22 +389,31 @@ impl Pair {
         self.ours = due;
     }
 
-    /// Reports, and the verdict on each: judged by the figures of a report that was made for another
+    fn due_report(&self, (start, end, budget): Question) -> Report {
+        self.rust.report(start, end, budget).into()
+    }
+
+    /// Reports, and the verdict on each.
+    pub(crate) fn reports(&self, part: &mut Part, random: &mut Random) {
+        let due_report = |question| self.due_report(question);
+        for question in questions(random, &self.contents, due_report) {
+            self.report(part, question);
+        }
+    }
+
+    /// A report, and the verdict on it: judged by the figures of a report that was made for another
     /// budget, a run passes where the Rust's report says both that it forwards and that it keeps to
     /// this one.
-    pub(crate) fn reports(&self, part: &mut Part, random: &mut Random) {
-        let report = |(start, end, budget)| Report::from(self.rust.report(start, end, budget));
-        for question in questions(random, &self.contents, report) {
-            let (start, end, budget) = question;
-            let due = report(question);
-            part.case(&[], self.ours.report(start, end, budget), due);
-            let other = self
-                .ours
-                .report(start, end, PacketContinuityBudget::zero_loss());
-            let passes = other.judge(budget.into()).reason == 0;
-            let due = due.forwarding_proven && due.packet_continuity_proven;
-            part.case(&[], passes, due);
-        }
+    pub(crate) fn report(&self, part: &mut Part, question: Question) {
+        let (start, end, budget) = question;
+        let due = self.due_report(question);
+        part.case(&[], self.ours.report(start, end, budget), due);
+        let other = self
+            .ours
+            .report(start, end, PacketContinuityBudget::zero_loss());
+        let passes = other.judge(budget.into()).reason == 0;
+        let due = due.forwarding_proven && due.packet_continuity_proven;
+        part.case(&[], passes, due);
     }
 }
 
@@ -478,7 +472,7 @@ fn each_tunnel(part: &mut Part, given: &mut Given, random: &mut Random, pair: &m
 
 /// Messages of every type: with a T-PDU of this sequence, with few and many elements that an Error
 /// Indication may have, and with nothing.
-fn type_calls(random: &mut Random, sequence: u64) -> Vec<Call> {
+pub(crate) fn type_calls(random: &mut Random, sequence: u64) -> Vec<Call> {
     let probe = Probe {
         sequence,
         ..any_probe(random)
@@ -495,7 +489,7 @@ fn type_calls(random: &mut Random, sequence: u64) -> Vec<Call> {
     calls.collect()
 }
 
-fn tunnel_calls(random: &mut Random) -> Vec<Call> {
+pub(crate) fn tunnel_calls(random: &mut Random) -> Vec<Call> {
     let mut payloads = Vec::new();
     each_indication(random, 4, |payload| payloads.push(payload.to_vec()));
     let calls = payloads.into_iter().map(|payload| Call::Message {
@@ -507,7 +501,7 @@ fn tunnel_calls(random: &mut Random) -> Vec<Call> {
 }
 
 /// Elements, accepted or not, in a message of any type: every second one is an Error Indication.
-fn any_indication_call(random: &mut Random) -> Call {
+pub(crate) fn any_indication_call(random: &mut Random) -> Call {
     let other_types = [2, 31, 254, G_PDU, 1, random.any_u8()];
     let message_type = match random.below(2) {
         0 => ERROR_INDICATION,
@@ -662,25 +656,5 @@ pub(crate) fn any_contents(random: &mut Random, rows: usize) -> Sheet {
         duplicates: number(random),
         out_of_order: number(random),
         error_indications: number(random) * random.below(2) as u64,
-    }
-}
-
-/// Makes a full sheet of at least two rows malformed, in one of the four ways.
-fn spoil(random: &mut Random, sheet: &mut RunSheet, way: u64) {
-    let used = sheet.counts.used;
-    let at = random.below(used - 1);
-    match way {
-        0 if used == MOST_ROWS => {
-            // A row more than there may be, all in order.
-            sheet.sequences = (0..=used as u64).collect();
-            sheet.send_timestamps.resize(used + 1, 0);
-            sheet.latencies.resize(used + 1, 0);
-            sheet.marks = vec![0; used + 1];
-            sheet.counts.used = used + 1;
-        }
-        0 => sheet.counts.used = random.above(used),
-        1 => sheet.sequences[at + 1] = sheet.sequences[at],
-        2 => sheet.sequences.swap(at, at + 1),
-        _ => sheet.marks[at + random.below(2)] = 2 + random.below(254) as u8,
     }
 }

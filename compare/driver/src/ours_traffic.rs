@@ -32,6 +32,8 @@ unsafe extern "C" {
         latencies_length: usize,
         marks: *mut u8,
         marks_length: usize,
+        arrival_timestamps: *mut u64,
+        arrival_timestamps_length: usize,
         counts: Counts,
         sequence: u64,
         send_timestamp_ns: u64,
@@ -45,6 +47,8 @@ unsafe extern "C" {
         latencies_length: usize,
         marks: *mut u8,
         marks_length: usize,
+        arrival_timestamps: *mut u64,
+        arrival_timestamps_length: usize,
         counts: Counts,
         return_timestamp_ns: u64,
         tpdu: *const u8,
@@ -59,6 +63,8 @@ unsafe extern "C" {
         latencies_length: usize,
         marks: *mut u8,
         marks_length: usize,
+        arrival_timestamps: *mut u64,
+        arrival_timestamps_length: usize,
         counts: Counts,
         plan: Plan,
         next_sequence: u64,
@@ -72,6 +78,8 @@ unsafe extern "C" {
         latencies_length: usize,
         marks: *mut u8,
         marks_length: usize,
+        arrival_timestamps: *mut u64,
+        arrival_timestamps_length: usize,
         counts: Counts,
         return_timestamps: *const u64,
         return_timestamps_length: usize,
@@ -93,6 +101,8 @@ unsafe extern "C" {
         latencies_length: usize,
         marks: *mut u8,
         marks_length: usize,
+        arrival_timestamps: *mut u64,
+        arrival_timestamps_length: usize,
         counts: Counts,
         return_timestamp_ns: u64,
         message_type: u8,
@@ -108,6 +118,8 @@ unsafe extern "C" {
         latencies_length: usize,
         marks: *const u8,
         marks_length: usize,
+        arrival_timestamps: *const u64,
+        arrival_timestamps_length: usize,
         counts: Counts,
         window_start_ns: u64,
         window_end_ns: u64,
@@ -305,6 +317,7 @@ pub struct RunSheet {
     pub send_timestamps: Vec<u64>,
     pub latencies: Vec<u64>,
     pub marks: Vec<u8>,
+    pub arrival_timestamps: Vec<u64>,
     pub counts: Counts,
 }
 
@@ -392,6 +405,8 @@ macro_rules! on_sheet {
             $sheet.latencies.len(),
             $sheet.marks.as_mut_ptr(),
             $sheet.marks.len(),
+            $sheet.arrival_timestamps.as_mut_ptr(),
+            $sheet.arrival_timestamps.len(),
             $sheet.counts,
             $($rest),+
         )
@@ -408,17 +423,18 @@ impl Report {
 
 impl RunSheet {
     /// How many columns a sheet has.
-    pub const COLUMNS: usize = 4;
+    pub const COLUMNS: usize = 5;
 
     /// A fresh sheet with columns of these lengths, whose cells hold these numbers, column by column.
     pub fn fresh(lengths: [usize; Self::COLUMNS], mut cell: impl FnMut() -> u64) -> Self {
         let mut column = |length| (0..length).map(|_| cell()).collect::<Vec<_>>();
-        let [sequences, send_timestamps, latencies, marks] = lengths;
+        let [sequences, send_timestamps, latencies, marks, arrival_timestamps] = lengths;
         Self {
             sequences: column(sequences),
             send_timestamps: column(send_timestamps),
             latencies: column(latencies),
             marks: column(marks).into_iter().map(|cell| cell as u8).collect(),
+            arrival_timestamps: column(arrival_timestamps),
             counts: Counts::default(),
         }
     }
@@ -556,6 +572,8 @@ impl RunSheet {
                 self.latencies.len(),
                 self.marks.as_ptr(),
                 self.marks.len(),
+                self.arrival_timestamps.as_ptr(),
+                self.arrival_timestamps.len(),
                 self.counts,
                 window_start,
                 window_end,

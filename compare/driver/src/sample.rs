@@ -1,11 +1,13 @@
 //! A sample of the Rust's answers, as the records that `crates/replay` reads: its README says what
-//! is in them. A refusal is told by the number that is due of ours (`told_apart`). Nothing here, or in
+//! is in them. A refusal is told by the number that is due of ours (`told_apart`), and the arrival times of
+//! a run sheet, which the Rust does not have, are the model's (`arrivals.rs`). Nothing here, or in
 //! `sample_reflector.rs`, calls our library.
 
 use std::collections::{BTreeMap, BTreeSet};
 
 use testkit_open::traffic::TrafficPlan;
 
+use crate::arrivals::Arrivals;
 use crate::compared::{compared, told_apart, NEVER_COMPARED};
 use crate::gtpu::any_elements;
 use crate::numbers::in_the_rust;
@@ -18,7 +20,7 @@ use crate::rust_side::gtpu::validate_error_indication_ies;
 use crate::rust_side::measurement::{build, checksum, decode, echo, Probe};
 use crate::rust_side::traffic::{generate, Observer, Sheet};
 use crate::sample_reflector::{draw_handle, draw_register, draw_remove};
-use crate::sheets::{capacity, holding, questions};
+use crate::sheets::{capacity, dirty, holding, questions};
 use crate::wild::{any_packet, any_probe};
 
 /// The kinds of records.
@@ -263,12 +265,16 @@ fn draw_elements(random: &mut Random) -> Option<Drawn> {
     (list.len() <= MOST_BYTES).then_some((number, 0, list))
 }
 
-/// A sheet that holds these contents in columns of `ROWS` cells, and how much of each is lent.
-fn any_sheet(random: &mut Random, contents: &Sheet) -> (RunSheet, [u8; RunSheet::COLUMNS]) {
-    let dirty = RunSheet::fresh([ROWS; RunSheet::COLUMNS], || random.number());
+/// A sheet that holds these contents and times in columns of `ROWS` cells, and how much of each is lent.
+fn any_sheet(
+    random: &mut Random,
+    contents: &Sheet,
+    arrivals: &Arrivals,
+) -> (RunSheet, [u8; RunSheet::COLUMNS]) {
+    let dirty = dirty(random, [ROWS; RunSheet::COLUMNS]);
     let used = contents.rows.len();
     let lent = [0; RunSheet::COLUMNS].map(|_| (used + random.below(ROWS - used + 1)) as u8);
-    (holding(&dirty, contents), lent)
+    (holding(&dirty, contents, &arrivals.column(contents)), lent)
 }
 
 fn counts_bytes(counts: &Counts) -> Vec<u8> {
@@ -279,13 +285,17 @@ fn counts_bytes(counts: &Counts) -> Vec<u8> {
     bytes
 }
 
-/// Counts and columns: 175 bytes.
+/// Counts and columns: 223 bytes.
 fn sheet_bytes(sheet: &RunSheet) -> Vec<u8> {
-    let mut bytes = counts_bytes(&sheet.counts);
-    for column in [&sheet.sequences, &sheet.send_timestamps, &sheet.latencies] {
-        bytes.extend(column.iter().flat_map(|cell| cell.to_be_bytes()));
+    fn numbers(column: &[u64]) -> impl Iterator<Item = u8> + '_ {
+        column.iter().flat_map(|cell| cell.to_be_bytes())
     }
+    let mut bytes = counts_bytes(&sheet.counts);
+    bytes.extend(numbers(&sheet.sequences));
+    bytes.extend(numbers(&sheet.send_timestamps));
+    bytes.extend(numbers(&sheet.latencies));
     bytes.extend(&sheet.marks);
+    bytes.extend(numbers(&sheet.arrival_timestamps));
     bytes
 }
 
@@ -312,14 +322,13 @@ fn call_parts(call: &Call) -> (u8, [u64; 2], &[u8]) {
 fn draw_call(random: &mut Random, kind: u8) -> Option<Drawn> {
     let used = random.below(ROWS + 1);
     let contents = any_contents(random, used);
-    let (sheet, lent) = any_sheet(random, &contents);
+    let mut arrivals = Arrivals::any(random, &contents);
+    let (sheet, lent) = any_sheet(random, &contents, &arrivals);
     let base = contents.rows.first().map_or(0, |row| row.sequence);
     let call = any_call(random, &contents.rows, base, ROWS);
     let (call_kind, numbers, payload) = call_parts(&call);
-    if call_kind != kind || payload.len() > MOST_BYTES {
-        return None;
-    }
-    if call.tpdu().is_some_and(|tpdu| !compared(tpdu)) {
+    let is_compared = call.tpdu().is_none_or(compared);
+    if call_kind != kind || payload.len() > MOST_BYTES || !is_compared {
         return None;
     }
     let room = lent.map(usize::from).into_iter().min()?;
@@ -330,13 +339,15 @@ fn draw_call(random: &mut Random, kind: u8) -> Option<Drawn> {
         message_type,
         ..
     } = call.on_rust(&mut observer);
+    arrivals.follow(&call, number);
     let contents = observer.sheet();
     if contents.rows.len() > room.min(capacity(&sheet)) {
         return None;
     }
+    let due = holding(&sheet, &contents, &arrivals.column(&contents));
     let mut rest = lent.to_vec();
     rest.extend(sheet_bytes(&sheet));
-    rest.extend(sheet_bytes(&holding(&sheet, &contents)));
+    rest.extend(sheet_bytes(&due));
     rest.extend([outcome, message_type]);
     rest.extend(numbers.into_iter().flat_map(u64::to_be_bytes));
     rest.extend(payload);
@@ -372,7 +383,8 @@ fn report_bytes(report: &Report) -> Vec<u8> {
 fn draw_report(random: &mut Random) -> Option<Drawn> {
     let used = random.below(ROWS + 1);
     let contents = any_contents(random, used);
-    let (sheet, lent) = any_sheet(random, &contents);
+    let arrivals = Arrivals::any(random, &contents);
+    let (sheet, lent) = any_sheet(random, &contents, &arrivals);
     let observer = Observer::from_sheet(&contents);
     let report = |(start, end, budget)| Report::from(observer.report(start, end, budget));
     let mut asked = questions(random, &contents, report);

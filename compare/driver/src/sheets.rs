@@ -12,34 +12,60 @@ use crate::rust_side::traffic::Sheet;
 /// The most rows of a run sheet.
 pub const MOST_ROWS: usize = 2_048;
 
-/// A fresh sheet of this capacity. Its columns hold anything, and most are longer than need be.
+/// A fresh sheet of this capacity. Its columns hold anything, and most are longer than need be. Every second
+/// time one column alone sets the capacity.
 pub fn fresh(random: &mut Random, capacity: usize) -> RunSheet {
-    let mut lengths = [0; RunSheet::COLUMNS].map(|_| capacity + random.length(8));
+    let least = capacity + random.below(2);
+    let mut lengths = [0; RunSheet::COLUMNS].map(|_| least + random.length(8));
     if capacity < MOST_ROWS {
         lengths[random.below(RunSheet::COLUMNS)] = capacity;
     }
-    RunSheet::fresh(lengths, || random.number())
+    dirty(random, lengths)
+}
+
+/// A fresh sheet with columns of these lengths that hold anything. Every second mark is 0, whatever the
+/// arrival time beside it.
+pub fn dirty(random: &mut Random, lengths: [usize; RunSheet::COLUMNS]) -> RunSheet {
+    let mut sheet = RunSheet::fresh(lengths, || random.number());
+    for mark in &mut sheet.marks {
+        if random.below(2) == 0 {
+            *mark = 0;
+        }
+    }
+    sheet
+}
+
+/// The lengths of a sheet's columns.
+fn lengths(sheet: &RunSheet) -> [usize; RunSheet::COLUMNS] {
+    [
+        sheet.sequences.len(),
+        sheet.send_timestamps.len(),
+        sheet.latencies.len(),
+        sheet.marks.len(),
+        sheet.arrival_timestamps.len(),
+    ]
 }
 
 /// The capacity of a sheet: its shortest column, at most 2,048.
 pub fn capacity(sheet: &RunSheet) -> usize {
-    sheet
-        .sequences
-        .len()
-        .min(sheet.send_timestamps.len())
-        .min(sheet.latencies.len())
-        .min(sheet.marks.len())
-        .min(MOST_ROWS)
+    lengths(sheet).into_iter().fold(MOST_ROWS, usize::min)
 }
 
-/// The sheet with these rows and counters in it, all other cells kept.
-pub fn holding(sheet: &RunSheet, contents: &Sheet) -> RunSheet {
+/// What the capacity would be without the column of arrival times: if it is more, that column alone sets it.
+pub fn capacity_without_arrivals(sheet: &RunSheet) -> usize {
+    let [others @ .., _] = lengths(sheet);
+    others.into_iter().fold(MOST_ROWS, usize::min)
+}
+
+/// The sheet with these rows, their arrival times and these counters in it, all other cells kept.
+pub fn holding(sheet: &RunSheet, contents: &Sheet, arrivals: &[u64]) -> RunSheet {
     let mut due = sheet.clone();
     for (at, row) in contents.rows.iter().enumerate() {
         due.sequences[at] = row.sequence;
         due.send_timestamps[at] = row.send_timestamp_ns;
         due.latencies[at] = row.latency;
         due.marks[at] = u8::from(row.returned);
+        due.arrival_timestamps[at] = arrivals[at];
     }
     due.counts = Counts {
         used: contents.rows.len(),
@@ -66,6 +92,10 @@ pub fn difference(sheet: &RunSheet, due: &RunSheet) -> Option<String> {
         .or_else(|| column("send time", &sheet.send_timestamps, &due.send_timestamps))
         .or_else(|| column("latency", &sheet.latencies, &due.latencies))
         .or_else(|| column("mark", &sheet.marks, &due.marks))
+        .or_else(|| {
+            let due = &due.arrival_timestamps;
+            column("arrival time", &sheet.arrival_timestamps, due)
+        })
 }
 
 /// What is asked of a report: a window's start and end, and a budget.

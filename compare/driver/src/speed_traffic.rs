@@ -19,6 +19,7 @@ use opc_proto_gtpu::to_datagram;
 use crate::cases::ipv4_probe;
 use crate::ours::Values;
 use crate::ours_traffic::{validate_elements_into, Counts, Engine, RunSheet};
+use crate::part::grouped;
 use crate::sheets::MOST_ROWS;
 
 pub const ROUNDS: usize = 201;
@@ -29,11 +30,20 @@ const REPEATS: usize = 4_096;
 /// What is timed, and the nanoseconds that ours and the Rust's take for it.
 pub type Timing = (String, f64, f64);
 
+/// The rows of the sheets that are timed.
+const ROWS: [usize; 3] = [16, 256, MOST_ROWS];
+
 pub fn speed() -> Vec<Timing> {
-    let mut timings: Vec<Timing> = [16, 256, 2_048].map(pairs).into();
-    timings.extend([whole_run(), report(), walk()]);
-    timings.extend([indication(), duplicate(), generator(), forecast()]);
+    let mut timings: Vec<Timing> = ROWS.map(pairs).into();
+    timings.extend(ROWS.map(whole_run));
+    timings.extend(ROWS.map(report));
+    timings.extend([walk(), indication(), duplicate(), generator(), forecast()]);
     timings
+}
+
+/// How often what goes over so many rows is done in a round: as many rows in all as 2,048 done once.
+fn repeats(rows: usize) -> usize {
+    MOST_ROWS / rows
 }
 
 /// A fresh sheet takes `rows` pairs of a sending and its return: the time of a pair.
@@ -63,59 +73,61 @@ fn pairs(rows: usize) -> Timing {
     (name, ours / rows as f64, rust / rows as f64)
 }
 
-/// A whole run of 2,048 packets: all are entered, all return, and the report is made. Ours enters
-/// the plan in one call and takes the list of returns in another.
-fn whole_run() -> Timing {
-    let packets = packets(MOST_ROWS);
-    let mut sheet = sheet(MOST_ROWS);
-    let times: Vec<u64> = packets
-        .iter()
-        .map(|packet| packet.send_timestamp_ns + 7)
-        .collect();
+/// A whole run of `rows` packets: all are entered, all return, and the report is made. Ours enters the plan
+/// in one call and takes the list of returns in another.
+fn whole_run(rows: usize) -> Timing {
+    let packets = packets(rows);
+    let mut sheet = sheet(rows);
+    let times: Vec<u64> = packets.iter().map(returned_at).collect();
     let lengths: Vec<usize> = packets.iter().map(|packet| packet.tpdu.len()).collect();
-    let tpdus: Vec<u8> = packets
-        .iter()
-        .flat_map(|packet| packet.tpdu.to_vec())
-        .collect();
-    let (mut returned, mut numbers) = (vec![0; MOST_ROWS], vec![0; MOST_ROWS]);
+    let tpdus: Vec<&[u8]> = packets.iter().map(|packet| &packet.tpdu[..]).collect();
+    let tpdus = tpdus.concat();
+    let (mut returned, mut numbers) = (vec![0; rows], vec![0; rows]);
     let rate = 1_000_000_000 / packets[1].send_timestamp_ns;
-    let budget = PacketContinuityBudget::zero_loss();
-    let our_budget = testkit_open::evidence::PacketContinuityBudget::zero_loss();
-    let (ours, rust) = take_turns(
+    let budget = testkit_open::evidence::PacketContinuityBudget::zero_loss();
+    let (ours, rust) = take_turns_repeatedly(
+        repeats(rows),
         || {
             sheet.counts = Counts::default();
-            let entered = sheet.record_sent_plan(MOST_ROWS as u64, rate, 0, 1);
+            let entered = sheet.record_sent_plan(rows as u64, rate, 0, 1);
             let taken =
                 sheet.record_received_tpdus(&times, &lengths, &tpdus, &mut returned, &mut numbers);
-            let report = sheet.report(0, black_box(9_000), our_budget);
-            assert!(report.received_packets == MOST_ROWS as u64 && report.lost_packets == 0);
+            let report = sheet.report(0, black_box(9_000), budget);
+            assert!(report.received_packets == rows as u64 && report.lost_packets == 0);
             (entered, taken, report)
         },
-        || {
-            let mut observer = ContinuityObserver::default();
-            for packet in &packets {
-                observer.record_sent(packet);
-            }
-            for packet in &packets {
-                let returned_at = packet.send_timestamp_ns + 7;
-                black_box(observer.record_received_tpdu(returned_at, &packet.tpdu)).unwrap();
-            }
-            let report = observer.report("", 0, black_box(9_000), budget);
-            (observer, report)
-        },
+        || whole_run_on_the_rust(&packets),
     );
-    (
-        "a whole run of 2,048: enter, return all, report".to_string(),
-        ours,
-        rust,
-    )
+    let count = grouped(rows as u64);
+    let name = format!("a whole run of {count}: enter, return all, report");
+    (name, ours, rust)
 }
 
-/// The report of 2,048 rows, every third of them lost.
-fn report() -> Timing {
-    let mut sheet = sheet(MOST_ROWS);
+fn returned_at(packet: &GeneratedPacket) -> u64 {
+    packet.send_timestamp_ns + 7
+}
+
+fn whole_run_on_the_rust(
+    packets: &[GeneratedPacket],
+) -> (ContinuityObserver, PacketContinuityReport) {
     let mut observer = ContinuityObserver::default();
-    for (index, packet) in packets(MOST_ROWS).iter().enumerate() {
+    for packet in packets {
+        observer.record_sent(packet);
+    }
+    for packet in packets {
+        let taken = observer.record_received_tpdu(returned_at(packet), &packet.tpdu);
+        black_box(taken).expect("a packet that was sent returns");
+    }
+    let budget = PacketContinuityBudget::zero_loss();
+    let report = observer.report("", 0, black_box(9_000), budget);
+    (observer, report)
+}
+
+/// The report of `rows` rows, every third of them lost.
+fn report(rows: usize) -> Timing {
+    let mut sheet = sheet(rows);
+    let mut observer = ContinuityObserver::default();
+    for (index, packet) in packets(rows).iter().enumerate() {
         let sent_at = packet.send_timestamp_ns;
         sheet.record_sent(packet.sequence, sent_at);
         observer.record_sent(packet);
@@ -128,11 +140,13 @@ fn report() -> Timing {
     }
     let budget = PacketContinuityBudget::zero_loss();
     let our_budget = testkit_open::evidence::PacketContinuityBudget::zero_loss();
-    let (ours, rust) = take_turns(
+    let (ours, rust) = take_turns_repeatedly(
+        repeats(rows),
         || sheet.report(0, black_box(9_000), our_budget),
         || observer.report("", 0, black_box(9_000), budget),
     );
-    ("report of 2,048 rows".to_string(), ours, rust)
+    let name = format!("report of {} rows", grouped(rows as u64));
+    (name, ours, rust)
 }
 
 /// The 12 bytes of an Error Indication.
@@ -278,6 +292,28 @@ fn packets(count: usize) -> Vec<GeneratedPacket> {
 
 fn sheet(rows: usize) -> RunSheet {
     RunSheet::fresh([rows; RunSheet::COLUMNS], || 0)
+}
+
+/// The medians of both, in nanoseconds, each done so often in a round: what is done once is too short to be
+/// timed alone.
+fn take_turns_repeatedly<A, B>(
+    repeats: usize,
+    mut ours: impl FnMut() -> A,
+    mut rust: impl FnMut() -> B,
+) -> (f64, f64) {
+    let (ours, rust) = take_turns(
+        || {
+            for _ in 0..repeats {
+                black_box(ours());
+            }
+        },
+        || {
+            for _ in 0..repeats {
+                black_box(rust());
+            }
+        },
+    );
+    (ours / repeats as f64, rust / repeats as f64)
 }
 
 /// The medians of both, in nanoseconds.

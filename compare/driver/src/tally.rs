@@ -22,7 +22,11 @@ use crate::traffic::any_plan;
 const G_PDU: u8 = 255;
 
 /// The tally: in plan order, a row for each packet, and the sheet's counters.
-struct Tally(Sheet);
+struct Tally {
+    sheet: Sheet,
+    /// Beside each row its arrival time: 0, then the time of the return that marks it (document 02, job 8).
+    arrivals: Vec<u64>,
+}
 
 impl Tally {
     /// Takes the packets, each with its sequence and send time.
@@ -33,16 +37,31 @@ impl Tally {
             latency: 0,
             returned: false,
         };
-        Self(Sheet {
-            rows: packets.map(row).collect(),
-            ..Sheet::default()
-        })
+        let rows: Vec<Row> = packets.map(row).collect();
+        Self {
+            arrivals: vec![0; rows.len()],
+            sheet: Sheet {
+                rows,
+                ..Sheet::default()
+            },
+        }
+    }
+
+    /// A sheet of ours as it has to be, every cell past the used rows kept.
+    fn on(&self, sheet: &RunSheet) -> RunSheet {
+        holding(sheet, &self.sheet, &self.arrivals)
+    }
+
+    /// The arrival time of a packet, if its row is marked.
+    fn marked_at(&self, packet: usize) -> Option<u64> {
+        let is_marked = self.sheet.rows[packet].returned;
+        is_marked.then(|| self.arrivals[packet])
     }
 
     /// Takes a return: its packet, by place in the plan, its time, and whether a reader refuses the
     /// bytes that arrived.
     fn take(&mut self, packet: usize, time: u64, is_refused: bool) {
-        let sheet = &mut self.0;
+        let sheet = &mut self.sheet;
         let row = sheet.rows[packet];
         if is_refused || time < row.send_timestamp_ns {
             return;
@@ -57,6 +76,7 @@ impl Tally {
         }
         sheet.rows[packet].returned = true;
         sheet.rows[packet].latency = time - row.send_timestamp_ns;
+        self.arrivals[packet] = time;
     }
 
     /// Leaf 7 on the tally.
@@ -66,7 +86,7 @@ impl Tally {
             duplicates,
             out_of_order,
             error_indications,
-        } = &self.0;
+        } = &self.sheet;
         let latencies: Vec<u64> = rows
             .iter()
             .filter(|row| row.returned)
@@ -149,6 +169,14 @@ impl Return {
             sheet.record_received_tpdu(self.time, &self.arrived)
         }
     }
+
+    /// The same return, no bit turned.
+    fn mended(&self) -> Self {
+        Self {
+            arrived: self.whole.clone(),
+            ..self.clone()
+        }
+    }
 }
 
 /// What a list of returns had in it.
@@ -162,6 +190,25 @@ struct Met {
     too_early: u64,
     duplicates: u64,
     out_of_order: u64,
+    first_above_0: u64,
+    first_at_0: u64,
+    duplicates_at_another_time: u64,
+}
+
+impl Met {
+    /// Counts a return that ours answered by this number; its row was marked at this time, if it was.
+    fn add(&mut self, each: &Return, number: u8, marked_at: Option<u64>) {
+        let is_taken = number == 0;
+        let is_first = is_taken && marked_at.is_none();
+        let is_another = marked_at.is_some_and(|time| time != each.time);
+        self.returns += 1;
+        self.too_early += u64::from(number == TIMESTAMP_REVERSED);
+        self.damaged_refused += u64::from(each.damaged && !is_taken);
+        self.damaged_taken += u64::from(each.damaged && is_taken);
+        self.first_above_0 += u64::from(is_first && each.time > 0);
+        self.first_at_0 += u64::from(is_first && each.time == 0);
+        self.duplicates_at_another_time += u64::from(is_taken && is_another);
+    }
 }
 
 /// Lists of returns on random accepted plans: after each return our sheet must be the tally's, and
@@ -188,6 +235,9 @@ pub fn tallies(seed: u64, rounds: u64) -> Part {
         ("too early", met.too_early),
         ("duplicates", met.duplicates),
         ("out of order", met.out_of_order),
+        ("first above time 0", met.first_above_0),
+        ("first at time 0", met.first_at_0),
+        ("duplicates at another time", met.duplicates_at_another_time),
     ];
     let missing: Vec<&str> = counts
         .iter()
@@ -239,32 +289,23 @@ fn list(part: &mut Part, random: &mut Random, met: &mut Met, packets: &[(u64, u6
     };
     for each in &returns {
         let before = sheet.clone();
+        let marked_at = tally.marked_at(each.packet);
         let Noted { number, tunnel, .. } = each.on(&mut sheet);
         tally.take(each.packet, each.time, is_refused(part, &each.arrived));
-        let due = holding(&before, &tally.0);
-        let answer = (tunnel, difference(&sheet, &due));
+        let answer = (tunnel, difference(&sheet, &tally.on(&before)));
         part.case(&each.arrived, answer, (Tunnel::default(), None));
-
-        met.returns += 1;
-        met.too_early += u64::from(number == TIMESTAMP_REVERSED);
-        met.damaged_refused += u64::from(each.damaged && number != 0);
-        met.damaged_taken += u64::from(each.damaged && number == 0);
+        met.add(each, number, marked_at);
         if number == 0 || !each.damaged {
-            let mended = Return {
-                arrived: each.whole.clone(),
-                ..each.clone()
-            };
-            let noted = mended.on(&mut second);
+            let noted = each.mended().on(&mut second);
             part.case(&each.whole, noted.tunnel, Tunnel::default());
         }
     }
     met.lists += 1;
-    met.duplicates += tally.0.duplicates;
-    met.out_of_order += tally.0.out_of_order;
+    met.duplicates += tally.sheet.duplicates;
+    met.out_of_order += tally.sheet.out_of_order;
 
-    let due = holding(&second, &tally.0);
-    part.case(&[], difference(&second, &due), None);
-    for question in questions(random, &tally.0, |question| tally.report(question)) {
+    part.case(&[], difference(&second, &tally.on(&second)), None);
+    for question in questions(random, &tally.sheet, |question| tally.report(question)) {
         let (start, end, budget) = question;
         let due = tally.report(question);
         part.case(&[], sheet.report(start, end, budget), due);

@@ -1,5 +1,5 @@
--- The loops that gather over a column: what is gathered up to i, with what is left, is the whole answer. The law is said once, over what is
--- gathered and how; the order of neighbours, which looks at two entries, has one of its own.
+-- The loops that gather over columns: what is gathered up to i, with what is left, is the whole answer. The law is said once, over what is
+-- gathered and how. A loop that looks at several rows in a turn cuts them off the front of what is left.
 use Prim.Native.Nat.{ℕ, zero, suc, _+_, _-_, _≤_, _<_, min}
 use mathlib.Core.Path.{_≡_, refl, sym, ap, _∙_}
 use mathlib.Core.List.{List, [], _∷_}
@@ -7,11 +7,11 @@ use mathlib.Core.Bool.{Bool, true, false, _&&_, _||_}
 use native.Mathlib.Nat.{le-of-suc-le-suc}
 use native.Mathlib.Numerals.{add-one}
 use native.Mathlib.Omega.{arith}
-use lib.Dec.{ltb}
+use lib.Dec.{ltb, eqb}
 use lib.ListN.{length, getD, take, drop, length-take, length-drop}
-use lib.Seq.{drop-cons, getD-take, length-take-le, take-all}
-use borrow.Author.Tests.{lt-ltb, le-ltb}
-use Rattle.columns.specs.Columns.{rising}
+use lib.Seq.{slice, drop-cons, drop-drop, drop-at, getD-take, length-take-le, take-all, take-nil, take-take, take-add}
+use Rattle.error.proofs.Tests.{true-not-false}
+use Rattle.columns.specs.Columns.{rising, allMarked, returnsKnown}
 
 pub and-assoc : (a b c : Bool) → (a && b) && c ≡ a && (b && c)
 and-assoc true b c = refl
@@ -42,6 +42,10 @@ take-whole zero m (x ∷ l) e = rw (let z : m ≡ 0 = omega arith in z)
 take-whole (suc n) zero (x ∷ l) e = absurd (omega arith)
 take-whole (suc n) (suc m) (x ∷ l) e = ap (λ (r : List _). x ∷ r) (take-whole n m l (omega arith))
 
+-- a part in the middle, by its length
+pub slice-front : (k i : ℕ) (l : List ℕ) → i + k ≤ length l → slice i (i + k) l ≡ take k (drop i l)
+slice-front k i l h = ap (drop i) (take-add i k l) ∙ drop-at (take i l) (take k (drop i l)) i (length-take-le i l (omega arith))
+
 -- what is left of the first n entries of a column
 module _ (column : List ℕ) (n : ℕ) (fits : n ≤ length column) where
   -- entry i, and what is left after it
@@ -54,55 +58,127 @@ module _ (column : List ℕ) (n : ℕ) (fits : n ≤ length column) where
   pub nothing-left : (i : ℕ) → n ≤ i → drop i (take n column) ≡ []
   nothing-left i h = drop-past (take n column) i (omega (arith, length-take-le n column fits))
 
-  module _ {A : Type 0} (op : A → A → A) (assoc : (a b c : A) → op (op a b) c ≡ op a (op b c)) (one : ℕ → A) (all : List ℕ → A)
-      (at : (x : ℕ) (xs : List ℕ) → all (x ∷ xs) ≡ op (one x) (all xs)) (whole : A) where
-    pub turn : (so-far : A) (i : ℕ) → i < n → op so-far (all (drop i (take n column))) ≡ whole
-        → op (op so-far (one (getD column i 0))) (all (drop (i + 1) (take n column))) ≡ whole
-    turn so-far i h e =
-        assoc so-far (one (getD column i 0)) (all (drop (i + 1) (take n column)))
-        ∙ ap (op so-far) (sym (ap all (left i h) ∙ at (getD column i 0) (drop (i + 1) (take n column))))
-        ∙ e
+  -- the front of what is left is that of the column
+  pub front-left : (k i : ℕ) → i + k ≤ n → take k (drop i (take n column)) ≡ take k (drop i column)
+  front-left k i h =
+      sym (slice-front k i (take n column) (omega (arith, length-take-le n column fits)))
+      ∙ ap (drop i) (take-take (i + k) n column h)
+      ∙ slice-front k i column (omega arith)
 
-    pub end : (so-far : A) (i : ℕ) → n ≤ i → op so-far (all []) ≡ so-far → op so-far (all (drop i (take n column))) ≡ whole → so-far ≡ whole
-    end so-far i h unit e = sym unit ∙ ap (λ (l : List ℕ). op so-far (all l)) (sym (nothing-left i h)) ∙ e
+-- what is gathered so far, with the rest from i on, is the whole
+module _ {A : Type 0} (op : A → A → A) (assoc : (a b c : A) → op (op a b) c ≡ op a (op b c)) (rest : ℕ → A) {whole : A} where
+  pub turn : (so-far x : A) (i : ℕ) → rest i ≡ op x (rest (i + 1)) → op so-far (rest i) ≡ whole → op (op so-far x) (rest (i + 1)) ≡ whole
+  turn so-far x i step e = assoc so-far x (rest (i + 1)) ∙ ap (op so-far) (sym step) ∙ e
 
-rising-more : (so-far : Bool) (l : List ℕ) (j : ℕ) → suc j < length l
-    → (so-far && ltb (getD l j 0) (getD l (suc j) 0)) && rising (drop (suc j) l) ≡ so-far && rising (drop j l)
-rising-more so-far l j h =
-    let g : j < length l = omega arith in
-    rw (drop-cons l j 0 g, drop-cons l (suc j) 0 h) (and-assoc so-far _ _)
+  pub end : (so-far none : A) (i : ℕ) → op so-far none ≡ so-far → rest i ≡ none → op so-far (rest i) ≡ whole → so-far ≡ whole
+  end so-far none i unit last e = sym unit ∙ ap (op so-far) (sym last) ∙ e
 
-rising-short : (l : List ℕ) → length l ≤ 1 → rising l ≡ true
-rising-short [] h = refl
-rising-short (x ∷ []) h = refl
-rising-short (x ∷ y ∷ l) h = absurd (omega arith)
+-- the k entries from i on
+abbrev pub entries : ℕ → ℕ → List ℕ → List ℕ
+entries zero i l = []
+entries (suc k) i l = getD l i 0 ∷ entries k (suc i) l
+
+pub entries-are : (k i : ℕ) (l : List ℕ) → i + k ≤ length l → take k (drop i l) ≡ entries k i l
+entries-are zero i l h = refl
+entries-are (suc k) i l h =
+    ap (take (suc k)) (drop-cons l i 0 (omega arith)) ∙ ap (λ (r : List ℕ). getD l i 0 ∷ r) (entries-are k (suc i) l (omega arith))
+
+-- the index k behind i, as `entries` has it
+abbrev further : ℕ → ℕ → ℕ
+further zero i = i
+further (suc k) i = further k (suc i)
+
+pub behind : (k i : ℕ) → i + k ≡ further k i
+behind zero i = omega arith
+behind (suc k) i = let e : i + suc k ≡ suc i + k = omega arith in e ∙ behind k (suc i)
+
+-- ---- rising
+
+-- what is cut off overlaps with what is left by one
+rising-cut : (k : ℕ) (l : List ℕ) → k < length l → rising l ≡ rising (take (suc k) l) && rising (drop k l)
+rising-cut k [] h = absurd (omega arith)
+rising-cut zero (x ∷ l) h = refl
+rising-cut (suc k) (x ∷ []) h = absurd (omega arith)
+rising-cut (suc k) (x ∷ y ∷ l) h = ap (λ (b : Bool). ltb x y && b) (rising-cut k (y ∷ l) (omega arith)) ∙ sym (and-assoc (ltb x y) _ _)
+
+pub rising-one : (l : List ℕ) → length l ≤ 1 → rising l ≡ true
+rising-one [] h = refl
+rising-one (x ∷ []) h = refl
+rising-one (x ∷ y ∷ l) h = absurd (omega arith)
 
 module _ (column : List ℕ) (n : ℕ) (fits : n ≤ length column) where
-  rising-turn : (so-far : Bool) (i : ℕ) → 1 ≤ i → i < n → so-far && rising (drop (i - 1) (take n column)) ≡ rising (take n column)
-      → (so-far && ltb (getD column (i - 1) 0) (getD column i 0)) && rising (drop (i + 1 - 1) (take n column)) ≡ rising (take n column)
-  rising-turn so-far zero l h e = absurd (omega arith)
-  rising-turn so-far (suc j) l h e =
-      let d : suc j - 1 ≡ j = omega arith in
-      let d' : suc j + 1 - 1 ≡ suc j = omega arith in
-      rw (d, d', ← getD-take n column j 0 (omega arith), ← getD-take n column (suc j) 0 h)
-      (rising-more so-far (take n column) j (omega (arith, length-take-le n column fits)) ∙ (rw d at e))
+  -- k neighbours in a turn
+  pub rising-turn : (k i : ℕ) → i + suc k ≤ n
+      → rising (drop i (take n column)) ≡ rising (take (suc k) (drop i column)) && rising (drop (i + k) (take n column))
+  rising-turn k i h =
+      let long : k < length (drop i (take n column)) = simp (length-drop, length-take) (omega arith) in
+      rising-cut k (drop i (take n column)) long
+      ∙ ap (λ (l : List ℕ). rising l && rising (drop k (drop i (take n column)))) (front-left column n fits (suc k) i h)
+      ∙ ap (λ (l : List ℕ). rising (take (suc k) (drop i column)) && rising l) (drop-drop k i (take n column))
 
-  -- the neighbours before i rise: the rest decides
-  pub rising-on : (i : ℕ) → 1 ≤ i → i < n → getD column (i - 1) 0 < getD column i 0
-      → rising (drop (i - 1) (take n column)) ≡ rising (take n column) → rising (drop (i + 1 - 1) (take n column)) ≡ rising (take n column)
-  rising-on i l h g e =
-      ap (λ (b : Bool). b && rising (drop (i + 1 - 1) (take n column))) (sym (lt-ltb (getD column (i - 1) 0) (getD column i 0) g))
-      ∙ rising-turn true i l h e
+  -- a turn of the loop, by what the entries that it looks at say
+  pub rising-turned : (k i : ℕ) {b whole : Bool} → i + suc k ≤ n → rising (take (suc k) (drop i column)) ≡ b → rising (drop i (take n column)) ≡ whole
+      → b && rising (drop (i + k) (take n column)) ≡ whole
+  rising-turned k i h e w = ap (λ (x : Bool). x && rising (drop (i + k) (take n column))) (sym e) ∙ sym (rising-turn k i h) ∙ w
 
-  -- two neighbours do not: nor does the whole
-  pub rising-stops : (i : ℕ) → 1 ≤ i → i < n → getD column i 0 ≤ getD column (i - 1) 0
-      → rising (drop (i - 1) (take n column)) ≡ rising (take n column) → false ≡ rising (take n column)
-  rising-stops i l h g e =
-      ap (λ (b : Bool). b && rising (drop (i + 1 - 1) (take n column))) (sym (le-ltb (getD column (i - 1) 0) (getD column i 0) g))
-      ∙ rising-turn true i l h e
+  -- one neighbour in a turn
+  pub rising-next : (i : ℕ) → i + 1 < n
+      → rising (drop i (take n column)) ≡ ltb (getD column i 0) (getD column (i + 1) 0) && rising (drop (i + 1) (take n column))
+  rising-next i h =
+      rising-turn 1 i (omega arith)
+      ∙ ap (λ (b : Bool). b && rising (drop (i + 1) (take n column)))
+      (ap rising (entries-are 2 i column (omega arith)) ∙ and-true _ ∙ ap (λ (k : ℕ). ltb (getD column i 0) (getD column k 0)) (sym (add-one i)))
 
-  pub rising-end : (so-far : Bool) (i : ℕ) → 1 ≤ i → n ≤ i → so-far && rising (drop (i - 1) (take n column)) ≡ rising (take n column)
-      → so-far ≡ rising (take n column)
-  rising-end so-far i l h e =
-      let f : length (drop (i - 1) (take n column)) ≤ 1 = simp (length-drop, length-take) (omega arith) in
-      sym (and-true so-far) ∙ (rw (rising-short (drop (i - 1) (take n column)) f) at e)
+  pub rising-last : (i : ℕ) → n ≤ i + 1 → rising (drop i (take n column)) ≡ true
+  rising-last i h = rising-one (drop i (take n column)) (simp (length-drop, length-take) (omega arith))
+
+-- nine entries are twice five, with one in common
+pub rising-nine : (l : List ℕ) (i : ℕ) → i + 9 ≤ length l
+    → rising (take 5 (drop i l)) && rising (take 5 (drop (i + 4) l)) ≡ rising (take 9 (drop i l))
+rising-nine l i h =
+    let e : i + 4 + 5 ≡ i + 9 = omega arith in
+    ap (λ (x : List ℕ). rising (take 5 (drop i l)) && rising x) (sym (slice-front 5 (i + 4) l (omega arith)) ∙ ap (λ (n : ℕ). drop (i + 4) (take n l)) e)
+    ∙ sym (rising-turn l (i + 9) h 4 i (omega arith))
+    ∙ ap rising (slice-front 9 i l h)
+
+-- ---- marks and arrival times
+
+known-none : (ms : List ℕ) (k : ℕ) → returnsKnown ms (take k []) ≡ true
+known-none [] k = refl
+known-none (m ∷ ms) zero = refl
+known-none (m ∷ ms) (suc k) = refl
+
+known-cut : (k : ℕ) (ms ts : List ℕ) → returnsKnown ms ts ≡ returnsKnown (take k ms) (take k ts) && returnsKnown (drop k ms) (drop k ts)
+known-cut zero ms ts = refl
+known-cut (suc k) [] ts = refl
+known-cut (suc k) (m ∷ ms) [] = sym (known-none (drop k ms) 0)
+known-cut (suc k) (m ∷ ms) (t ∷ ts) = ap (λ (b : Bool). (eqb m 1 || (eqb m 0 && eqb t 0)) && b) (known-cut k ms ts) ∙ sym (and-assoc (eqb m 1 || (eqb m 0 && eqb t 0)) _ _)
+
+-- where all rows are marked, no time is looked at
+pub marked-known : (ms ts : List ℕ) → allMarked ms ≡ true → returnsKnown ms ts ≡ true
+marked-known [] ts e = refl
+marked-known (m ∷ ms) [] e = refl
+marked-known (m ∷ ms) (t ∷ ts) e = go (eqb m 1) e (marked-known ms ts)
+  where
+    go : (b : Bool) → b && allMarked ms ≡ true → (allMarked ms ≡ true → returnsKnown ms ts ≡ true) → (b || (eqb m 0 && eqb t 0)) && returnsKnown ms ts ≡ true
+    go true f rest = rest f
+    go false f rest = absurd (true-not-false (sym f))
+
+module _ (marks arrivals : List ℕ) (n : ℕ) (marks-fit : n ≤ length marks) (arrivals-fit : n ≤ length arrivals) where
+  -- k rows in a turn
+  pub known-turn : (k i : ℕ) → i + k ≤ n
+      → returnsKnown (drop i (take n marks)) (drop i (take n arrivals))
+      ≡ returnsKnown (take k (drop i marks)) (take k (drop i arrivals)) && returnsKnown (drop (i + k) (take n marks)) (drop (i + k) (take n arrivals))
+  known-turn k i h =
+      known-cut k (drop i (take n marks)) (drop i (take n arrivals))
+      ∙ (λ j.
+      returnsKnown (front-left marks n marks-fit k i h j) (front-left arrivals n arrivals-fit k i h j)
+      && returnsKnown (drop-drop k i (take n marks) j) (drop-drop k i (take n arrivals) j))
+
+-- rows past the end of a column are not looked at
+pub known-whole : (n m : ℕ) (ms ts : List ℕ) → m ≡ min n (min (length ms) (length ts)) → returnsKnown (take m ms) (take m ts) ≡ returnsKnown (take n ms) (take n ts)
+known-whole n m [] ts e = ap (λ (l : List ℕ). returnsKnown l (take m ts)) (take-nil m) ∙ ap (λ (l : List ℕ). returnsKnown l (take n ts)) (sym (take-nil n))
+known-whole n m (x ∷ ms) [] e = known-none (take m (x ∷ ms)) m ∙ sym (known-none (take n (x ∷ ms)) n)
+known-whole zero m (x ∷ ms) (t ∷ ts) e = rw (let z : m ≡ 0 = omega arith in z)
+known-whole (suc n) zero (x ∷ ms) (t ∷ ts) e = absurd (omega arith)
+known-whole (suc n) (suc m) (x ∷ ms) (t ∷ ts) e = ap (λ (b : Bool). (eqb x 1 || (eqb x 0 && eqb t 0)) && b) (known-whole n m ms ts (omega arith))

@@ -83,7 +83,8 @@ sequenceOverflow = 19
 abbrev pub sendTimestampOverflow : ℕ
 sendTimestampOverflow = 20
 
--- used count above capacity, used rows not rising, a used row's mark not 0 or 1 (added)
+-- used count above capacity, used rows not rising, a used row's mark not 0 or 1, a nonzero return time on an unmarked
+-- used row (added)
 abbrev pub malformedObserver : ℕ
 malformedObserver = 21
 

@@ -31,7 +31,7 @@ use Rattle.observer.proofs.Judging.{Well, well, place-is, held-is}
 use Rattle.observer.proofs.OutOfOrder.{below-highest, above-behind}
 use Rattle.observer.proofs.Calls.{return-unknown, return-early, return-duplicate, return-first}
 
--- row k returns: its latency and its mark are stored
+-- row k returns: its latency, its mark and its arrival time are stored
 returned-columns : {o : Observer} (w : Well o) (k t : ℕ) (c : ObserverCounts) → c .used ≡ o .counts .used → k < o .counts .used
     → withRows (set (rows o) k (returned t (rowAt k (rows o)))) (withCounts c o)
     ≡ observerOf (returnedAt k t (o .columns)) c
@@ -48,6 +48,7 @@ returned-columns {o} w k t c e h =
           (column-set (λ r. r .latency) (rows o) (o .columns .latencies) (f .count) (f .latencies) k r h
           ∙ ap (λ (s : ℕ). set (o .columns .latencies) k (t - s)) sent) i;
       marks = column-set (λ r. r .mark) (rows o) (o .columns .marks) (f .count) (f .marks) k r h i;
+      «arrival_timestamps» = column-set (λ r. r .«arrival_timestamp_ns») (rows o) (o .columns .«arrival_timestamps») (f .count) (f .«arrival_timestamps») k r h i;
     }) (withUsed ((length-set (rows o) k r ∙ f .count ∙ sym e) i) c)
 
 used-kept : (late : Bool) (c : ObserverCounts) → outOfOrderIf late c .used ≡ c .used

@@ -2,7 +2,7 @@
 use Prim.Native.Nat.{ℕ, suc, _≤_, _<_}
 use mathlib.Core.Path.{_≡_, refl, sym, ap, _∙_}
 use mathlib.Core.List.{List, [], _∷_, map}
-use mathlib.Core.Bool.{Bool, true, false}
+use mathlib.Core.Bool.{Bool, true, false, _||_}
 use native.Mathlib.Omega.{arith}
 use lib.Dec.{eqb, ltb}
 use lib.ListN.{length, getD, set, drop, length-set, length-map}
@@ -13,14 +13,14 @@ use Rattle.error.proofs.Tests.{and-both}
 use Rattle.observer.specs.Counts.{withUsed, oneDuplicate, outOfOrderIf, oneErrorIndication}
 use Rattle.observer.specs.Observer.{Row, Observer, capacity, rows, rowAt, sequencesOf, column, withRows, withCounts}
 use Rattle.columns.specs.Columns.{rising}
-use Rattle.observer.specs.Judge.{rowsKnown, wellFormed, judged, Step, step}
+use Rattle.observer.specs.Judge.{rowKnown, rowsKnown, wellFormed, judged, Step, step}
 use Rattle.columns.specs.Place.{holds}
 use Rattle.observer.specs.Place.{placeOf, wasSent, rowOf, highestMarked}
 use Rattle.observer.specs.Sending.{resent, entered, sendingCauses, recordSent}
 use Rattle.observer.specs.Returning.{returned, returnCauses, afterReturn, recordReturn, recordErrorIndication}
 use Rattle.observer.specs.declared.ObserverCounts.{ObserverCounts}
 use Rattle.observer.specs.Claims.{PutBack, MalformedIs, FreshIsWell, Call, sending, returning, indicating, recordCall, CallsKeepWell, SameFrom, RestKept, SearchFinds, FullOnlyWhenFull, FullAtRow2049, SentAgain, BelowHighestMarked}
-use Rattle.columns.proofs.Search.{both-right, rising-at, place-at, held-within}
+use Rattle.columns.proofs.Search.{both-left, both-right, rising-at, place-at, held-within}
 use Rattle.rows.specs.Columns.{columnLengths}
 use Rattle.rows.proofs.Within.{holds-2048}
 use Rattle.observer.proofs.Rows.{rows-are, rows-with, counts-with, field-at}
@@ -56,9 +56,29 @@ neighbours-rise [] h = refl
 neighbours-rise (r ∷ []) h = refl
 neighbours-rise (r ∷ s ∷ rs) h = and-both _ _ (lt-ltb _ _ (h 0 (omega arith))) (neighbours-rise (s ∷ rs) (λ k g. h (suc k) (omega arith)))
 
-marks-known : (rs : List Row) → ((k : ℕ) → k < length rs → rowAt k rs .mark ≤ 1) → rowsKnown rs ≡ true
-marks-known [] h = refl
-marks-known (r ∷ rs) h = and-both _ _ (lt-ltb (r .mark) 2 (omega (arith, h 0 (omega arith)))) (marks-known rs (λ k g. h (suc k) (omega arith)))
+-- the mark of a known row is 0 or 1, and without a mark the arrival time is 0
+pub mark-of-known : (r : Row) → rowKnown r ≡ true → r .mark ≤ 1
+mark-of-known r e = omega (arith, ltb-true (r .mark) 2 (both-left _ _ e))
+
+arrival-of-known : (r : Row) → rowKnown r ≡ true → r .mark ≡ 0 → r .«arrival_timestamp_ns» ≡ 0
+arrival-of-known r e m = go (eqb (r .mark) 1) refl (both-right (ltb (r .mark) 2) _ e)
+  where
+    go : (b : Bool) → eqb (r .mark) 1 ≡ b → (b || eqb (r .«arrival_timestamp_ns») 0) ≡ true → r .«arrival_timestamp_ns» ≡ 0
+    go true f g = absurd (omega (arith, eqb-true (r .mark) 1 f))
+    go false f g = eqb-true _ 0 g
+
+row-is-known : (r : Row) → r .mark ≤ 1 → (r .mark ≡ 0 → r .«arrival_timestamp_ns» ≡ 0) → rowKnown r ≡ true
+row-is-known r m a = and-both _ _ (lt-ltb (r .mark) 2 (omega arith)) (go (eqb (r .mark) 1) refl)
+  where
+    go : (b : Bool) → eqb (r .mark) 1 ≡ b → (b || eqb (r .«arrival_timestamp_ns») 0) ≡ true
+    go true f = refl
+    go false f = eq-eqb _ 0 (a (omega (arith, eqb-false (r .mark) 1 f)))
+
+all-known : (rs : List Row) → ((k : ℕ) → k < length rs → rowAt k rs .mark ≤ 1)
+    → ((k : ℕ) → k < length rs → rowAt k rs .mark ≡ 0 → rowAt k rs .«arrival_timestamp_ns» ≡ 0) → rowsKnown rs ≡ true
+all-known [] h g = refl
+all-known (r ∷ rs) h g =
+    and-both _ _ (row-is-known r (h 0 (omega arith)) (g 0 (omega arith))) (all-known rs (λ k l. h (suc k) (omega arith)) (λ k l. g (suc k) (omega arith)))
 
 pub malformed-is : MalformedIs
 unfolding wellFormed
@@ -75,9 +95,10 @@ malformed-is o =
             field-at (λ x. x .sequence) rs k (omega arith),
             field-at (λ x. x .sequence) rs (suc k) h,
           ));
-      unknown-mark = λ k h g. refuted o (λ w. omega (arith, ltb-true (rowAt k rs .mark) 2 (row-known o k (well-rows o w))));
-      otherwise = λ fits rise marks.
-          and-both _ _ (le-leb (o .counts .used) (capacity o) fits) (and-both _ _ (neighbours-rise rs rise) (marks-known rs marks));
+      unknown-mark = λ k h g. refuted o (λ w. omega (arith, mark-of-known (rowAt k rs) (row-known o k (well-rows o w))));
+      unmarked-arrival = λ k h m g. refuted o (λ w. omega (arith, arrival-of-known (rowAt k rs) (row-known o k (well-rows o w)) m));
+      otherwise = λ fits rise marks arrivals.
+          and-both _ _ (le-leb (o .counts .used) (capacity o) fits) (and-both _ _ (neighbours-rise rs rise) (all-known rs marks arrivals));
     }
 
 -- ---- the calls keep an observer well formed
@@ -117,7 +138,7 @@ module _ (o : Observer) (w : wellFormed o ≡ true) where
           kept (return-first o w q t e (ltb-false _ _ f) (eqb-false _ _ g))
           (set-well o (outOfOrderIf (ltb q (highestMarked (rows o))) (o .counts)) (placeOf q (rows o)) (returned t (rowOf q (rows o))) rows-well-at count refl refl)
 
-  keeps : (call : Call) → wellFormed (recordCall o call .observer) ≡ true
+  pub keeps : (call : Call) → wellFormed (recordCall o call .observer) ≡ true
   keeps (sending q t) = keeps-sent q t
   keeps (returning t q) = keeps-arrival q t
   keeps indicating = kept (indication-counted o w) (counts-well (oneErrorIndication (o .counts)) o refl ∙ w)
@@ -136,7 +157,7 @@ module _ (o : Observer) where
   Rest next = SameFrom (next .counts .used) (o .columns) (next .columns)
 
   counted : (c : ObserverCounts) → Rest (withCounts c o)
-  counted c = record { sequences = refl; «send_timestamps» = refl; latencies = refl; marks = refl }
+  counted c = record { sequences = refl; «send_timestamps» = refl; latencies = refl; marks = refl; «arrival_timestamps» = refl }
 
   written : (rs : List Row) (c : ObserverCounts) → Rest (withRows rs (withCounts c o))
   unfolding withRows
@@ -145,6 +166,7 @@ module _ (o : Observer) where
     «send_timestamps» = column-kept (λ r. r .«send_timestamp_ns») rs (o .columns .«send_timestamps»);
     latencies = column-kept (λ r. r .latency) rs (o .columns .latencies);
     marks = column-kept (λ r. r .mark) rs (o .columns .marks);
+    «arrival_timestamps» = column-kept (λ r. r .«arrival_timestamp_ns») rs (o .columns .«arrival_timestamps»);
   }
 
   -- a refusal leaves all as it was
@@ -185,13 +207,13 @@ rest-kept o call = after-call o call
 -- ---- the search
 
 module _ (rs : List Row) (r : rising (sequencesOf rs) ≡ true) where
-  place-of-row : (k : ℕ) → k < length rs → placeOf (getD (sequencesOf rs) k 0) rs ≡ k
+  pub place-of-row : (k : ℕ) → k < length rs → placeOf (getD (sequencesOf rs) k 0) rs ≡ k
   place-of-row k h =
       let l : length (sequencesOf rs) ≡ length rs = length-map rs (λ x. x .sequence) in
       place-at (getD (sequencesOf rs) k 0) (sequencesOf rs) k (omega arith)
       (λ i g. rising-at (sequencesOf rs) i k r g (omega arith)) (λ g. omega arith)
 
-  finds-row : (k : ℕ) → k < length rs → wasSent (getD (sequencesOf rs) k 0) rs ≡ true
+  pub finds-row : (k : ℕ) → k < length rs → wasSent (getD (sequencesOf rs) k 0) rs ≡ true
   unfolding holds
   finds-row k h =
       let q : ℕ = getD (sequencesOf rs) k 0 in

@@ -42,6 +42,7 @@ module _ {o : Observer} (w : Well o) (k : ℕ) where
         «send_timestamps» = column-set (λ r. r .«send_timestamp_ns») (rows o) (o .columns .«send_timestamps») (f .count) (f .«send_timestamps») k r h i;
         latencies = column-same (λ r. r .latency) (rows o) (o .columns .latencies) (f .count) (f .latencies) k r refl i;
         marks = column-same (λ r. r .mark) (rows o) (o .columns .marks) (f .count) (f .marks) k r refl i;
+        «arrival_timestamps» = column-same (λ r. r .«arrival_timestamp_ns») (rows o) (o .columns .«arrival_timestamps») (f .count) (f .«arrival_timestamps») k r refl i;
       }) (withUsed ((length-set (rows o) k r ∙ f .count) i) (o .counts))
 
   -- a new row at k: an entry is put in, in each column
@@ -58,6 +59,7 @@ module _ {o : Observer} (w : Well o) (k : ℕ) where
         «send_timestamps» = column-put (λ r. r .«send_timestamp_ns») (rows o) (o .columns .«send_timestamps») (f .count) (f .«send_timestamps») k r h (omega (arith, free .«send_timestamps»)) i;
         latencies = column-put (λ r. r .latency) (rows o) (o .columns .latencies) (f .count) (f .latencies) k r h (omega (arith, free .latencies)) i;
         marks = column-put (λ r. r .mark) (rows o) (o .columns .marks) (f .count) (f .marks) k r h (omega (arith, free .marks)) i;
+        «arrival_timestamps» = column-put (λ r. r .«arrival_timestamp_ns») (rows o) (o .columns .«arrival_timestamps») (f .count) (f .«arrival_timestamps») k r h (omega (arith, free .«arrival_timestamps»)) i;
       }) (withUsed ((length-put k r (rows o) ∙ ap suc (f .count) ∙ sym (add-one (o .counts .used))) i) (o .counts))
 
 -- what an entry is answered by, and the columns as it leaves them

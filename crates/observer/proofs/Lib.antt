@@ -7,3 +7,4 @@ pub mod Entering
 pub mod Arriving
 pub mod Keeping
 pub mod Claims
+pub mod Arrivals

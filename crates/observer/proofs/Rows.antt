@@ -27,22 +27,26 @@ pub record Fronts (n : ℕ) (rs : List Row) (c : Columns) : Type 0 where
   pub «send_timestamps» : map (λ r. r .«send_timestamp_ns») rs ≡ take n (c .«send_timestamps»)
   pub latencies : map (λ r. r .latency) rs ≡ take n (c .latencies)
   pub marks : map (λ r. r .mark) rs ≡ take n (c .marks)
+  pub «arrival_timestamps» : map (λ r. r .«arrival_timestamp_ns») rs ≡ take n (c .«arrival_timestamps»)
 
-fronts : (n : ℕ) (a b c d : List ℕ) → n ≤ length a → n ≤ length b → n ≤ length c → n ≤ length d
-    → Fronts n (take n (rowsOf (columnsOf a b c d))) (columnsOf a b c d)
-fronts zero a b c d h i j k = record { count = refl; sequences = refl; «send_timestamps» = refl; latencies = refl; marks = refl }
-fronts (suc n) [] b c d h i j k = absurd (not-suc-le-zero h)
-fronts (suc n) (q ∷ a) [] c d h i j k = absurd (not-suc-le-zero i)
-fronts (suc n) (q ∷ a) (t ∷ b) [] d h i j k = absurd (not-suc-le-zero j)
-fronts (suc n) (q ∷ a) (t ∷ b) (l ∷ c) [] h i j k = absurd (not-suc-le-zero k)
-fronts (suc n) (q ∷ a) (t ∷ b) (l ∷ c) (m ∷ d) h i j k =
-    let f = fronts n a b c d (le-of-suc-le-suc h) (le-of-suc-le-suc i) (le-of-suc-le-suc j) (le-of-suc-le-suc k) in
+fronts : (n : ℕ) (a b c d e : List ℕ) → n ≤ length a → n ≤ length b → n ≤ length c → n ≤ length d → n ≤ length e
+    → Fronts n (take n (rowsOf (columnsOf a b c d e))) (columnsOf a b c d e)
+fronts zero a b c d e h i j k l =
+    record { count = refl; sequences = refl; «send_timestamps» = refl; latencies = refl; marks = refl; «arrival_timestamps» = refl }
+fronts (suc n) [] b c d e h i j k l = absurd (not-suc-le-zero h)
+fronts (suc n) (q ∷ a) [] c d e h i j k l = absurd (not-suc-le-zero i)
+fronts (suc n) (q ∷ a) (t ∷ b) [] d e h i j k l = absurd (not-suc-le-zero j)
+fronts (suc n) (q ∷ a) (t ∷ b) (x ∷ c) [] e h i j k l = absurd (not-suc-le-zero k)
+fronts (suc n) (q ∷ a) (t ∷ b) (x ∷ c) (m ∷ d) [] h i j k l = absurd (not-suc-le-zero l)
+fronts (suc n) (q ∷ a) (t ∷ b) (x ∷ c) (m ∷ d) (r ∷ e) h i j k l =
+    let f = fronts n a b c d e (le-of-suc-le-suc h) (le-of-suc-le-suc i) (le-of-suc-le-suc j) (le-of-suc-le-suc k) (le-of-suc-le-suc l) in
     record {
       count = ap suc (f .count);
-      sequences = ap (λ (x : List ℕ). q ∷ x) (f .sequences);
-      «send_timestamps» = ap (λ (x : List ℕ). t ∷ x) (f .«send_timestamps»);
-      latencies = ap (λ (x : List ℕ). l ∷ x) (f .latencies);
-      marks = ap (λ (x : List ℕ). m ∷ x) (f .marks);
+      sequences = ap (λ (y : List ℕ). q ∷ y) (f .sequences);
+      «send_timestamps» = ap (λ (y : List ℕ). t ∷ y) (f .«send_timestamps»);
+      latencies = ap (λ (y : List ℕ). x ∷ y) (f .latencies);
+      marks = ap (λ (y : List ℕ). m ∷ y) (f .marks);
+      «arrival_timestamps» = ap (λ (y : List ℕ). r ∷ y) (f .«arrival_timestamps»);
     }
 
 pub rows-are : (o : Observer) → o .counts .used ≤ capacity o
@@ -50,7 +54,7 @@ pub rows-are : (o : Observer) → o .counts .used ≤ capacity o
 unfolding rows
 rows-are o fits =
     let w = room-for (o .counts .used) o fits in
-    fronts (o .counts .used) (o .columns .sequences) (o .columns .«send_timestamps») (o .columns .latencies) (o .columns .marks) (w .sequences) (w .«send_timestamps») (w .latencies) (w .marks)
+    fronts (o .counts .used) (o .columns .sequences) (o .columns .«send_timestamps») (o .columns .latencies) (o .columns .marks) (o .columns .«arrival_timestamps») (w .sequences) (w .«send_timestamps») (w .latencies) (w .marks) (w .«arrival_timestamps»)
 
 pub field-at : (field : Row → ℕ) (rs : List Row) (k : ℕ) → k < length rs → getD (map field rs) k 0 ≡ field (rowAt k rs)
 field-at field [] k h = absurd (omega arith)
@@ -65,18 +69,18 @@ entry-is field rs n old e l k h =
 
 -- ---- rows put back
 
-rowsOf-front : (rs : List Row) (a b c d : List ℕ)
-    → rowsOf (columnsOf (map (λ r. r .sequence) rs ++ a) (map (λ r. r .«send_timestamp_ns») rs ++ b) (map (λ r. r .latency) rs ++ c) (map (λ r. r .mark) rs ++ d))
-    ≡ rs ++ rowsOf (columnsOf a b c d)
-rowsOf-front [] a b c d = refl
-rowsOf-front (r ∷ rs) a b c d = ap (λ (l : List Row). r ∷ l) (rowsOf-front rs a b c d)
+rowsOf-front : (rs : List Row) (a b c d e : List ℕ)
+    → rowsOf (columnsOf (map (λ r. r .sequence) rs ++ a) (map (λ r. r .«send_timestamp_ns») rs ++ b) (map (λ r. r .latency) rs ++ c) (map (λ r. r .mark) rs ++ d) (map (λ r. r .«arrival_timestamp_ns») rs ++ e))
+    ≡ rs ++ rowsOf (columnsOf a b c d e)
+rowsOf-front [] a b c d e = refl
+rowsOf-front (r ∷ rs) a b c d e = ap (λ (l : List Row). r ∷ l) (rowsOf-front rs a b c d e)
 
 -- the rows that were put back are the used rows
 pub rows-with : (rs : List Row) (o : Observer) → rows (withRows rs o) ≡ rs
 unfolding rows withRows
 rows-with rs o =
     ap (take (length rs))
-    (rowsOf-front rs (drop (length rs) (o .columns .sequences)) (drop (length rs) (o .columns .«send_timestamps»)) (drop (length rs) (o .columns .latencies)) (drop (length rs) (o .columns .marks)))
+    (rowsOf-front rs (drop (length rs) (o .columns .sequences)) (drop (length rs) (o .columns .«send_timestamps»)) (drop (length rs) (o .columns .latencies)) (drop (length rs) (o .columns .marks)) (drop (length rs) (o .columns .«arrival_timestamps»)))
     ∙ take-append-seam rs _
 
 pub counts-with : (rs : List Row) (o : Observer) → withRows rs o .counts ≡ withUsed (length rs) (o .counts)
@@ -103,6 +107,7 @@ capacity-with rs o h =
       length-column (λ r. r .«send_timestamp_ns») rs (o .columns .«send_timestamps») (w .«send_timestamps»),
       length-column (λ r. r .latency) rs (o .columns .latencies) (w .latencies),
       length-column (λ r. r .mark) rs (o .columns .marks) (w .marks),
+      length-column (λ r. r .«arrival_timestamp_ns») rs (o .columns .«arrival_timestamps») (w .«arrival_timestamps»),
     )
 
 -- ---- column by column

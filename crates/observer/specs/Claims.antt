@@ -20,16 +20,21 @@ use Rattle.observer.specs.InTurn.{inTurn}
 abbrev pub PutBack : Type 0
 PutBack = (rs : List Row) (o : Observer) → rows (withRows rs o) ≡ rs
 
--- "used count above capacity, used rows not rising, a used row's mark not 0 or 1": each of these alone makes a sheet
--- malformed, and nothing else does. Said by the numbers of the rows, and not by the tests of specs/Judge.antt.
+-- "used count above capacity, used rows not rising, a used row's mark not 0 or 1" (document 01), "a nonzero return time
+-- on an unmarked used row" (document 02, job 8): each of these alone makes a sheet malformed, and nothing else does. A
+-- marked row may have any arrival time, 0 too, and every row any latency. Said by the numbers of the rows, and not by
+-- the tests of specs/Judge.antt.
 pub record Causes21 (o : Observer) : Type 0 where
   pub above-capacity : capacity o < o .counts .used → wellFormed o ≡ false
   pub not-rising : (k : ℕ) → suc k < length (rows o)
       → rowAt (suc k) (rows o) .sequence ≤ rowAt k (rows o) .sequence → wellFormed o ≡ false
   pub unknown-mark : (k : ℕ) → k < length (rows o) → 1 < rowAt k (rows o) .mark → wellFormed o ≡ false
+  pub unmarked-arrival : (k : ℕ) → k < length (rows o) → rowAt k (rows o) .mark ≡ 0
+      → 0 < rowAt k (rows o) .«arrival_timestamp_ns» → wellFormed o ≡ false
   pub otherwise : o .counts .used ≤ capacity o
       → ((k : ℕ) → suc k < length (rows o) → rowAt k (rows o) .sequence < rowAt (suc k) (rows o) .sequence)
       → ((k : ℕ) → k < length (rows o) → rowAt k (rows o) .mark ≤ 1)
+      → ((k : ℕ) → k < length (rows o) → rowAt k (rows o) .mark ≡ 0 → rowAt k (rows o) .«arrival_timestamp_ns» ≡ 0)
       → wellFormed o ≡ true
 
 abbrev pub MalformedIs : Type 0
@@ -65,6 +70,7 @@ pub record SameFrom (n : ℕ) (before after : Columns) : Type 0 where
   pub «send_timestamps» : drop n (after .«send_timestamps») ≡ drop n (before .«send_timestamps»)
   pub latencies : drop n (after .latencies) ≡ drop n (before .latencies)
   pub marks : drop n (after .marks) ≡ drop n (before .marks)
+  pub «arrival_timestamps» : drop n (after .«arrival_timestamps») ≡ drop n (before .«arrival_timestamps»)
 
 -- "rows past the new count keep their contents": after every call, accepted or refused.
 abbrev pub RestKept : Type 0

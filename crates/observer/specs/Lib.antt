@@ -8,3 +8,4 @@ pub mod Returning
 pub mod InTurn
 pub mod Answer
 pub mod Claims
+pub mod Arrivals

@@ -12,13 +12,15 @@ use Rattle.observer.specs.Observer.{Row, Observer, rows, withRows, withC
 use Rattle.observer.specs.Judge.{judged, Step, step}
 use Rattle.observer.specs.Place.{placeOf, wasSent, rowOf, highestMarked}
 
--- A row at its first return: "mark 1 and as latency its time less the send time" (document 01, "The tally").
+-- A row at its first return: "mark 1 and as latency its time less the send time" (document 01, "The tally"), and that
+-- time as arrival time (document 02, job 8).
 abbrev pub returned : ℕ → Row → Row
 returned t r = record {
   sequence = r .sequence;
   «send_timestamp_ns» = r .«send_timestamp_ns»;
   latency = t - r .«send_timestamp_ns»;
   mark = 1;
+  «arrival_timestamp_ns» = t;
 }
 
 -- "returned sequence not on the sheet; returned before sent"

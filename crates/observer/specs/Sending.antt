@@ -10,9 +10,16 @@ use Rattle.observer.specs.Observer.{Row, Observer, capacity, rows, withR
 use Rattle.observer.specs.Judge.{judged, Step, step}
 use Rattle.observer.specs.Place.{placeOf, wasSent, rowOf}
 
--- "A sequence sent again only replaces its send time."
+-- "A sequence sent again only replaces its send time." "For a marked row .., latency and return time keep their values"
+-- (document 02, job 8).
 abbrev pub resent : ℕ → Row → Row
-resent t r = record { sequence = r .sequence; «send_timestamp_ns» = t; latency = r .latency; mark = r .mark }
+resent t r = record {
+  sequence = r .sequence;
+  «send_timestamp_ns» = t;
+  latency = r .latency;
+  mark = r .mark;
+  «arrival_timestamp_ns» = r .«arrival_timestamp_ns»;
+}
 
 -- The rows with a packet entered. "A new sent row .. shifts later used rows by one".
 unfoldable pub entered : ℕ → ℕ → List Row → List Row

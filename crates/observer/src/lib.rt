@@ -11,6 +11,7 @@ ghost use Rattle.observer.specs.Judge.{wellFormed};
 ghost use Rattle.observer.specs.Sending.{recordSent};
 ghost use Rattle.observer.specs.Claims.{PutBack, MalformedIs, FreshIsWell, CallsKeepWell, RestKept, SearchFinds};
 ghost use Rattle.observer.specs.Claims.{FullOnlyWhenFull, FullAtRow2049, SentAgain, BelowHighestMarked};
+ghost use Rattle.observer.specs.Arrivals.{ArrivalKept, ArrivalKeptForGood, FirstReturnArrives, ResendParts};
 ghost use Rattle.observer.specs.Answer.{recordingMeans, acceptance, refusal, afterEntry, afterArrival, lent};
 ghost use Rattle.observer.specs.Answer.{records};
 use rows::Arrival;
@@ -134,15 +135,18 @@ pub fn answer_number(answer: Recording) -> u8
     }
 }
 
-// Whether no call refuses the columns and counts by 21: the used rows fit, rise, and have marks of 0 or 1.
+// Whether no call refuses the columns and counts by 21: the used rows fit, rise, have marks of 0 or 1, and have arrival
+// time 0 where they have mark 0.
 pub fn well_formed(
     sequences: &[u64],
     send_timestamps: &[u64],
     latencies: &[u64],
     marks: &[u8],
+    arrival_timestamps: &[u64],
     counts: ObserverCounts,
 ) -> bool
-    ensures { λ r. ⌜ r ≡ wellFormed (lent (sheet sequences «send_timestamps» latencies marks) counts) ⌝ }
+    ensures { λ r. ⌜ r
+        ≡ wellFormed (lent (sheet sequences «send_timestamps» latencies marks «arrival_timestamps») counts) ⌝ }
 {
     let used = counts.used;
     let room = rows::capacity(
@@ -150,12 +154,13 @@ pub fn well_formed(
         send_timestamps.len(),
         latencies.len(),
         marks.len(),
+        arrival_timestamps.len(),
     );
     if room < used {
         return false;
     }
     let rise = columns::sequences_rise(sequences, used);
-    let known = columns::marks_known(marks, used);
+    let known = columns::returns_known(marks, arrival_timestamps, used);
     rise & known
 }
 
@@ -165,14 +170,22 @@ pub fn record_sent(
     send_timestamps: &mut [u64],
     latencies: &mut [u64],
     marks: &mut [u8],
+    arrival_timestamps: &mut [u64],
     counts: ObserverCounts,
     sequence: u64,
     send_timestamp_ns: u64,
 ) -> Recorded
-    ensures { λ r. ⌜ records (sheet sequences «send_timestamps» latencies marks) counts r
+    ensures { λ r. ⌜ records (sheet sequences «send_timestamps» latencies marks «arrival_timestamps») counts r
         (λ o. recordSent o sequence «send_timestamp_ns») ⌝ }
 {
-    if !well_formed(sequences, send_timestamps, latencies, marks, counts) {
+    if !well_formed(
+        sequences,
+        send_timestamps,
+        latencies,
+        marks,
+        arrival_timestamps,
+        counts,
+    ) {
         return counts.refused(error::MALFORMED_OBSERVER);
     }
     counts.entered(rows::enter(
@@ -180,13 +193,14 @@ pub fn record_sent(
         send_timestamps,
         latencies,
         marks,
+        arrival_timestamps,
         counts.used,
         sequence,
         send_timestamp_ns,
     ))
 }
 
-// Carries what makes a sheet malformed: one of the three causes of 21, and nothing else.
+// Carries what makes a sheet malformed: one of the four causes of 21, and nothing else.
 pub fn what_is_malformed()
     ensures { λ _. ⌜ MalformedIs ⌝ }
 {}
@@ -194,6 +208,12 @@ pub fn what_is_malformed()
 // Carries that 21 is never due on a sheet that was fresh and that only these calls have written since.
 pub fn calls_keep_well_formed()
     ensures { λ _. ⌜ PutBack × FreshIsWell × CallsKeepWell ⌝ }
+{}
+
+// Carries which call writes an arrival time, that every other leaves it, and that a resend parts it from latency and
+// send time.
+pub fn arrival_is_kept()
+    ensures { λ _. ⌜ ArrivalKept × ArrivalKeptForGood × FirstReturnArrives × ResendParts ⌝ }
 {}
 
 // Carries that no call writes past the rows that it leaves in use.

@@ -132,6 +132,7 @@ pub fn deliver(
     send_timestamps: &[u64],
     latencies: &mut [u64],
     marks: &mut [u8],
+    arrival_timestamps: &mut [u64],
     fates: &mut [u8],
     refusals: &mut [u64],
 ) -> Progress {
@@ -155,6 +156,7 @@ pub fn deliver(
         send_timestamps,
         latencies,
         marks,
+        arrival_timestamps,
         before,
         time,
         message,

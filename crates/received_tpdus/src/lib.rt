@@ -41,6 +41,7 @@ pub fn record_received_tpdus(
     send_timestamps: &[u64],
     latencies: &mut [u64],
     marks: &mut [u8],
+    arrival_timestamps: &mut [u64],
     counts: ObserverCounts,
     return_timestamps: &[u64],
     lengths: &[usize],
@@ -48,10 +49,18 @@ pub fn record_received_tpdus(
     returned: &mut [u64],
     numbers: &mut [u8],
 ) -> ReturnsRecorded
-    ensures { λ r. ⌜ recordsReturns (sheet sequences «send_timestamps» latencies marks) counts r returned numbers
+    ensures { λ r. ⌜ recordsReturns (sheet sequences «send_timestamps» latencies marks «arrival_timestamps») counts r
+        returned numbers
         (λ o. recordReceivedTpdus o (now («return_timestamps» .entry)) (now (lengths .entry)) (now (tpdus .entry))) ⌝ }
 {
-    if !observer::well_formed(sequences, send_timestamps, latencies, marks, counts) {
+    if !observer::well_formed(
+        sequences,
+        send_timestamps,
+        latencies,
+        marks,
+        arrival_timestamps,
+        counts,
+    ) {
         return ReturnsRecorded {
             counts: counts,
             answer: ReturnsRecording::Refused(error::MALFORMED_OBSERVER),
@@ -76,6 +85,7 @@ pub fn record_received_tpdus(
                 send_timestamps,
                 latencies,
                 marks,
+                arrival_timestamps,
                 latest.used,
                 return_timestamps[i],
                 read.sequence,

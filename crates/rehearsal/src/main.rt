@@ -46,6 +46,7 @@ fn print_run(
     send_timestamps: &[u64],
     latencies: &[u64],
     marks: &[u8],
+    arrival_timestamps: &[u64],
     fates: &[u8],
 ) {
     match scenario::first(s, scenario::FORMAT) {
@@ -61,6 +62,7 @@ fn print_run(
             send_timestamps,
             latencies,
             marks,
+            arrival_timestamps,
             fates,
         ),
         scenario::CSV => rehearsal_records::csv::print_sheet(
@@ -68,7 +70,16 @@ fn print_run(
             send_timestamps,
             latencies,
             marks,
+            arrival_timestamps,
             fates,
+        ),
+        scenario::LOG => rehearsal_records::log::print_rows(
+            sequences,
+            send_timestamps,
+            latencies,
+            marks,
+            arrival_timestamps,
+            fates.len(),
         ),
         _ => rehearsal_lines::print_rehearsal(s, r, verdict, state, indication, fates, refusals),
     }
@@ -87,6 +98,7 @@ fn rehearse(s: &Scenario) -> u64 {
     let mut send_timestamps = column();
     let mut latencies = column();
     let mut marks = byte_column(0);
+    let mut arrival_timestamps = column();
     let mut fates = byte_column(probe_fate::LOST);
     let mut refusals = [0; 64];
     let forecast = rehearsal_run::forecast(s);
@@ -97,6 +109,7 @@ fn rehearse(s: &Scenario) -> u64 {
         &mut send_timestamps,
         &mut latencies,
         &mut marks,
+        &mut arrival_timestamps,
         &mut fates,
         &mut refusals,
     );
@@ -117,6 +130,7 @@ fn rehearse(s: &Scenario) -> u64 {
                 &send_timestamps,
                 &latencies,
                 &marks,
+                &arrival_timestamps,
                 text::part(&fates, 0, scenario::first(s, scenario::COUNT) as usize),
             );
             exit_status::of_verdict(verdict)

@@ -2,13 +2,16 @@
 use crate::column;
 use crate::fate;
 
-fn print_row(sequence: u64, sent: u64, latency: u64, mark: u8, fate: u8) {
+fn print_row(sequence: u64, sent: u64, latency: u64, mark: u8, arrival: u64, fate: u8) {
     text::print_number(sequence);
     text::print_count(b",", sent);
     text::print_count(b",", mark as u64);
     text::print(b",");
     if mark != 0 {
-        text::print_number(latency);
+        text::print_number(arrival);
+        text::print_count(b",", latency);
+    } else {
+        text::print(b",");
     }
     text::print(b",");
     fate::print_fate(fate);
@@ -25,9 +28,10 @@ pub fn print_sheet(
     send_timestamps: &[u64],
     latencies: &[u64],
     marks: &[u8],
+    arrival_timestamps: &[u64],
     fates: &[u8],
 ) {
-    text::print(b"probe,sent_ns,returned,latency_ns,fate,refused\n");
+    text::print(b"probe,sent_ns,returned,returned_ns,latency_ns,fate,refused\n");
     let mut row = 0;
     while row < fates.len() {
         print_row(
@@ -35,6 +39,7 @@ pub fn print_sheet(
             column::number_at(send_timestamps, row),
             column::number_at(latencies, row),
             column::byte_at(marks, row),
+            column::number_at(arrival_timestamps, row),
             fates[row],
         );
         row += 1;

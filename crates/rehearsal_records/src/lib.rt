@@ -1,8 +1,9 @@
-// A rehearsal as records that a program reads: one JSON object (RFC 8259), or a line of comma-separated values for each
-// row of the run sheet.
+// A rehearsal as records that a program reads: one JSON object (RFC 8259), or for each row of the run sheet a line of
+// comma-separated values or of a log.
 mod column;
 pub mod csv;
 mod fate;
+pub mod log;
 
 use evidence::PacketContinuityReport;
 use forecast::PlanForecast;
@@ -139,20 +140,22 @@ fn print_refusals(refusals: &[u64; 64]) {
     text::print(b"],\n");
 }
 
-// A latency, or null where the probe did not return.
-fn print_latency_of(mark: u8, latency: u64) {
+// A number of a return, or null where the probe did not return.
+fn print_if_returned(mark: u8, number: u64) {
     if mark == 0 {
         return text::print(b"null");
     }
-    text::print_number(latency)
+    text::print_number(number)
 }
 
-fn print_probe(sequence: u64, sent: u64, latency: u64, mark: u8, fate: u8) {
+fn print_probe(sequence: u64, sent: u64, latency: u64, mark: u8, arrival: u64, fate: u8) {
     text::print_count(b"  {\"probe\": ", sequence);
     text::print_count(b", \"sent_ns\": ", sent);
-    text::print(b", \"latency_ns\": ");
-    print_latency_of(mark, latency);
-    text::print(b",\n    \"fate\": \"");
+    text::print(b", \"returned_ns\": ");
+    print_if_returned(mark, arrival);
+    text::print(b",\n    \"latency_ns\": ");
+    print_if_returned(mark, latency);
+    text::print(b", \"fate\": \"");
     fate::print_fate(fate);
     text::print(b"\", \"refused\": ");
     let number = probe_fate::number_of(fate);
@@ -169,6 +172,7 @@ fn print_probes(
     send_timestamps: &[u64],
     latencies: &[u64],
     marks: &[u8],
+    arrival_timestamps: &[u64],
     fates: &[u8],
 ) {
     text::print(b"\"probes\": [");
@@ -180,6 +184,7 @@ fn print_probes(
             column::number_at(send_timestamps, row),
             column::number_at(latencies, row),
             column::byte_at(marks, row),
+            column::number_at(arrival_timestamps, row),
             fates[row],
         );
         row += 1;
@@ -200,6 +205,7 @@ pub fn print_json(
     send_timestamps: &[u64],
     latencies: &[u64],
     marks: &[u8],
+    arrival_timestamps: &[u64],
     fates: &[u8],
 ) {
     let budget = r.budget;
@@ -212,5 +218,12 @@ pub fn print_json(
     print_reflector(state);
     print_indication(indication);
     print_refusals(refusals);
-    print_probes(sequences, send_timestamps, latencies, marks, fates);
+    print_probes(
+        sequences,
+        send_timestamps,
+        latencies,
+        marks,
+        arrival_timestamps,
+        fates,
+    );
 }

@@ -74,6 +74,7 @@ fn deliver_return(
     send_timestamps: &[u64],
     latencies: &mut [u64],
     marks: &mut [u8],
+    arrival_timestamps: &mut [u64],
     fates: &mut [u8],
     refusals: &mut [u64],
 ) -> Progress {
@@ -87,6 +88,7 @@ fn deliver_return(
         send_timestamps,
         latencies,
         marks,
+        arrival_timestamps,
         fates,
         refusals,
     )
@@ -103,6 +105,7 @@ fn deliver_all(
     send_timestamps: &[u64],
     latencies: &mut [u64],
     marks: &mut [u8],
+    arrival_timestamps: &mut [u64],
     fates: &mut [u8],
     refusals: &mut [u64],
 ) -> Progress {
@@ -120,6 +123,7 @@ fn deliver_all(
             send_timestamps,
             latencies,
             marks,
+            arrival_timestamps,
             fates,
             refusals,
         );
@@ -136,6 +140,7 @@ fn travel(
     send_timestamps: &[u64],
     latencies: &mut [u64],
     marks: &mut [u8],
+    arrival_timestamps: &mut [u64],
     fates: &mut [u8],
     refusals: &mut [u64],
 ) -> Progress {
@@ -158,6 +163,7 @@ fn travel(
         send_timestamps,
         latencies,
         marks,
+        arrival_timestamps,
         fates,
         refusals,
     )
@@ -213,6 +219,7 @@ fn report_run(
     send_timestamps: &[u64],
     latencies: &[u64],
     marks: &[u8],
+    arrival_timestamps: &[u64],
 ) -> Rehearsed {
     let state = run.state;
     let indication = run.indication;
@@ -221,6 +228,7 @@ fn report_run(
         send_timestamps,
         latencies,
         marks,
+        arrival_timestamps,
         run.counts,
         FIRST_SEND_NS,
         window_end(s, send_timestamps),
@@ -242,6 +250,7 @@ fn go(
     send_timestamps: &[u64],
     latencies: &mut [u64],
     marks: &mut [u8],
+    arrival_timestamps: &mut [u64],
     fates: &mut [u8],
     refusals: &mut [u64],
 ) -> Rehearsed {
@@ -257,10 +266,19 @@ fn go(
         send_timestamps,
         latencies,
         marks,
+        arrival_timestamps,
         fates,
         refusals,
     );
-    report_run(s, run, sequences, send_timestamps, latencies, marks)
+    report_run(
+        s,
+        run,
+        sequences,
+        send_timestamps,
+        latencies,
+        marks,
+        arrival_timestamps,
+    )
 }
 
 // The plan's packets are entered as sent, and travel.
@@ -271,6 +289,7 @@ fn send(
     send_timestamps: &mut [u64],
     latencies: &mut [u64],
     marks: &mut [u8],
+    arrival_timestamps: &mut [u64],
     fates: &mut [u8],
     refusals: &mut [u64],
 ) -> Rehearsed {
@@ -279,6 +298,7 @@ fn send(
         send_timestamps,
         latencies,
         marks,
+        arrival_timestamps,
         fresh(),
         plan_of(s),
         1,
@@ -291,6 +311,7 @@ fn send(
         send_timestamps,
         latencies,
         marks,
+        arrival_timestamps,
         fates,
         refusals,
     )
@@ -304,6 +325,7 @@ pub fn rehearse(
     send_timestamps: &mut [u64],
     latencies: &mut [u64],
     marks: &mut [u8],
+    arrival_timestamps: &mut [u64],
     fates: &mut [u8],
     refusals: &mut [u64],
 ) -> Rehearsed {
@@ -318,6 +340,7 @@ pub fn rehearse(
         send_timestamps,
         latencies,
         marks,
+        arrival_timestamps,
         fates,
         refusals,
     )

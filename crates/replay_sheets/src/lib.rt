@@ -1,5 +1,5 @@
-// The calls on a run sheet, each on a record of the data. A record has how much of each column is lent (4 bytes) and
-// the sheet before the call: the counts (25 bytes) and the columns, of 6 rows (150). A call that may change it then has
+// The calls on a run sheet, each on a record of the data. A record has how much of each column is lent (5 bytes) and
+// the sheet before the call: the counts (25 bytes) and the columns, of 6 rows (198). A call that may change it then has
 // the counts and the columns after the call; what the datagram was and its message's type (2 bytes, else 0); two
 // numbers (16); and a payload. Every cell is compared, lent or not.
 use evidence::PacketContinuityBudget;
@@ -20,33 +20,35 @@ pub const RECORD_RETURN_GTPU_DATAGRAM: u8 = 8;
 
 pub const REPORT: u8 = 9;
 
-const COUNTS: usize = 4;
+const COUNTS: usize = 5;
 
-const SEQUENCES: usize = 29;
+const SEQUENCES: usize = 30;
 
-const SEND_TIMESTAMPS: usize = 77;
+const SEND_TIMESTAMPS: usize = 78;
 
-const LATENCIES: usize = 125;
+const LATENCIES: usize = 126;
 
-const MARKS: usize = 173;
+const MARKS: usize = 174;
 
-const COUNTS_AFTER: usize = 179;
+const ARRIVAL_TIMESTAMPS: usize = 180;
 
-const COLUMNS_AFTER: usize = 204;
+const COUNTS_AFTER: usize = 228;
 
-const OUTCOME: usize = 354;
+const COLUMNS_AFTER: usize = 253;
 
-const MESSAGE_TYPE: usize = 355;
+const OUTCOME: usize = 451;
 
-const FIRST: usize = 356;
+const MESSAGE_TYPE: usize = 452;
 
-const SECOND: usize = 364;
+const FIRST: usize = 453;
 
-const PAYLOAD: usize = 372;
+const SECOND: usize = 461;
 
-const QUESTION: usize = 179;
+const PAYLOAD: usize = 469;
 
-const REPORT_AFTER: usize = 219;
+const QUESTION: usize = 228;
+
+const REPORT_AFTER: usize = 268;
 
 // Whether no more of any column is to be lent than its 6 cells.
 fn lends_what_is_there(s: &[u8]) -> bool {
@@ -54,6 +56,7 @@ fn lends_what_is_there(s: &[u8]) -> bool {
         && replay_data::byte(s, 1) <= 6
         && replay_data::byte(s, 2) <= 6
         && replay_data::byte(s, 3) <= 6
+        && replay_data::byte(s, 4) <= 6
 }
 
 // How many of a column's cells are lent.
@@ -105,6 +108,7 @@ fn same_columns(
     send_timestamps: &[u64; 6],
     latencies: &[u64; 6],
     marks: &[u8; 6],
+    arrival_timestamps: &[u64; 6],
     s: &[u8],
 ) -> bool {
     let due = replay_data::rest(s, COLUMNS_AFTER);
@@ -112,6 +116,7 @@ fn same_columns(
         && replay_data::same_numbers(send_timestamps, replay_data::rest(due, 48))
         && replay_data::same_numbers(latencies, replay_data::rest(due, 96))
         && check::same(marks, replay_data::first(replay_data::rest(due, 144), 6))
+        && replay_data::same_numbers(arrival_timestamps, replay_data::rest(due, 150))
 }
 
 fn same_counts(counts: ObserverCounts, due: &[u8]) -> bool {
@@ -210,12 +215,14 @@ fn sent_agrees(
     send_timestamps: &mut [u64],
     latencies: &mut [u64],
     marks: &mut [u8],
+    arrival_timestamps: &mut [u64],
 ) -> bool {
     let r = testkit_sheet::testkit_record_sent(
         sequences,
         send_timestamps,
         latencies,
         marks,
+        arrival_timestamps,
         counts(replay_data::rest(s, COUNTS)),
         replay_data::number(s, FIRST),
         replay_data::number(s, SECOND),
@@ -231,12 +238,14 @@ fn received_agrees(
     send_timestamps: &[u64],
     latencies: &mut [u64],
     marks: &mut [u8],
+    arrival_timestamps: &mut [u64],
 ) -> bool {
     let r = testkit_sheet::testkit_record_received_tpdu(
         sequences,
         send_timestamps,
         latencies,
         marks,
+        arrival_timestamps,
         counts(replay_data::rest(s, COUNTS)),
         replay_data::number(s, FIRST),
         replay_data::rest(s, PAYLOAD),
@@ -252,12 +261,14 @@ fn message_agrees(
     send_timestamps: &[u64],
     latencies: &mut [u64],
     marks: &mut [u8],
+    arrival_timestamps: &mut [u64],
 ) -> bool {
     let r = testkit_sheet::testkit_record_return_gtpu_datagram(
         sequences,
         send_timestamps,
         latencies,
         marks,
+        arrival_timestamps,
         counts(replay_data::rest(s, COUNTS)),
         replay_data::number(s, FIRST),
         replay_data::byte(s, SECOND),
@@ -273,6 +284,7 @@ fn report_agrees(
     send_timestamps: &[u64],
     latencies: &[u64],
     marks: &[u8],
+    arrival_timestamps: &[u64],
 ) -> bool {
     let question = replay_data::rest(s, QUESTION);
     let r = testkit_sheet::testkit_report(
@@ -280,6 +292,7 @@ fn report_agrees(
         send_timestamps,
         latencies,
         marks,
+        arrival_timestamps,
         counts(replay_data::rest(s, COUNTS)),
         replay_data::number(question, 0),
         replay_data::number(question, 8),
@@ -297,16 +310,49 @@ fn answer_agrees(
     send_timestamps: &mut [u64],
     latencies: &mut [u64],
     marks: &mut [u8],
+    arrival_timestamps: &mut [u64],
 ) -> bool {
     match kind {
-        RECORD_SENT => sent_agrees(number, s, sequences, send_timestamps, latencies, marks),
+        RECORD_SENT => sent_agrees(
+            number,
+            s,
+            sequences,
+            send_timestamps,
+            latencies,
+            marks,
+            arrival_timestamps,
+        ),
         RECORD_RECEIVED_TPDU => {
-            received_agrees(number, s, sequences, send_timestamps, latencies, marks)
+            received_agrees(
+                number,
+                s,
+                sequences,
+                send_timestamps,
+                latencies,
+                marks,
+                arrival_timestamps,
+            )
         }
         RECORD_RETURN_GTPU_DATAGRAM => {
-            message_agrees(number, s, sequences, send_timestamps, latencies, marks)
+            message_agrees(
+                number,
+                s,
+                sequences,
+                send_timestamps,
+                latencies,
+                marks,
+                arrival_timestamps,
+            )
         }
-        _ => report_agrees(number, s, sequences, send_timestamps, latencies, marks),
+        _ => report_agrees(
+            number,
+            s,
+            sequences,
+            send_timestamps,
+            latencies,
+            marks,
+            arrival_timestamps,
+        ),
     }
 }
 
@@ -319,11 +365,13 @@ fn lent_agrees(
     send_timestamps: &mut [u64],
     latencies: &mut [u64],
     marks: &mut [u8],
+    arrival_timestamps: &mut [u64],
 ) -> bool {
     let a = lent(s, 0, sequences.len());
     let b = lent(s, 1, send_timestamps.len());
     let c = lent(s, 2, latencies.len());
     let d = lent(s, 3, marks.len());
+    let e = lent(s, 4, arrival_timestamps.len());
     answer_agrees(
         kind,
         number,
@@ -332,6 +380,7 @@ fn lent_agrees(
         &mut send_timestamps[0..b],
         &mut latencies[0..c],
         &mut marks[0..d],
+        &mut arrival_timestamps[0..e],
     )
 }
 
@@ -342,6 +391,7 @@ pub fn agrees(kind: u8, number: u8, s: &[u8]) -> bool {
     let mut send_timestamps = column(replay_data::rest(s, SEND_TIMESTAMPS));
     let mut latencies = column(replay_data::rest(s, LATENCIES));
     let mut marks = mark_column(replay_data::rest(s, MARKS));
+    let mut arrival_timestamps = column(replay_data::rest(s, ARRIVAL_TIMESTAMPS));
     let agreed = lent_agrees(
         kind,
         number,
@@ -350,9 +400,18 @@ pub fn agrees(kind: u8, number: u8, s: &[u8]) -> bool {
         &mut send_timestamps,
         &mut latencies,
         &mut marks,
+        &mut arrival_timestamps,
     );
     if !agreed || !lends_what_is_there(s) {
         return false;
     }
-    kind == REPORT || same_columns(&sequences, &send_timestamps, &latencies, &marks, s)
+    kind == REPORT
+        || same_columns(
+            &sequences,
+            &send_timestamps,
+            &latencies,
+            &marks,
+            &arrival_timestamps,
+            s,
+        )
 }

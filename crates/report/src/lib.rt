@@ -201,16 +201,24 @@ pub fn report(
     send_timestamps: &[u64],
     latencies: &[u64],
     marks: &[u8],
+    arrival_timestamps: &[u64],
     counts: ObserverCounts,
     window_start_ns: u64,
     window_end_ns: u64,
     budget: PacketContinuityBudget,
 ) -> Reported
     ensures { λ r. ⌜ reportedMeans r
-        ≡ reporting (lent (sheet sequences «send_timestamps» latencies marks) counts)
+        ≡ reporting (lent (sheet sequences «send_timestamps» latencies marks «arrival_timestamps») counts)
         «window_start_ns» «window_end_ns» budget ⌝ }
 {
-    if !observer::well_formed(sequences, send_timestamps, latencies, marks, counts) {
+    if !observer::well_formed(
+        sequences,
+        send_timestamps,
+        latencies,
+        marks,
+        arrival_timestamps,
+        counts,
+    ) {
         return Reported::Refused(error::MALFORMED_OBSERVER);
     }
     let used = counts.used;

@@ -157,14 +157,22 @@ fn record_returned(
     send_timestamps: &[u64],
     latencies: &mut [u64],
     marks: &mut [u8],
+    arrival_timestamps: &mut [u64],
     counts: ObserverCounts,
     return_timestamp_ns: u64,
     returned: Returned,
 ) -> Recorded
-    ensures { λ r. ⌜ records (sheet sequences «send_timestamps» latencies marks) counts r
+    ensures { λ r. ⌜ records (sheet sequences «send_timestamps» latencies marks «arrival_timestamps») counts r
         (λ o. recordReturned o «return_timestamp_ns» returned) ⌝ }
 {
-    if !observer::well_formed(sequences, send_timestamps, latencies, marks, counts) {
+    if !observer::well_formed(
+        sequences,
+        send_timestamps,
+        latencies,
+        marks,
+        arrival_timestamps,
+        counts,
+    ) {
         return Recorded {
             counts: counts,
             answer: Recording::Refused(error::MALFORMED_OBSERVER),
@@ -176,6 +184,7 @@ fn record_returned(
             send_timestamps,
             latencies,
             marks,
+            arrival_timestamps,
             counts.used,
             return_timestamp_ns,
             sequence,
@@ -199,11 +208,12 @@ pub fn record_received_tpdu(
     send_timestamps: &[u64],
     latencies: &mut [u64],
     marks: &mut [u8],
+    arrival_timestamps: &mut [u64],
     counts: ObserverCounts,
     return_timestamp_ns: u64,
     tpdu: &[u8],
 ) -> Recorded
-    ensures { λ r. ⌜ records (sheet sequences «send_timestamps» latencies marks) counts r
+    ensures { λ r. ⌜ records (sheet sequences «send_timestamps» latencies marks «arrival_timestamps») counts r
         (λ o. recordReceivedTpdu o «return_timestamp_ns» (now (tpdu .entry))) ⌝ }
 {
     let returned = read_tpdu(tpdu);
@@ -212,6 +222,7 @@ pub fn record_received_tpdu(
         send_timestamps,
         latencies,
         marks,
+        arrival_timestamps,
         counts,
         return_timestamp_ns,
         returned,
@@ -249,12 +260,14 @@ pub fn record_return_gtpu_datagram(
     send_timestamps: &[u64],
     latencies: &mut [u64],
     marks: &mut [u8],
+    arrival_timestamps: &mut [u64],
     counts: ObserverCounts,
     return_timestamp_ns: u64,
     message: GtpuMessage,
     payload: &[u8],
 ) -> MessageRecorded
-    ensures recorded { λ r. ⌜ recordsMessage (sheet sequences «send_timestamps» latencies marks) counts r
+    ensures recorded { λ r. ⌜ recordsMessage
+        (sheet sequences «send_timestamps» latencies marks «arrival_timestamps») counts r
         (λ o. recordReturnMessage o «return_timestamp_ns» (message .«message_type») (now (payload .entry))) ⌝ }
     ensures tunnel { λ r. ⌜ r .tunnel ≡ tunnelHandedOn (messageMeans (r .answer)) (now (payload .entry)) ⌝ }
 {
@@ -267,6 +280,7 @@ pub fn record_return_gtpu_datagram(
         send_timestamps,
         latencies,
         marks,
+        arrival_timestamps,
         counts,
         return_timestamp_ns,
         returned,

@@ -15,10 +15,19 @@ pub record Within (n : ℕ) (c : Columns) : Type 0 where
   pub «send_timestamps» : n ≤ length (c .«send_timestamps»)
   pub latencies : n ≤ length (c .latencies)
   pub marks : n ≤ length (c .marks)
+  pub «arrival_timestamps» : n ≤ length (c .«arrival_timestamps»)
   pub most : n ≤ 2048
 
 pub within : (n : ℕ) (c : Columns) → n ≤ capacityOf (columnLengths c) → Within n c
-within n c h = record { sequences = omega arith; «send_timestamps» = omega arith; latencies = omega arith; marks = omega arith; most = omega arith }
+within n c h =
+    record {
+      sequences = omega arith;
+      «send_timestamps» = omega arith;
+      latencies = omega arith;
+      marks = omega arith;
+      «arrival_timestamps» = omega arith;
+      most = omega arith;
+    }
 
 -- a row that has the sequence is in use
 pub held-used : (q k n : ℕ) (column : List ℕ) → holds q k (take n column) ≡ true → k < n

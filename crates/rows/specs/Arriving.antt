@@ -10,13 +10,15 @@ use Rattle.rows.specs.Columns.{Columns, columnLengths, capacityOf, Left}
 use Rattle.rows.specs.declared.Arrival.{Arrival}
 use Rattle.rows.specs.declared.Arrival.the-variants.{InOrder, OutOfOrder, Duplicate, NotSent, Reversed, Malformed}
 
--- Row k returns at this time: "mark 1 and as latency its time less the send time" (document 01, "The tally").
+-- Row k returns at this time: "mark 1 and as latency its time less the send time" (document 01, "The tally"), and "the
+-- return time of the first accepted return" (document 02, job 8).
 abbrev pub returnedAt : ℕ → ℕ → Columns → Columns
 returnedAt k t c = record {
   sequences = c .sequences;
   «send_timestamps» = c .«send_timestamps»;
   latencies = set (c .latencies) k (t - getD (c .«send_timestamps») k 0);
   marks = set (c .marks) k 1;
+  «arrival_timestamps» = set (c .«arrival_timestamps») k t;
 }
 
 -- The sequence is that of row k.

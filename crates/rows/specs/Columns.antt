@@ -7,20 +7,34 @@ use lib.ListN.{length}
 use denote.Triple.Both.{Both}
 use denote.Ref.{RefT}
 
--- "Lent columns: sequence, send time, latency .., mark".
+-- "Lent columns: sequence, send time, latency .., mark" (document 01, leaf 6), and "a fifth column, the return time of
+-- the first accepted return" (document 02, job 8).
 pub record Columns : Type 0 where
   pub sequences : List ℕ
   pub «send_timestamps» : List ℕ
   pub latencies : List ℕ
   pub marks : List ℕ
+  pub «arrival_timestamps» : List ℕ
 
-abbrev pub columnsOf : List ℕ → List ℕ → List ℕ → List ℕ → Columns
-columnsOf qs ts ls ms = record { sequences = qs; «send_timestamps» = ts; latencies = ls; marks = ms }
+abbrev pub columnsOf : List ℕ → List ℕ → List ℕ → List ℕ → List ℕ → Columns
+columnsOf qs ts ls ms rs = record {
+  sequences = qs;
+  «send_timestamps» = ts;
+  latencies = ls;
+  marks = ms;
+  «arrival_timestamps» = rs;
+}
 
 abbrev pub columnLengths : Columns → List ℕ
-columnLengths c = length (c .sequences) ∷ length (c .«send_timestamps») ∷ length (c .latencies) ∷ length (c .marks) ∷ []
+columnLengths c =
+    length (c .sequences)
+    ∷ length (c .«send_timestamps»)
+    ∷ length (c .latencies)
+    ∷ length (c .marks)
+    ∷ length (c .«arrival_timestamps»)
+    ∷ []
 
--- "Capacity is the shortest column, at most 2,048."
+-- "Capacity is the shortest column, at most 2,048." "Capacity counts this column too" (job 8).
 abbrev pub capacityOf : List ℕ → ℕ
 capacityOf [] = 2048
 capacityOf (n ∷ lengths) = min n (capacityOf lengths)
@@ -41,14 +55,14 @@ pub record Left (Answer : Type 0) : Type 0 where
 abbrev pub Column : Type 0
 Column = Both (RefT (List ℕ)) (RefT (List ℕ))
 
--- All four columns, when the call begins and when it returns.
+-- All columns, when the call begins and when it returns.
 abbrev pub Sheet : Type 0
 Sheet = Both Columns Columns
 
-abbrev pub sheet : Column → Column → Column → Column → Sheet
-sheet qs ts ls ms = record {
-  entry = columnsOf (qs .entry .now) (ts .entry .now) (ls .entry .now) (ms .entry .now);
-  exit = columnsOf (qs .exit .now) (ts .exit .now) (ls .exit .now) (ms .exit .now);
+abbrev pub sheet : Column → Column → Column → Column → Column → Sheet
+sheet qs ts ls ms rs = record {
+  entry = columnsOf (qs .entry .now) (ts .entry .now) (ls .entry .now) (ms .entry .now) (rs .entry .now);
+  exit = columnsOf (qs .exit .now) (ts .exit .now) (ls .exit .now) (ms .exit .now) (rs .exit .now);
 }
 
 -- The answer and the columns when the call returns are what the definition gives for the columns that it was lent.

@@ -61,6 +61,8 @@ pub const JSON: u64 = 1;
 
 pub const CSV: u64 = 2;
 
+pub const LOG: u64 = 3;
+
 // The most probes that a plan may have.
 pub const MOST_PROBES: u64 = 2048;
 

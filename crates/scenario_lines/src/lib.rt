@@ -6,7 +6,7 @@ use scenario_words::Judged;
 fn print_limits(word: usize) {
     match word {
         scenario::IP => text::print(b"4 or 6"),
-        scenario::FORMAT => text::print(b"text, json or csv"),
+        scenario::FORMAT => text::print(b"text, json, csv or log"),
         _ => {
             text::print_number(scenario::least(word));
             text::print_count(b" to ", scenario::greatest(word));

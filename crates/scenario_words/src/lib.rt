@@ -12,6 +12,9 @@ fn format_named(value: &[u8]) -> u64 {
     if check::same(value, b"csv") {
         return scenario::CSV;
     }
+    if check::same(value, b"log") {
+        return scenario::LOG;
+    }
     text::NO_NUMBER
 }
 

@@ -38,14 +38,22 @@ pub fn record_sent_plan(
     send_timestamps: &mut [u64],
     latencies: &mut [u64],
     marks: &mut [u8],
+    arrival_timestamps: &mut [u64],
     counts: ObserverCounts,
     plan: TrafficPlan,
     next_sequence: u64,
 ) -> Recorded
-    ensures { λ r. ⌜ records (sheet sequences «send_timestamps» latencies marks) counts r
+    ensures { λ r. ⌜ records (sheet sequences «send_timestamps» latencies marks «arrival_timestamps») counts r
         (λ o. recordSentPlan o plan «next_sequence») ⌝ }
 {
-    if !observer::well_formed(sequences, send_timestamps, latencies, marks, counts) {
+    if !observer::well_formed(
+        sequences,
+        send_timestamps,
+        latencies,
+        marks,
+        arrival_timestamps,
+        counts,
+    ) {
         return Recorded {
             counts: counts,
             answer: Recording::Refused(error::MALFORMED_OBSERVER),
@@ -65,6 +73,7 @@ pub fn record_sent_plan(
                 send_timestamps.len(),
                 latencies.len(),
                 marks.len(),
+                arrival_timestamps.len(),
             );
             if room - used < rows_needed(sequences, used, next_sequence, plan.packet_count) {
                 return Recorded {
@@ -80,6 +89,7 @@ pub fn record_sent_plan(
                     send_timestamps,
                     latencies,
                     marks,
+                    arrival_timestamps,
                     so_far.used,
                     next_sequence + k,
                     plan.first_send_timestamp_ns + k * interval,

@@ -43,34 +43,34 @@ range4 q t g h = record {
   time = h;
 }
 
--- the observer of five rows, some of them used: sequences, send times, latencies, marks
-abbrev observed : List ℕ → List ℕ → List ℕ → List ℕ → ℕ → Observer
-observed qs ts ls ms used =
-    observerOf (columnsOf qs ts ls ms) (record { used = used; «duplicate_packets» = 0; «out_of_order_packets» = 0; «gtpu_error_indications» = 0 })
+-- the observer of five rows, some of them used: sequences, send times, latencies, marks, arrival times
+abbrev observed : List ℕ → List ℕ → List ℕ → List ℕ → List ℕ → ℕ → Observer
+observed qs ts ls ms rs used =
+    observerOf (columnsOf qs ts ls ms rs) (record { used = used; «duplicate_packets» = 0; «out_of_order_packets» = 0; «gtpu_error_indications» = 0 })
 
 abbrev one : Observer
-one = observed (1 ∷ 9 ∷ 9 ∷ 9 ∷ 9 ∷ []) (0 ∷ 9 ∷ 9 ∷ 9 ∷ 9 ∷ []) (0 ∷ 9 ∷ 9 ∷ 9 ∷ 9 ∷ []) (0 ∷ 9 ∷ 9 ∷ 9 ∷ 9 ∷ []) 1
+one = observed (1 ∷ 9 ∷ 9 ∷ 9 ∷ 9 ∷ []) (0 ∷ 9 ∷ 9 ∷ 9 ∷ 9 ∷ []) (0 ∷ 9 ∷ 9 ∷ 9 ∷ 9 ∷ []) (0 ∷ 9 ∷ 9 ∷ 9 ∷ 9 ∷ []) (0 ∷ 9 ∷ 9 ∷ 9 ∷ 9 ∷ []) 1
 
 abbrev two : Observer
-two = observed (1 ∷ 2 ∷ 9 ∷ 9 ∷ 9 ∷ []) (0 ∷ 10 ∷ 9 ∷ 9 ∷ 9 ∷ []) (0 ∷ 0 ∷ 9 ∷ 9 ∷ 9 ∷ []) (0 ∷ 0 ∷ 9 ∷ 9 ∷ 9 ∷ []) 2
+two = observed (1 ∷ 2 ∷ 9 ∷ 9 ∷ 9 ∷ []) (0 ∷ 10 ∷ 9 ∷ 9 ∷ 9 ∷ []) (0 ∷ 0 ∷ 9 ∷ 9 ∷ 9 ∷ []) (0 ∷ 0 ∷ 9 ∷ 9 ∷ 9 ∷ []) (0 ∷ 0 ∷ 9 ∷ 9 ∷ 9 ∷ []) 2
 
 abbrev three : Observer
-three = observed (1 ∷ 2 ∷ 3 ∷ 9 ∷ 9 ∷ []) (0 ∷ 10 ∷ 20 ∷ 9 ∷ 9 ∷ []) (0 ∷ 0 ∷ 0 ∷ 9 ∷ 9 ∷ []) (0 ∷ 0 ∷ 0 ∷ 9 ∷ 9 ∷ []) 3
+three = observed (1 ∷ 2 ∷ 3 ∷ 9 ∷ 9 ∷ []) (0 ∷ 10 ∷ 20 ∷ 9 ∷ 9 ∷ []) (0 ∷ 0 ∷ 0 ∷ 9 ∷ 9 ∷ []) (0 ∷ 0 ∷ 0 ∷ 9 ∷ 9 ∷ []) (0 ∷ 0 ∷ 0 ∷ 9 ∷ 9 ∷ []) 3
 
 abbrev four : Observer
-four = observed (1 ∷ 2 ∷ 3 ∷ 4 ∷ 9 ∷ []) (0 ∷ 10 ∷ 20 ∷ 30 ∷ 9 ∷ []) (0 ∷ 0 ∷ 0 ∷ 0 ∷ 9 ∷ []) (0 ∷ 0 ∷ 0 ∷ 0 ∷ 9 ∷ []) 4
+four = observed (1 ∷ 2 ∷ 3 ∷ 4 ∷ 9 ∷ []) (0 ∷ 10 ∷ 20 ∷ 30 ∷ 9 ∷ []) (0 ∷ 0 ∷ 0 ∷ 0 ∷ 9 ∷ []) (0 ∷ 0 ∷ 0 ∷ 0 ∷ 9 ∷ []) (0 ∷ 0 ∷ 0 ∷ 0 ∷ 9 ∷ []) 4
 
-abbrev five : List ℕ → List ℕ → Observer
-five ls ms = observed (1 ∷ 2 ∷ 3 ∷ 4 ∷ 5 ∷ []) (0 ∷ 10 ∷ 20 ∷ 30 ∷ 40 ∷ []) ls ms 5
+abbrev five : List ℕ → List ℕ → List ℕ → Observer
+five ls ms rs = observed (1 ∷ 2 ∷ 3 ∷ 4 ∷ 5 ∷ []) (0 ∷ 10 ∷ 20 ∷ 30 ∷ 40 ∷ []) ls ms rs 5
 
 abbrev sent : Observer
-sent = five (0 ∷ 0 ∷ 0 ∷ 0 ∷ 0 ∷ []) (0 ∷ 0 ∷ 0 ∷ 0 ∷ 0 ∷ [])
+sent = five (0 ∷ 0 ∷ 0 ∷ 0 ∷ 0 ∷ []) (0 ∷ 0 ∷ 0 ∷ 0 ∷ 0 ∷ []) (0 ∷ 0 ∷ 0 ∷ 0 ∷ 0 ∷ [])
 
 abbrev with2 : Observer
-with2 = five (0 ∷ 40 ∷ 0 ∷ 0 ∷ 0 ∷ []) (0 ∷ 1 ∷ 0 ∷ 0 ∷ 0 ∷ [])
+with2 = five (0 ∷ 40 ∷ 0 ∷ 0 ∷ 0 ∷ []) (0 ∷ 1 ∷ 0 ∷ 0 ∷ 0 ∷ []) (0 ∷ 50 ∷ 0 ∷ 0 ∷ 0 ∷ [])
 
 abbrev with2And5 : Observer
-with2And5 = five (0 ∷ 40 ∷ 0 ∷ 0 ∷ 20 ∷ []) (0 ∷ 1 ∷ 0 ∷ 0 ∷ 1 ∷ [])
+with2And5 = five (0 ∷ 40 ∷ 0 ∷ 0 ∷ 20 ∷ []) (0 ∷ 1 ∷ 0 ∷ 0 ∷ 1 ∷ []) (0 ∷ 50 ∷ 0 ∷ 0 ∷ 60 ∷ [])
 
 sent-one : recordSent freshObserver 1 0 .observer ≡ one
 unfolding firstCause capacity rows withRows wellFormed judged holds entered sendingCauses recordSent

@@ -24,9 +24,10 @@ pub record Tally : Type 0 where
   pub outOfOrder : ℕ
   pub errorIndications : ℕ
 
--- "a row for each packet, with its sequence and send time, latency 0, mark 0"
+-- "a row for each packet, with its sequence and send time, latency 0, mark 0". "The tally's rows have the column too:
+-- 0, then the time of the return that marks the row" (document 02, job 8).
 abbrev pub rowFor : MeasurementHeader → Row
-rowFor packet = rowOfFields (packet .sequence) (packet .«send_timestamp_ns») 0 0
+rowFor packet = rowOfFields (packet .sequence) (packet .«send_timestamp_ns») 0 0 0
 
 -- "It has, in plan order, a row for each packet .., and the sheet's counters at 0."
 abbrev pub tallyOf : List MeasurementHeader → Tally
@@ -44,16 +45,16 @@ isRefused (gives x) = false
 
 -- the row of packet k (no list of returns here has a k past the last)
 abbrev pub rowOfPacket : ℕ → List Row → Row
-rowOfPacket k rows = getD rows k (rowOfFields 0 0 0 0)
+rowOfPacket k rows = getD rows k (rowOfFields 0 0 0 0 0)
 
 -- "a row of higher sequence is marked"
 abbrev pub higherMarked : ℕ → List Row → Bool
 higherMarked q [] = false
 higherMarked q (r ∷ rows) = (ltb q (r .sequence) && eqb (r .mark) 1) || higherMarked q rows
 
--- "the row gets mark 1 and as latency its time less the send time"
+-- "the row gets mark 1 and as latency its time less the send time", and "the time of the return that marks the row"
 abbrev pub marked : ℕ → Row → Row
-marked time r = rowOfFields (r .sequence) (r .«send_timestamp_ns») (time - r .«send_timestamp_ns») 1
+marked time r = rowOfFields (r .sequence) (r .«send_timestamp_ns») (time - r .«send_timestamp_ns») 1 time
 
 -- "If its row is marked, duplicates rise by 1. Else out-of-order returns rise by 1 if a row of higher sequence is
 -- marked; then the row gets mark 1 and .. latency .. Counters saturate."
@@ -105,4 +106,4 @@ tallyReport a windowStart windowEnd budget = reportOf (a .rows) (countsOf a) win
 
 -- Columns that are all the same, for examples.
 abbrev pub eachColumn : List ℕ → Columns
-eachColumn l = columnsOf l l l l
+eachColumn l = columnsOf l l l l l

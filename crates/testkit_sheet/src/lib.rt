@@ -60,11 +60,12 @@ pub extern "C" fn testkit_record_sent(
     send_timestamps: &mut [u64],
     latencies: &mut [u64],
     marks: &mut [u8],
+    arrival_timestamps: &mut [u64],
     counts: ObserverCounts,
     sequence: u64,
     send_timestamp_ns: u64,
 ) -> TestkitRecorded
-    ensures { λ r. ⌜ Records (sheet sequences «send_timestamps» latencies marks) counts r
+    ensures { λ r. ⌜ Records (sheet sequences «send_timestamps» latencies marks «arrival_timestamps») counts r
         (λ o. recordSent o sequence «send_timestamp_ns») ⌝ }
 {
     recorded_numbers(observer::record_sent(
@@ -72,6 +73,7 @@ pub extern "C" fn testkit_record_sent(
         send_timestamps,
         latencies,
         marks,
+        arrival_timestamps,
         counts,
         sequence,
         send_timestamp_ns,
@@ -85,11 +87,12 @@ pub extern "C" fn testkit_record_received_tpdu(
     send_timestamps: &[u64],
     latencies: &mut [u64],
     marks: &mut [u8],
+    arrival_timestamps: &mut [u64],
     counts: ObserverCounts,
     return_timestamp_ns: u64,
     tpdu: &[u8],
 ) -> TestkitRecorded
-    ensures { λ r. ⌜ Records (sheet sequences «send_timestamps» latencies marks) counts r
+    ensures { λ r. ⌜ Records (sheet sequences «send_timestamps» latencies marks «arrival_timestamps») counts r
         (λ o. recordReceivedTpdu o «return_timestamp_ns» (now (tpdu .entry))) ⌝ }
 {
     recorded_numbers(return_calls::record_received_tpdu(
@@ -97,6 +100,7 @@ pub extern "C" fn testkit_record_received_tpdu(
         send_timestamps,
         latencies,
         marks,
+        arrival_timestamps,
         counts,
         return_timestamp_ns,
         tpdu,
@@ -110,11 +114,12 @@ pub extern "C" fn testkit_record_sent_plan(
     send_timestamps: &mut [u64],
     latencies: &mut [u64],
     marks: &mut [u8],
+    arrival_timestamps: &mut [u64],
     counts: ObserverCounts,
     plan: TrafficPlan,
     next_sequence: u64,
 ) -> TestkitRecorded
-    ensures { λ r. ⌜ Records (sheet sequences «send_timestamps» latencies marks) counts r
+    ensures { λ r. ⌜ Records (sheet sequences «send_timestamps» latencies marks «arrival_timestamps») counts r
         (λ o. recordSentPlan o plan «next_sequence») ⌝ }
 {
     recorded_numbers(sent_plan::record_sent_plan(
@@ -122,6 +127,7 @@ pub extern "C" fn testkit_record_sent_plan(
         send_timestamps,
         latencies,
         marks,
+        arrival_timestamps,
         counts,
         plan,
         next_sequence,
@@ -174,6 +180,7 @@ pub extern "C" fn testkit_record_received_tpdus(
     send_timestamps: &[u64],
     latencies: &mut [u64],
     marks: &mut [u8],
+    arrival_timestamps: &mut [u64],
     counts: ObserverCounts,
     return_timestamps: &[u64],
     lengths: &[usize],
@@ -181,7 +188,8 @@ pub extern "C" fn testkit_record_received_tpdus(
     returned: &mut [u64],
     numbers: &mut [u8],
 ) -> TestkitReturnsRecorded
-    ensures { λ r. ⌜ RecordsReturns (sheet sequences «send_timestamps» latencies marks) counts r returned numbers
+    ensures { λ r. ⌜ RecordsReturns (sheet sequences «send_timestamps» latencies marks «arrival_timestamps») counts r
+        returned numbers
         (λ o. recordReceivedTpdus o (now («return_timestamps» .entry)) (now (lengths .entry)) (now (tpdus .entry))) ⌝ }
 {
     returns_numbers(received_tpdus::record_received_tpdus(
@@ -189,6 +197,7 @@ pub extern "C" fn testkit_record_received_tpdus(
         send_timestamps,
         latencies,
         marks,
+        arrival_timestamps,
         counts,
         return_timestamps,
         lengths,
@@ -285,12 +294,13 @@ pub extern "C" fn testkit_record_return_gtpu_datagram(
     send_timestamps: &[u64],
     latencies: &mut [u64],
     marks: &mut [u8],
+    arrival_timestamps: &mut [u64],
     counts: ObserverCounts,
     return_timestamp_ns: u64,
     message_type: u8,
     payload: &[u8],
 ) -> TestkitDatagramRecorded
-    ensures { λ r. ⌜ RecordsDatagram (sheet sequences «send_timestamps» latencies marks) counts r
+    ensures { λ r. ⌜ RecordsDatagram (sheet sequences «send_timestamps» latencies marks «arrival_timestamps») counts r
         (now (payload .entry))
         (λ o. recordReturnMessage o «return_timestamp_ns» «message_type» (now (payload .entry))) ⌝ }
 {
@@ -299,6 +309,7 @@ pub extern "C" fn testkit_record_return_gtpu_datagram(
         send_timestamps,
         latencies,
         marks,
+        arrival_timestamps,
         counts,
         return_timestamp_ns,
         GtpuMessage {
@@ -419,12 +430,14 @@ pub extern "C" fn testkit_report(
     send_timestamps: &[u64],
     latencies: &[u64],
     marks: &[u8],
+    arrival_timestamps: &[u64],
     counts: ObserverCounts,
     window_start_ns: u64,
     window_end_ns: u64,
     budget: PacketContinuityBudget,
 ) -> TestkitContinuityReport
-    ensures { λ r. ⌜ r ≡ reportNumbers (reporting (lent (sheet sequences «send_timestamps» latencies marks) counts)
+    ensures { λ r. ⌜ r ≡ reportNumbers
+        (reporting (lent (sheet sequences «send_timestamps» latencies marks «arrival_timestamps») counts)
         «window_start_ns» «window_end_ns» budget) ⌝ }
 {
     let reported = report::report(
@@ -432,6 +445,7 @@ pub extern "C" fn testkit_report(
         send_timestamps,
         latencies,
         marks,
+        arrival_timestamps,
         counts,
         window_start_ns,
         window_end_ns,

@@ -51,7 +51,8 @@ pub fn generate(
     (packets, engine.next_sequence())
 }
 
-/// A row of the run sheet. Latency is 0 where nothing has returned.
+/// A row of the run sheet, without the arrival time, which the Rust does not keep. Latency is 0 where
+/// nothing has returned.
 #[derive(Debug, Clone, Copy, PartialEq, Eq)]
 pub struct Row {
     pub sequence: u64,
@@ -67,6 +68,15 @@ pub struct Sheet {
     pub duplicates: u64,
     pub out_of_order: u64,
     pub error_indications: u64,
+}
+
+impl Sheet {
+    /// The row of a sequence.
+    pub fn row(&self, sequence: u64) -> Option<Row> {
+        let rows = &self.rows;
+        let found = rows.binary_search_by_key(&sequence, |row| row.sequence);
+        found.ok().map(|at| rows[at])
+    }
 }
 
 /// The Rust's observer. `Observer::default()` is a fresh one.

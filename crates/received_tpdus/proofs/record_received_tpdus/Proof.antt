@@ -24,10 +24,10 @@ use Rattle.received_tpdus.proofs.record_received_tpdus.Statement.{state
 use Rattle.received_tpdus.proofs.record_received_tpdus.Tie as tie
 
 abbrev Inv-loop : tie.InvT-loop
-Inv-loop sequences send-timestamps latencies₀ marks₀ return-timestamps lengths tpdus returned₀ numbers₀ room returns latest₀ at₀ i₀ latencies marks returned numbers latest at i =
-    (joined (take i numbers) (inTurn recordReceived (observerOf (columnsOf sequences send-timestamps latencies marks) latest) (leftFrom return-timestamps (tpdusOf lengths tpdus) returns i))
-    ≡ inTurn recordReceived (observerOf (columnsOf sequences send-timestamps latencies₀ marks₀) latest₀) (receivedOf return-timestamps (take returns (tpdusOf lengths tpdus))))
-    × (wellFormed (observerOf (columnsOf sequences send-timestamps latencies marks) latest) ≡ true)
+Inv-loop sequences send-timestamps latencies₀ marks₀ arrival-timestamps₀ return-timestamps lengths tpdus returned₀ numbers₀ room returns latest₀ at₀ i₀ latencies marks arrival-timestamps returned numbers latest at i =
+    (joined (take i numbers) (inTurn recordReceived (observerOf (columnsOf sequences send-timestamps latencies marks arrival-timestamps) latest) (leftFrom return-timestamps (tpdusOf lengths tpdus) returns i))
+    ≡ inTurn recordReceived (observerOf (columnsOf sequences send-timestamps latencies₀ marks₀ arrival-timestamps₀) latest₀) (receivedOf return-timestamps (take returns (tpdusOf lengths tpdus))))
+    × (wellFormed (observerOf (columnsOf sequences send-timestamps latencies marks arrival-timestamps) latest) ≡ true)
     × (drop i numbers ≡ drop i numbers₀)
     × (i ≤ returns)
     × (at ≤ length tpdus)
@@ -35,19 +35,20 @@ Inv-loop sequences send-timestamps latencies₀ marks₀ return-timestamps lengt
     × (returned ≡ map (λ tpdu. sequenceNumbers (sequenceRead tpdu) .sequence) (take i (tpdusOf lengths tpdus)) ++ drop i returned₀)
     × (length latencies ≡ length latencies₀)
     × (length marks ≡ length marks₀)
+    × (length arrival-timestamps ≡ length arrival-timestamps₀)
     × (length returned ≡ length returned₀)
     × (length numbers ≡ length numbers₀)
 
 abbrev μ-loop : tie.MeasureT-loop
-μ-loop sequences send-timestamps latencies₀ marks₀ return-timestamps lengths tpdus returned₀ numbers₀ room returns latest₀ at₀ i₀ latencies marks returned numbers latest at i =
+μ-loop sequences send-timestamps latencies₀ marks₀ arrival-timestamps₀ return-timestamps lengths tpdus returned₀ numbers₀ room returns latest₀ at₀ i₀ latencies marks arrival-timestamps returned numbers latest at i =
     returns - i
 
 -- the observer as it came in
 abbrev start : tie.After-well-formed Inv-loop μ-loop → tie.Start Inv-loop μ-loop
-start c = c .before .before .before .before .before .before .before .before .before .before .before .before
+start c = c .before .before .before .before .before .before .before .before .before .before .before .before .before .before
 
 abbrev observer : tie.Start Inv-loop μ-loop → Observer
-observer c = observerOf (columnsOf (c .args .sequences .now) (c .args .send-timestamps .now) (c .args .latencies .now) (c .args .marks .now)) (c .args .counts)
+observer c = observerOf (columnsOf (c .args .sequences .now) (c .args .send-timestamps .now) (c .args .latencies .now) (c .args .marks .now) (c .args .arrival-timestamps .now)) (c .args .counts)
 
 -- it was judged
 well-at : (c : tie.Else1 Inv-loop μ-loop) → wellFormed (observer (start (c .before))) ≡ true
@@ -64,7 +65,7 @@ returns-are c = omega (arith, c .least3 .ensures, c .before .least2 .ensures, c 
 abbrev so-far : tie.At-loop Inv-loop μ-loop → Observer
 so-far c =
     let a = judged (c .before) .args in
-    observerOf (columnsOf (a .sequences .now) (a .send-timestamps .now) (c .loop .latencies) (c .loop .marks)) (c .loop .latest)
+    observerOf (columnsOf (a .sequences .now) (a .send-timestamps .now) (c .loop .latencies) (c .loop .marks) (c .loop .arrival-timestamps)) (c .loop .latest)
 
 abbrev in-loop : tie.After-read-sequence Inv-loop μ-loop → tie.In-loop Inv-loop μ-loop
 in-loop c = c .before .before .before .before
@@ -103,6 +104,9 @@ same-length c = search needs
 same-length-2 : tie.Need-same-length-2 Inv-loop μ-loop
 same-length-2 c = search needs
 
+same-length-3 : tie.Need-same-length-3 Inv-loop μ-loop
+same-length-3 c = search needs
+
 returns : tie.Need-returns Inv-loop μ-loop
 returns c =
     let s = start (c .before) in
@@ -128,6 +132,7 @@ loop-holds c =
       refl,
       omega arith,
       omega arith,
+      refl,
       refl,
       refl,
       refl,
@@ -192,12 +197,13 @@ loop-again c =
           (ap (λ (x : SequenceRead). x .sequence) (r .ensures)),
       l .inv .7,
       l .inv .8,
-      length-set (l .returned) (l .i) (r .result .sequence) ∙ l .inv .9,
-      length-set (l .numbers) (l .i) (r .result .number) ∙ l .inv .10,
+      l .inv .9,
+      length-set (l .returned) (l .i) (r .result .sequence) ∙ l .inv .10,
+      length-set (l .numbers) (l .i) (r .result .number) ∙ l .inv .11,
     )
 
 mul-arrive : tie.Need-mul-arrive Inv-loop μ-loop
-mul-arrive c = omega (arith, small (in-loop (c .before .before .before .before)))
+mul-arrive c = omega (arith, small (in-loop (c .before .before .before .before .before)))
 
 shared-slice-read-arrive : tie.Need-shared-slice-read-arrive Inv-loop μ-loop
 shared-slice-read-arrive c = omega arith
@@ -212,7 +218,10 @@ answer-number-requires : tie.Need-answer-number-requires Inv-loop μ-loop
 answer-number-requires c κs = search needs
 
 slice-write-numbers-2 : tie.Need-slice-write-numbers-2 Inv-loop μ-loop
-slice-write-numbers-2 c = omega arith
+slice-write-numbers-2 c =
+    let read = c .before .before .before .before .before .before .before .before .before .before .before .before .before .before .before in
+    let at = looping read in
+    omega (arith, room at, in-loop read .loop-test .taken, at .loop .inv .11)
 
 add-i-2 : tie.Need-add-i-2 Inv-loop μ-loop
 add-i-2 c = omega arith
@@ -224,9 +233,9 @@ loop-again-2 : tie.Need-loop-again-2 Inv-loop μ-loop
 loop-again-2 c =
     let n = c .before .answer-number in
     let done = c .before .before in
-    let taken-latencies = done .before .before .before .before in
+    let taken-latencies = done .before .before .before .before .before .before in
     let taken = taken-latencies .before in
-    let else = taken .before .before .before .before in
+    let else = taken .before .before .before .before .before in
     let read = else .before .before in
     let at = looping read in
     let l = at .loop in
@@ -238,31 +247,35 @@ loop-again-2 c =
     let s =
     return-is o (getD (a .return-timestamps .now) (l .i) 0) (r .result .sequence) (taken .arrive .result) (done .returned .result) _ (l .inv .1) (taken .arrive .ensures) (done .returned .ensures)
     ∙ of-sequence o (getD (a .return-timestamps .now) (l .i) 0) _ (r .result) (r .ensures) (else .if2 .left) in (
-      received-step (a .return-timestamps .now) _ (at .before .least3 .result) (l .i) _ _ (omega (arith, room at, below)) below next o (l .numbers) _ _ (n .result) (omega (arith, room at, below, l .inv .9, l .inv .10)) s (n .ensures) (l .inv .0),
+      received-step (a .return-timestamps .now) _ (at .before .least3 .result) (l .i) _ _ (omega (arith, room at, below)) below next o (l .numbers) _ _ (n .result) (omega (arith, room at, below, l .inv .10, l .inv .11)) s (n .ensures) (l .inv .0),
       still-well o (getD (a .return-timestamps .now) (l .i) 0) _ s (l .inv .1),
-      stored-behind (l .numbers) (a .numbers .now) (l .i) (n .result) (omega (arith, room at, below, l .inv .9, l .inv .10)) (omega (arith, room at, below, l .inv .9, l .inv .10)) (l .inv .2),
+      stored-behind (l .numbers) (a .numbers .now) (l .i) (n .result) (omega (arith, room at, below, l .inv .10, l .inv .11)) (omega (arith, room at, below, l .inv .10, l .inv .11)) (l .inv .2),
       omega (arith, below),
       omega (arith, l .inv .4, read .before .before .tpdu-end .ensures),
       tpdus-behind _ _ _ (l .i) next,
-      stored (λ tpdu. sequenceNumbers (sequenceRead tpdu) .sequence) _ _ _ (a .returned .now) (l .returned) (l .i) (r .result .sequence) next (omega (arith, room at, below, l .inv .9, l .inv .10)) (l .inv .6)
+      stored (λ tpdu. sequenceNumbers (sequenceRead tpdu) .sequence) _ _ _ (a .returned .now) (l .returned) (l .i) (r .result .sequence) next (omega (arith, room at, below, l .inv .10, l .inv .11)) (l .inv .6)
           (ap (λ (x : SequenceRead). x .sequence) (r .ensures)),
       omega (arith, l .inv .7, taken-latencies .latencies .given),
-      omega (arith, l .inv .8, done .before .before .marks .given),
-      length-set (l .returned) (l .i) (r .result .sequence) ∙ l .inv .9,
-      length-set (l .numbers) (l .i) (n .result) ∙ l .inv .10,
+      omega (arith, l .inv .8, done .before .before .before .before .marks .given),
+      omega (arith, l .inv .9, done .before .before .arrival-timestamps .given),
+      length-set (l .returned) (l .i) (r .result .sequence) ∙ l .inv .10,
+      length-set (l .numbers) (l .i) (n .result) ∙ l .inv .11,
     )
 
-same-length-3 : tie.Need-same-length-3 Inv-loop μ-loop
-same-length-3 c = c .before .loop .inv .7
-
 same-length-4 : tie.Need-same-length-4 Inv-loop μ-loop
-same-length-4 c = c .before .loop .inv .8
+same-length-4 c = c .before .loop .inv .7
 
 same-length-5 : tie.Need-same-length-5 Inv-loop μ-loop
-same-length-5 c = c .before .loop .inv .9
+same-length-5 c = c .before .loop .inv .8
 
 same-length-6 : tie.Need-same-length-6 Inv-loop μ-loop
-same-length-6 c = c .before .loop .inv .10
+same-length-6 c = c .before .loop .inv .9
+
+same-length-7 : tie.Need-same-length-7 Inv-loop μ-loop
+same-length-7 c = c .before .loop .inv .10
+
+same-length-8 : tie.Need-same-length-8 Inv-loop μ-loop
+same-length-8 c = c .before .loop .inv .11
 
 returns-2 : tie.Need-returns-2 Inv-loop μ-loop
 returns-2 c =
@@ -271,7 +284,7 @@ returns-2 c =
     let s = judged (at .before) in
     let a = s .args in
     received-all (observer s) (a .return-timestamps .now) (a .lengths .now) (a .tpdus .now) (a .returned .now) (a .numbers .now) (at .before .least3 .result) (returns-are (at .before))
-    (well-at (at .before .before .before .before)) (l .i) (so-far at) (l .returned) (l .numbers) (omega arith) (l .inv .10) (l .inv .0) (l .inv .2) (l .inv .6)
+    (well-at (at .before .before .before .before)) (l .i) (so-far at) (l .returned) (l .numbers) (omega arith) (l .inv .11) (l .inv .0) (l .inv .2) (l .inv .6)
 
 pub record-received-tpdus-spec : {M : Type 1} → statement M
 record-received-tpdus-spec =
@@ -282,6 +295,7 @@ record-received-tpdus-spec =
     well-formed-requires
     same-length
     same-length-2
+    same-length-3
     returns
     least-requires
     least-requires-2
@@ -309,8 +323,9 @@ record-received-tpdus-spec =
     add-i-2
     loop-less-2
     loop-again-2
-    same-length-3
     same-length-4
     same-length-5
     same-length-6
+    same-length-7
+    same-length-8
     returns-2)

@@ -6,11 +6,11 @@ use Rattle.rehearsal_records.proofs.print_probes.Statement.{statement}
 use Rattle.rehearsal_records.proofs.print_probes.Tie as tie
 
 abbrev Inv-loop : tie.InvT-loop
-Inv-loop sequences send-timestamps latencies marks fates row₀ t8 row =
+Inv-loop sequences send-timestamps latencies marks arrival-timestamps fates row₀ t8 row =
     row ≤ length fates
 
 abbrev μ-loop : tie.MeasureT-loop
-μ-loop sequences send-timestamps latencies marks fates row₀ t8 row =
+μ-loop sequences send-timestamps latencies marks arrival-timestamps fates row₀ t8 row =
     length fates - row
 
 slice-aggregate-print : tie.Need-slice-aggregate-print Inv-loop μ-loop
@@ -36,6 +36,9 @@ number-at-requires-3 c κs = search needs
 
 byte-at-requires : tie.Need-byte-at-requires Inv-loop μ-loop
 byte-at-requires c κs = search needs
+
+number-at-requires-4 : tie.Need-number-at-requires-4 Inv-loop μ-loop
+number-at-requires-4 c κs = search needs
 
 shared-slice-read-print-probe : tie.Need-shared-slice-read-print-probe Inv-loop μ-loop
 shared-slice-read-print-probe c = search needs
@@ -75,6 +78,7 @@ print-probes-spec =
     number-at-requires-2
     number-at-requires-3
     byte-at-requires
+    number-at-requires-4
     shared-slice-read-print-probe
     print-probe-requires
     add-row

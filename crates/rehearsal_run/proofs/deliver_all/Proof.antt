@@ -7,11 +7,11 @@ use Rattle.rehearsal_run.proofs.deliver_all.Statement.{statement}
 use Rattle.rehearsal_run.proofs.deliver_all.Tie as tie
 
 abbrev Inv-loop : tie.InvT-loop
-Inv-loop s order returns packets sequences send-timestamps latencies₀ marks₀ fates₀ refusals₀ run₀ i₀ latencies marks fates refusals run i =
-    (i ≤ returns) × (length latencies ≡ length latencies₀) × (length marks ≡ length marks₀) × (length fates ≡ length fates₀) × (length refusals ≡ length refusals₀)
+Inv-loop s order returns packets sequences send-timestamps latencies₀ marks₀ arrival-timestamps₀ fates₀ refusals₀ run₀ i₀ latencies marks arrival-timestamps fates refusals run i =
+    (i ≤ returns) × (length latencies ≡ length latencies₀) × (length marks ≡ length marks₀) × (length arrival-timestamps ≡ length arrival-timestamps₀) × (length fates ≡ length fates₀) × (length refusals ≡ length refusals₀)
 
 abbrev μ-loop : tie.MeasureT-loop
-μ-loop s order returns packets sequences send-timestamps latencies₀ marks₀ fates₀ refusals₀ run₀ i₀ latencies marks fates refusals run i =
+μ-loop s order returns packets sequences send-timestamps latencies₀ marks₀ arrival-timestamps₀ fates₀ refusals₀ run₀ i₀ latencies marks arrival-timestamps fates refusals run i =
     returns - i
 
 loop-holds : tie.Need-loop-holds Inv-loop μ-loop
@@ -44,6 +44,9 @@ same-length-3 c = search needs
 same-length-4 : tie.Need-same-length-4 Inv-loop μ-loop
 same-length-4 c = search needs
 
+same-length-5 : tie.Need-same-length-5 Inv-loop μ-loop
+same-length-5 c = search needs
+
 returns : tie.Need-returns Inv-loop μ-loop
 returns c = search needs
 
@@ -63,4 +66,5 @@ deliver-all-spec =
     same-length-2
     same-length-3
     same-length-4
+    same-length-5
     returns)

@@ -15,10 +15,10 @@ use Rattle.report.proofs.report.Tie as tie
 
 -- the observer as it came in
 abbrev start : tie.After-well-formed → tie.Start
-start c = c .before .before .before .before .before
+start c = c .before .before .before .before .before .before
 
 abbrev observer : tie.Start → Observer
-observer c = observerOf (columnsOf (c .args .sequences .now) (c .args .send-timestamps .now) (c .args .latencies .now) (c .args .marks .now)) (c .args .counts)
+observer c = observerOf (columnsOf (c .args .sequences .now) (c .args .send-timestamps .now) (c .args .latencies .now) (c .args .marks .now) (c .args .arrival-timestamps .now)) (c .args .counts)
 
 well-at : (c : tie.Else1) → Well (observer (start (c .before)))
 well-at c = well (observer (start (c .before))) (sym (c .before .well-formed .ensures) ∙ not-false _ (c .if1 .left))

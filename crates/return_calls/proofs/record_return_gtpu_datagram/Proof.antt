@@ -16,10 +16,10 @@ use Rattle.return_calls.proofs.record_return_gtpu_datagram.Tie as tie
 
 -- the observer as it came in
 abbrev start : tie.After-read-message → tie.Start
-start c = c .before .before .before .before .before .before
+start c = c .before .before .before .before .before .before .before
 
 abbrev observer : tie.Start → Observer
-observer c = observerOf (columnsOf (c .args .sequences .now) (c .args .send-timestamps .now) (c .args .latencies .now) (c .args .marks .now)) (c .args .counts)
+observer c = observerOf (columnsOf (c .args .sequences .now) (c .args .send-timestamps .now) (c .args .latencies .now) (c .args .marks .now) (c .args .arrival-timestamps .now)) (c .args .counts)
 
 read-message-requires : tie.Need-read-message-requires
 read-message-requires c κs = search needs
@@ -36,10 +36,13 @@ same-length c = search needs
 same-length-2 : tie.Need-same-length-2
 same-length-2 c = search needs
 
+same-length-3 : tie.Need-same-length-3
+same-length-3 c = search needs
+
 returns : tie.Need-returns
 returns c =
-    let done = c .before .before .before .before .before in
-    let read = done .before .before .before .before in
+    let done = c .before .before .before .before .before .before .before in
+    let read = done .before .before .before .before .before in
     let s = start read in
     let a = s .args in
     let kind = messageKind (a .message .«message_type») in
@@ -62,4 +65,5 @@ record-return-gtpu-datagram-spec =
     message-answer-requires
     same-length
     same-length-2
+    same-length-3
     returns)

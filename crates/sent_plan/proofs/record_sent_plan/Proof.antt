@@ -26,26 +26,27 @@ use Rattle.sent_plan.proofs.record_sent_plan.Statement.{statement}
 use Rattle.sent_plan.proofs.record_sent_plan.Tie as tie
 
 abbrev Inv-loop : tie.InvT-loop
-Inv-loop sequences₀ send-timestamps₀ latencies₀ marks₀ plan next-sequence interval used room so-far₀ k₀ sequences send-timestamps latencies marks so-far k =
-    (sendInTurn (observerOf (columnsOf sequences send-timestamps latencies marks) so-far) (leftFrom plan next-sequence k) .observer
-    ≡ sendInTurn (observerOf (columnsOf sequences₀ send-timestamps₀ latencies₀ marks₀) so-far₀) (packetsOf plan next-sequence) .observer)
-    × (wellFormed (observerOf (columnsOf sequences send-timestamps latencies marks) so-far) ≡ true)
+Inv-loop sequences₀ send-timestamps₀ latencies₀ marks₀ arrival-timestamps₀ plan next-sequence interval used room so-far₀ k₀ sequences send-timestamps latencies marks arrival-timestamps so-far k =
+    (sendInTurn (observerOf (columnsOf sequences send-timestamps latencies marks arrival-timestamps) so-far) (leftFrom plan next-sequence k) .observer
+    ≡ sendInTurn (observerOf (columnsOf sequences₀ send-timestamps₀ latencies₀ marks₀ arrival-timestamps₀) so-far₀) (packetsOf plan next-sequence) .observer)
+    × (wellFormed (observerOf (columnsOf sequences send-timestamps latencies marks arrival-timestamps) so-far) ≡ true)
     × (k ≤ plan .«packet_count»)
     × (length sequences ≡ length sequences₀)
     × (length send-timestamps ≡ length send-timestamps₀)
     × (length latencies ≡ length latencies₀)
     × (length marks ≡ length marks₀)
+    × (length arrival-timestamps ≡ length arrival-timestamps₀)
 
 abbrev μ-loop : tie.MeasureT-loop
-μ-loop sequences₀ send-timestamps₀ latencies₀ marks₀ plan next-sequence interval used room so-far₀ k₀ sequences send-timestamps latencies marks so-far k =
+μ-loop sequences₀ send-timestamps₀ latencies₀ marks₀ arrival-timestamps₀ plan next-sequence interval used room so-far₀ k₀ sequences send-timestamps latencies marks arrival-timestamps so-far k =
     plan .«packet_count» - k
 
 -- the observer as it came in
 abbrev start : tie.After-well-formed Inv-loop μ-loop → tie.Start Inv-loop μ-loop
-start c = c .before .before .before .before .before .before .before .before .before
+start c = c .before .before .before .before .before .before .before .before .before .before .before
 
 abbrev observer : tie.Start Inv-loop μ-loop → Observer
-observer c = observerOf (columnsOf (c .args .sequences .now) (c .args .send-timestamps .now) (c .args .latencies .now) (c .args .marks .now)) (c .args .counts)
+observer c = observerOf (columnsOf (c .args .sequences .now) (c .args .send-timestamps .now) (c .args .latencies .now) (c .args .marks .now) (c .args .arrival-timestamps .now)) (c .args .counts)
 
 -- it was judged
 abbrev called-from : tie.After-judge-plan Inv-loop μ-loop → tie.Start Inv-loop μ-loop
@@ -91,10 +92,10 @@ abbrev at-loop : tie.Then3 Inv-loop μ-loop → tie.At-loop Inv-loop μ-loop
 at-loop c = c .before .before
 
 abbrev taken : tie.After-struct-known2 Inv-loop μ-loop → tie.Then3 Inv-loop μ-loop
-taken c = c .before .before .before .before .before
+taken c = c .before .before .before .before .before .before
 
 abbrev put : tie.After-so-far Inv-loop μ-loop → tie.After-enter Inv-loop μ-loop
-put c = c .before .before .before .before .before .before .before .before .before .before
+put c = c .before .before .before .before .before .before .before .before .before .before .before .before
 
 well-formed-requires : tie.Need-well-formed-requires Inv-loop μ-loop
 well-formed-requires c κs = search needs
@@ -110,6 +111,9 @@ same-length-3 c = search needs
 
 same-length-4 : tie.Need-same-length-4 Inv-loop μ-loop
 same-length-4 c = search needs
+
+same-length-5 : tie.Need-same-length-5 Inv-loop μ-loop
+same-length-5 c = search needs
 
 returns : tie.Need-returns Inv-loop μ-loop
 returns c =
@@ -138,9 +142,6 @@ rows-needed-requires c κs =
     let w = well-of t in
     (w .room .sequences, w .rises, planned t .count, planned t .sequences)
 
-same-length-5 : tie.Need-same-length-5 Inv-loop μ-loop
-same-length-5 c = search needs
-
 same-length-6 : tie.Need-same-length-6 Inv-loop μ-loop
 same-length-6 c = search needs
 
@@ -149,6 +150,12 @@ same-length-7 c = search needs
 
 same-length-8 : tie.Need-same-length-8 Inv-loop μ-loop
 same-length-8 c = search needs
+
+same-length-9 : tie.Need-same-length-9 Inv-loop μ-loop
+same-length-9 c = search needs
+
+same-length-10 : tie.Need-same-length-10 Inv-loop μ-loop
+same-length-10 c = search needs
 
 returns-2 : tie.Need-returns-2 Inv-loop μ-loop
 unfolding capacity
@@ -171,16 +178,17 @@ loop-holds c =
       refl,
       refl,
       refl,
+      refl,
     )
 
 add-enter : tie.Need-add-enter Inv-loop μ-loop
 add-enter c =
-    let t = c .before .before .before .before in
+    let t = c .before .before .before .before .before in
     omega (arith, t .if3 .taken, planned (looping (at-loop t)) .sequences)
 
 mul-enter : tie.Need-mul-enter Inv-loop μ-loop
 mul-enter c =
-    let t = c .before .before .before .before in
+    let t = c .before .before .before .before .before in
     let l = at-loop t in
     omega (arith, planned-fits (planned (looping l)) (l .loop .k) (t .if3 .taken))
 
@@ -212,7 +220,7 @@ loop-again c =
     let here = at .loop in
     let told = looping at in
     let a = called-from (judged told) .args in
-    let o = observerOf (columnsOf (here .sequences) (here .send-timestamps) (here .latencies) (here .marks)) (here .so-far) in
+    let o = observerOf (columnsOf (here .sequences) (here .send-timestamps) (here .latencies) (here .marks) (here .arrival-timestamps)) (here .so-far) in
     let sent = entered-is o (a .next-sequence + here .k) _ (e .enter .result) (r .result) _ (here .inv .1) (e .enter .ensures) (r .ensures) in (
       sent-on (a .plan) (a .next-sequence) (r .result) _ o (here .k) _ sent (planned-time (planned told) (here .k)) (t .if3 .taken) _ (here .inv .0),
       sent-well (a .plan) (a .next-sequence) (r .result) _ o (here .k) _ sent (here .inv .1),
@@ -220,20 +228,24 @@ loop-again c =
       omega arith,
       omega arith,
       omega arith,
-      omega arith,
+      omega (arith, here .inv .6, c .before .before .before .before .before .marks .given),
+      omega (arith, here .inv .7, c .before .before .before .arrival-timestamps .given),
     )
-
-same-length-9 : tie.Need-same-length-9 Inv-loop μ-loop
-same-length-9 c = search needs
-
-same-length-10 : tie.Need-same-length-10 Inv-loop μ-loop
-same-length-10 c = search needs
 
 same-length-11 : tie.Need-same-length-11 Inv-loop μ-loop
 same-length-11 c = search needs
 
 same-length-12 : tie.Need-same-length-12 Inv-loop μ-loop
 same-length-12 c = search needs
+
+same-length-13 : tie.Need-same-length-13 Inv-loop μ-loop
+same-length-13 c = search needs
+
+same-length-14 : tie.Need-same-length-14 Inv-loop μ-loop
+same-length-14 c = search needs
+
+same-length-15 : tie.Need-same-length-15 Inv-loop μ-loop
+same-length-15 c = search needs
 
 returns-3 : tie.Need-returns-3 Inv-loop μ-loop
 returns-3 c =
@@ -243,17 +255,20 @@ returns-3 c =
     plan-judged _ (a .plan) (a .next-sequence) (well-at j) _
     (answer-refused (a .plan) (a .next-sequence) (j .judge-plan .result) (j .judge-plan .ensures) (told .answer .given .0 .0) (told .answer .given .1))
 
-same-length-13 : tie.Need-same-length-13 Inv-loop μ-loop
-same-length-13 c = c .before .before .loop .inv .3
-
-same-length-14 : tie.Need-same-length-14 Inv-loop μ-loop
-same-length-14 c = c .before .before .loop .inv .4
-
-same-length-15 : tie.Need-same-length-15 Inv-loop μ-loop
-same-length-15 c = c .before .before .loop .inv .5
-
 same-length-16 : tie.Need-same-length-16 Inv-loop μ-loop
-same-length-16 c = c .before .before .loop .inv .6
+same-length-16 c = c .before .before .loop .inv .3
+
+same-length-17 : tie.Need-same-length-17 Inv-loop μ-loop
+same-length-17 c = c .before .before .loop .inv .4
+
+same-length-18 : tie.Need-same-length-18 Inv-loop μ-loop
+same-length-18 c = c .before .before .loop .inv .5
+
+same-length-19 : tie.Need-same-length-19 Inv-loop μ-loop
+same-length-19 c = c .before .before .loop .inv .6
+
+same-length-20 : tie.Need-same-length-20 Inv-loop μ-loop
+same-length-20 c = c .before .before .loop .inv .7
 
 returns-4 : tie.Need-returns-4 Inv-loop μ-loop
 unfolding capacity
@@ -265,7 +280,7 @@ returns-4 c =
     let k = measured n in
     let t = told k in
     let a = called-from (judged t) .args in
-    let o = observerOf (columnsOf (l .sequences) (l .send-timestamps) (l .latencies) (l .marks)) (l .so-far) in
+    let o = observerOf (columnsOf (l .sequences) (l .send-timestamps) (l .latencies) (l .marks) (l .arrival-timestamps)) (l .so-far) in
     room-enough (well-of t) (a .plan) (a .next-sequence) (n .rows-needed .result) (k .capacity .result) (n .rows-needed .ensures) (k .capacity .ensures) (free .if2 .left) o
     (ap (λ (x : List MeasurementHeader). sendInTurn o x .observer) (sym (left-none (a .plan) (a .next-sequence) (l .k) (c .if3 .left))) ∙ l .inv .0)
     ∙ plan-judged _ (a .plan) (a .next-sequence) (well-at (judged t)) _ (accepted t)
@@ -281,6 +296,7 @@ record-sent-plan-spec =
     same-length-2
     same-length-3
     same-length-4
+    same-length-5
     returns
     judge-plan-requires
     enum-known-answer
@@ -288,10 +304,11 @@ record-sent-plan-spec =
     capacity-requires
     sub-if2
     rows-needed-requires
-    same-length-5
     same-length-6
     same-length-7
     same-length-8
+    same-length-9
+    same-length-10
     returns-2
     loop-holds
     add-enter
@@ -302,13 +319,15 @@ record-sent-plan-spec =
     add-k
     loop-less
     loop-again
-    same-length-9
-    same-length-10
     same-length-11
     same-length-12
-    returns-3
     same-length-13
     same-length-14
     same-length-15
+    returns-3
     same-length-16
+    same-length-17
+    same-length-18
+    same-length-19
+    same-length-20
     returns-4)

@@ -16,9 +16,12 @@ same-length c = search needs
 same-length-2 : tie.Need-same-length-2
 same-length-2 c = search needs
 
+same-length-3 : tie.Need-same-length-3
+same-length-3 c = search needs
+
 returns : tie.Need-returns
 returns c =
-    let b = c .before .before .before .before .before in
+    let b = c .before .before .before .before .before .before .before in
     stepped (c .recorded-numbers .result) (b .record-received-tpdu .result) _ _ (b .record-received-tpdu .ensures) (c .recorded-numbers .ensures)
 
 pub testkit-record-received-tpdu-spec : {M : Type 1} → statement M
@@ -29,4 +32,5 @@ testkit-record-received-tpdu-spec =
     recorded-numbers-requires
     same-length
     same-length-2
+    same-length-3
     returns)

@@ -22,9 +22,12 @@ same-length-3 c = search needs
 same-length-4 : tie.Need-same-length-4
 same-length-4 c = search needs
 
+same-length-5 : tie.Need-same-length-5
+same-length-5 c = search needs
+
 returns : tie.Need-returns
 returns c =
-    let b = c .before .before .before .before .before .before .before .before .before in
+    let b = c .before .before .before .before .before .before .before .before .before .before .before in
     returns-stepped (c .returns-numbers .result) (b .record-received-tpdus .result) _ _ _ _ (b .record-received-tpdus .ensures)
     (c .returns-numbers .ensures)
 
@@ -38,4 +41,5 @@ testkit-record-received-tpdus-spec =
     same-length-2
     same-length-3
     same-length-4
+    same-length-5
     returns)

@@ -16,9 +16,12 @@ same-length c = search needs
 same-length-2 : tie.Need-same-length-2
 same-length-2 c = search needs
 
+same-length-3 : tie.Need-same-length-3
+same-length-3 c = search needs
+
 returns : tie.Need-returns
 returns c =
-    let b = c .before .before .before .before .before in
+    let b = c .before .before .before .before .before .before .before in
     datagram-stepped (c .datagram-numbers .result) (b .record-return-gtpu-datagram .result) _ _ _
     (b .record-return-gtpu-datagram .ensures .0) (b .record-return-gtpu-datagram .ensures .1) (c .datagram-numbers .ensures)
 
@@ -30,4 +33,5 @@ testkit-record-return-gtpu-datagram-spec =
     datagram-numbers-requires
     same-length
     same-length-2
+    same-length-3
     returns)

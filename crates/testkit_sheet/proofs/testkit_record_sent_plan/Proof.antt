@@ -22,9 +22,12 @@ same-length-3 c = search needs
 same-length-4 : tie.Need-same-length-4
 same-length-4 c = search needs
 
+same-length-5 : tie.Need-same-length-5
+same-length-5 c = search needs
+
 returns : tie.Need-returns
 returns c =
-    let b = c .before .before .before .before .before .before .before .before .before in
+    let b = c .before .before .before .before .before .before .before .before .before .before .before in
     stepped (c .recorded-numbers .result) (b .record-sent-plan .result) _ _ (b .record-sent-plan .ensures) (c .recorded-numbers .ensures)
 
 pub testkit-record-sent-plan-spec : {M : Type 1} → statement M
@@ -37,4 +40,5 @@ testkit-record-sent-plan-spec =
     same-length-2
     same-length-3
     same-length-4
+    same-length-5
     returns)

@@ -6,11 +6,11 @@ use Rattle.rehearsal_records.proofs.csv.print_sheet.Statement.{statemen
 use Rattle.rehearsal_records.proofs.csv.print_sheet.Tie as tie
 
 abbrev Inv-loop : tie.InvT-loop
-Inv-loop sequences send-timestamps latencies marks fates row₀ row =
+Inv-loop sequences send-timestamps latencies marks arrival-timestamps fates row₀ row =
     row ≤ length fates
 
 abbrev μ-loop : tie.MeasureT-loop
-μ-loop sequences send-timestamps latencies marks fates row₀ row =
+μ-loop sequences send-timestamps latencies marks arrival-timestamps fates row₀ row =
     length fates - row
 
 slice-aggregate-print : tie.Need-slice-aggregate-print Inv-loop μ-loop
@@ -33,6 +33,9 @@ number-at-requires-3 c κs = search needs
 
 byte-at-requires : tie.Need-byte-at-requires Inv-loop μ-loop
 byte-at-requires c κs = search needs
+
+number-at-requires-4 : tie.Need-number-at-requires-4 Inv-loop μ-loop
+number-at-requires-4 c κs = search needs
 
 shared-slice-read-print-row : tie.Need-shared-slice-read-print-row Inv-loop μ-loop
 shared-slice-read-print-row c = search needs
@@ -65,6 +68,7 @@ print-sheet-spec =
     number-at-requires-2
     number-at-requires-3
     byte-at-requires
+    number-at-requires-4
     shared-slice-read-print-row
     print-row-requires
     add-row
