@@ -1056,6 +1056,7 @@ static void received_list(
     size_t *lengths = (size_t *)lend(count * sizeof *lengths);
     uint8_t *tpdus = (uint8_t *)lend(bytes);
     uint64_t *returned = (uint64_t *)lend(count * sizeof *returned);
+    uint64_t *returned_single = (uint64_t *)lend(count * sizeof *returned_single);
     uint8_t *answered = (uint8_t *)lend(count), *answered_single = (uint8_t *)lend(count);
     struct testkit_returns_recorded due, single;
     for (size_t k = 0; k < count; k++) {
@@ -1072,12 +1073,13 @@ static void received_list(
             &one, times, count, lengths, count, tpdus, bytes, returned, count, answered, count),
         due);
     single = testkit_record_received_tpdus(
-        COLUMNS, times, count, lengths, count, tpdus, bytes, returned, count, answered_single, count);
+        COLUMNS, times, count, lengths, count, tpdus, bytes, returned_single, count, answered_single, count);
     compare_testkit_returns_recorded(what, single, due);
     for (size_t k = 0; k < count; k++) {
         expect(what, answered[k], number == 0 ? returns[k].number : 0xA5);
         expect(what, answered_single[k], answered[k]);
         expect(what, returned[k], number == 0 ? returns[k].sequence : 0xA5A5A5A5A5A5A5A5);
+        expect(what, returned_single[k], returned[k]);
     }
     two.counts = single.counts;
     expect_alike(what);
@@ -1243,8 +1245,32 @@ static void arrivals_without_marks(void)
     }
 }
 
+/* The six used rows, in columns of these lengths. Each is lent as long as it is, so that an element past its end is
+ * seen. */
+static struct testkit_sheet cut_sheet(const size_t lengths[5])
+{
+    struct testkit_sheet cut;
+    memset(&cut, 0, sizeof cut);
+    cut.sequences = (uint64_t *)lend_filled(one.sequences, lengths[0] * sizeof(uint64_t));
+    cut.send_timestamps = (uint64_t *)lend_filled(one.send_timestamps, lengths[1] * sizeof(uint64_t));
+    cut.latencies = (uint64_t *)lend_filled(one.latencies, lengths[2] * sizeof(uint64_t));
+    cut.marks = (uint8_t *)lend_filled(one.marks, lengths[3]);
+    cut.arrival_timestamps = (uint64_t *)lend_filled(one.arrival_timestamps, lengths[4] * sizeof(uint64_t));
+    cut.counts = counts_of(6, 0, 0, 0);
+    return cut;
+}
+
+/* After a first return of the last of the six rows, where the columns reach as far as the used rows. */
+static void last_returned(const struct testkit_sheet *cut, bool whole, uint64_t at)
+{
+    if (whole) {
+        expect("the last row's mark", cut->marks[5], 1);
+        expect("the last row's arrival time", cut->arrival_timestamps[5], at);
+    }
+}
+
 /* Six used rows, and in turn each column shorter than the others: as long as the used rows, so that none is free, or
- * shorter than they are. Each is lent as long as it is, so that an element past its end is seen. */
+ * shorter than they are. Each return is the first of its row. */
 static void short_columns(void)
 {
     enum { USED = 6 };
@@ -1259,37 +1285,33 @@ static void short_columns(void)
         bool whole = k % 2 == 0;
         uint8_t in_order = whole ? TESTKIT_ACCEPTED : TESTKIT_MALFORMED_OBSERVER;
         uint8_t full = whole ? TESTKIT_OBSERVER_FULL : TESTKIT_MALFORMED_OBSERVER;
-        struct testkit_sheet lent;
+        struct testkit_sheet cut;
         lengths[k / 2] = whole ? USED : USED - 1;
-        lent.sequences = (uint64_t *)lend_filled(one.sequences, lengths[0] * sizeof(uint64_t));
-        lent.send_timestamps = (uint64_t *)lend_filled(one.send_timestamps, lengths[1] * sizeof(uint64_t));
-        lent.latencies = (uint64_t *)lend_filled(one.latencies, lengths[2] * sizeof(uint64_t));
-        lent.marks = (uint8_t *)lend_filled(one.marks, lengths[3]);
-        lent.arrival_timestamps = (uint64_t *)lend_filled(one.arrival_timestamps, lengths[4] * sizeof(uint64_t));
-        lent.counts = counts_of(USED, 0, 0, 0);
-        expect("a new row", testkit_record_sent(COLUMNS_OF(lent, lengths), 99, 9).number, full);
-        expect("a plan", testkit_record_sent_plan(COLUMNS_OF(lent, lengths), plan_of(1, 1000, 9), 99).number, full);
-        expect("a row sent again", testkit_record_sent(COLUMNS_OF(lent, lengths), 34, 2103).number, in_order);
-        expect("a report", testkit_report(COLUMNS_OF(lent, lengths), 1, 2, budget_of(1, 2, 3)).number, in_order);
+        cut = cut_sheet(lengths);
+        expect("a new row", testkit_record_sent(COLUMNS_OF(cut, lengths), 99, 9).number, full);
+        expect("a plan", testkit_record_sent_plan(COLUMNS_OF(cut, lengths), plan_of(1, 1000, 9), 99).number, full);
+        expect("a row sent again", testkit_record_sent(COLUMNS_OF(cut, lengths), 34, 2103).number, in_order);
+        expect("a report", testkit_report(COLUMNS_OF(cut, lengths), 1, 2, budget_of(1, 2, 3)).number, in_order);
         expect(
             "a first return",
-            testkit_record_received_tpdu(COLUMNS_OF(lent, lengths), at, copy(packet, length), length).number,
+            testkit_record_received_tpdu(COLUMNS_OF(cut, lengths), at, copy(packet, length), length).number,
             in_order);
+        last_returned(&cut, whole, at);
+        cut = cut_sheet(lengths);
         expect(
             "a return in a message",
-            testkit_record_return_gtpu_datagram(COLUMNS_OF(lent, lengths), at, 255, copy(packet, length), length)
+            testkit_record_return_gtpu_datagram(COLUMNS_OF(cut, lengths), at, 255, copy(packet, length), length)
                 .number,
             in_order);
+        last_returned(&cut, whole, at);
+        cut = cut_sheet(lengths);
         expect(
             "a return in a list",
             testkit_record_received_tpdus(
-                COLUMNS_OF(lent, lengths), when, 1, long_as, 1, copy(packet, length), length, returned, 1, answered, 1)
+                COLUMNS_OF(cut, lengths), when, 1, long_as, 1, copy(packet, length), length, returned, 1, answered, 1)
                 .number,
             in_order);
-        if (whole) {
-            expect("the last row's mark", lent.marks[USED - 1], 1);
-            expect("the last row's arrival time", lent.arrival_timestamps[USED - 1], at);
-        }
+        last_returned(&cut, whole, at);
     }
 }
 

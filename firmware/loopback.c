@@ -153,8 +153,8 @@ static struct testkit_budget budget(uint64_t lost, uint64_t consecutive, uint64_
     return made;
 }
 
-/* Of every row when it first came back, or 0. Send time and latency add up to it, since the probe enters no new send
- * time once a packet has returned. */
+/* The arrival times agree with the other columns: send time and latency add up to the arrival time of a row that
+ * returned, since the probe enters no new send time after that, and every other is 0. */
 static void expect_arrivals(const struct testkit_sheet *sheet)
 {
     for (size_t k = 0; k < sheet->counts.used; k++) {

@@ -11,7 +11,7 @@ use lib.Dec.{ltb, eqb}
 use lib.ListN.{length, getD, take, drop, length-take, length-drop}
 use lib.Seq.{slice, drop-cons, drop-drop, drop-at, getD-take, length-take-le, take-all, take-nil, take-take, take-add}
 use Rattle.error.proofs.Tests.{true-not-false}
-use Rattle.columns.specs.Columns.{rising, allMarked, returnsKnown}
+use Rattle.columns.specs.Columns.{rising, allMarked, returnKnown, returnsKnown}
 
 pub and-assoc : (a b c : Bool) → (a && b) && c ≡ a && (b && c)
 and-assoc true b c = refl
@@ -152,17 +152,17 @@ known-cut : (k : ℕ) (ms ts : List ℕ) → returnsKnown ms ts ≡ returnsKnown
 known-cut zero ms ts = refl
 known-cut (suc k) [] ts = refl
 known-cut (suc k) (m ∷ ms) [] = sym (known-none (drop k ms) 0)
-known-cut (suc k) (m ∷ ms) (t ∷ ts) = ap (λ (b : Bool). (eqb m 1 || (eqb m 0 && eqb t 0)) && b) (known-cut k ms ts) ∙ sym (and-assoc (eqb m 1 || (eqb m 0 && eqb t 0)) _ _)
+known-cut (suc k) (m ∷ ms) (t ∷ ts) = ap (λ (b : Bool). returnKnown m t && b) (known-cut k ms ts) ∙ sym (and-assoc (returnKnown m t) _ _)
 
 -- where all rows are marked, no time is looked at
 pub marked-known : (ms ts : List ℕ) → allMarked ms ≡ true → returnsKnown ms ts ≡ true
 marked-known [] ts e = refl
 marked-known (m ∷ ms) [] e = refl
-marked-known (m ∷ ms) (t ∷ ts) e = go (eqb m 1) e (marked-known ms ts)
+marked-known (m ∷ ms) (t ∷ ts) e = go (eqb m 1) _ e (marked-known ms ts)
   where
-    go : (b : Bool) → b && allMarked ms ≡ true → (allMarked ms ≡ true → returnsKnown ms ts ≡ true) → (b || (eqb m 0 && eqb t 0)) && returnsKnown ms ts ≡ true
-    go true f rest = rest f
-    go false f rest = absurd (true-not-false (sym f))
+    go : (b rest : Bool) → b && allMarked ms ≡ true → (allMarked ms ≡ true → returnsKnown ms ts ≡ true) → (b || rest) && returnsKnown ms ts ≡ true
+    go true rest f known = known f
+    go false rest f known = absurd (true-not-false (sym f))
 
 module _ (marks arrivals : List ℕ) (n : ℕ) (marks-fit : n ≤ length marks) (arrivals-fit : n ≤ length arrivals) where
   -- k rows in a turn
@@ -181,4 +181,4 @@ known-whole n m [] ts e = ap (λ (l : List ℕ). returnsKnown l (take m ts)) (ta
 known-whole n m (x ∷ ms) [] e = known-none (take m (x ∷ ms)) m ∙ sym (known-none (take n (x ∷ ms)) n)
 known-whole zero m (x ∷ ms) (t ∷ ts) e = rw (let z : m ≡ 0 = omega arith in z)
 known-whole (suc n) zero (x ∷ ms) (t ∷ ts) e = absurd (omega arith)
-known-whole (suc n) (suc m) (x ∷ ms) (t ∷ ts) e = ap (λ (b : Bool). (eqb x 1 || (eqb x 0 && eqb t 0)) && b) (known-whole n m ms ts (omega arith))
+known-whole (suc n) (suc m) (x ∷ ms) (t ∷ ts) e = ap (λ (b : Bool). returnKnown x t && b) (known-whole n m ms ts (omega arith))

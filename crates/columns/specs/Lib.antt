@@ -1,3 +1,3 @@
--- One column of the run sheet.
+-- The columns of the run sheet, one by one, and marks beside arrival times.
 pub mod Columns
 pub mod Place

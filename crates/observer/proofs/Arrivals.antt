@@ -1,5 +1,5 @@
--- The claims of specs/Arrivals.antt, proved. In the rows after a call the row of a sequence is found at some index: the one that it had, or
--- the next one, where a row was put in before it.
+-- The claims of specs/Arrivals.antt, proved. In the rows after a call the row of a sequence is found at some index: the one that it had,
+-- or the next one, where a row was put in before it.
 use Prim.Native.Nat.{ℕ, zero, suc, _≤_, _<_}
 use mathlib.Core.Path.{_≡_, refl, sym, ap, _∙_}
 use mathlib.Core.List.{List, [], _∷_}
@@ -53,6 +53,10 @@ put-behind (x ∷ rs) (suc j) (suc i) r g h = put-behind rs j i r (le-of-suc-le-
 
 -- ---- one call
 
+-- the rows that a call leaves
+left-rows : {x y : Step} → x ≡ y → rows (y .observer) ≡ rows (x .observer)
+left-rows e = ap (λ (s : Step). rows (s .observer)) (sym e)
+
 rows-counted : (c : ObserverCounts) (o : Observer) → c .used ≡ o .counts .used → rows (withCounts c o) ≡ rows o
 unfolding rows
 rows-counted c o e = rw e
@@ -77,6 +81,16 @@ module _ (o : Observer) (w : wellFormed o ≡ true) (q : ℕ) (s : wasSent q (ro
   unmoved : (next : Observer) → rows next ≡ rs → Kept next
   unmoved next e = rw e (record { sent = s; latency = refl; mark = refl; «arrival_timestamp_ns» = refl })
 
+  -- its row is this one, with what a return writes as it was
+  found-as : (next : Observer) → wasSent q (rows next) ≡ true → (r : Row) → rowOf q (rows next) ≡ r → r .latency ≡ rowAt k rs .latency
+      → r .mark ≡ rowAt k rs .mark → r .«arrival_timestamp_ns» ≡ rowAt k rs .«arrival_timestamp_ns» → Kept next
+  found-as next sent r e latency mark arrival = record {
+    sent = sent;
+    latency = ap (λ (x : Row). x .latency) e ∙ latency;
+    mark = ap (λ (x : Row). x .mark) e ∙ mark;
+    «arrival_timestamp_ns» = ap (λ (x : Row). x .«arrival_timestamp_ns») e ∙ arrival;
+  }
+
   module _ (next : Observer) (well : wellFormed next ≡ true) where
     rises : rising (sequencesOf (rows next)) ≡ true
     rises = well-rows next well .rises
@@ -85,13 +99,7 @@ module _ (o : Observer) (w : wellFormed o ≡ true) (q : ℕ) (s : wasSent q (ro
     moved : (i : ℕ) → i < length (rows next) → rowAt i (rows next) ≡ rowAt k rs → Kept next
     moved i h e =
         let own : rowAt i (rows next) .sequence ≡ q = ap (λ (r : Row). r .sequence) e ∙ its-own in
-        let row : rowOf q (rows next) ≡ rowAt k rs = found-row (rows next) rises q i h own ∙ e in
-        record {
-          sent = found-sent (rows next) rises q i h own;
-          latency = ap (λ (r : Row). r .latency) row;
-          mark = ap (λ (r : Row). r .mark) row;
-          «arrival_timestamp_ns» = ap (λ (r : Row). r .«arrival_timestamp_ns») row;
-        }
+        found-as next (found-sent (rows next) rises q i h own) (rowAt k rs) (found-row (rows next) rises q i h own ∙ e) refl refl refl
 
     -- its row is another
     replaced : (r : Row) → r .sequence ≡ q → rows next ≡ set rs k r → (wasSent q (rows next) ≡ true) × (rowOf q (rows next) ≡ r)
@@ -128,22 +136,17 @@ module _ (o : Observer) (w : wellFormed o ≡ true) (q : ℕ) (s : wasSent q (ro
       well = keeps o w (sending p t)
 
       again : wasSent p rs ≡ true → rows (recordCall o (sending p t) .observer) ≡ set rs (placeOf p rs) (resent t (rowOf p rs))
-      again e = ap (λ (x : Step). rows (x .observer)) (sym (sent-again o w p t e)) ∙ rows-with _ o
+      again e = left-rows (sent-again o w p t e) ∙ rows-with _ o
 
       go : (sent full same : Bool) → wasSent p rs ≡ sent → eqb (o .counts .used) (capacity o) ≡ full → eqb p q ≡ same → Kept (recordCall o (sending p t) .observer)
       go true full true e f g =
           let is : p ≡ q = eqb-true p q g in
           let own = replaced _ well (resent t (rowAt k rs)) its-own (again e ∙ ap (λ (x : ℕ). set rs (placeOf x rs) (resent t (rowOf x rs))) is) in
-          record {
-            sent = own .0;
-            latency = ap (λ (r : Row). r .latency) (own .1);
-            mark = ap (λ (r : Row). r .mark) (own .1);
-            «arrival_timestamp_ns» = ap (λ (r : Row). r .«arrival_timestamp_ns») (own .1);
-          }
+          found-as _ (own .0) (resent t (rowAt k rs)) (own .1) refl refl refl
       go true full false e f g = beside _ well (placeOf p rs) (resent t (rowOf p rs)) (apart p e (eqb-false p q g)) (again e)
-      go false true same e f g = unmoved _ (ap (λ (x : Step). rows (x .observer)) (sym (sent-full o w p t e (eqb-true _ _ f))))
+      go false true same e f g = unmoved _ (left-rows (sent-full o w p t e (eqb-true _ _ f)))
       go false false same e f g =
-          put-in _ well (placeOf p rs) (sentRow p t) (ap (λ (x : Step). rows (x .observer)) (sym (sent-new o w p t e (eqb-false _ _ f))) ∙ rows-with _ o)
+          put-in _ well (placeOf p rs) (sentRow p t) (left-rows (sent-new o w p t e (eqb-false _ _ f)) ∙ rows-with _ o)
 
   -- its first return
   first : (t : ℕ) → FirstReturn o (returning t q) q
@@ -151,7 +154,7 @@ module _ (o : Observer) (w : wellFormed o ≡ true) (q : ℕ) (s : wasSent q (ro
       (wasSent q (rows next) ≡ true) × (rowOf q (rows next) ≡ returned t (rowAt k rs))
   first t f =
       replaced _ (keeps o w (returning t q)) (returned t (rowAt k rs)) its-own
-      (ap (λ (x : Step). rows (x .observer)) (sym (return-first o w q t s (f .2) (λ m. omega (arith, m, f .1)))) ∙ rows-with _ _)
+      (left-rows (return-first o w q t s (f .2) (λ m. omega (arith, m, f .1))) ∙ rows-with _ _)
 
   kept-returning : (t p : ℕ) → (FirstReturn o (returning t p) q → ⊥) → Kept (recordCall o (returning t p) .observer)
   kept-returning t p not-first =
@@ -159,11 +162,11 @@ module _ (o : Observer) (w : wellFormed o ≡ true) (q : ℕ) (s : wasSent q (ro
     where
       go : (sent early marked same : Bool) → wasSent p rs ≡ sent → ltb t (rowOf p rs .«send_timestamp_ns») ≡ early → eqb (rowOf p rs .mark) 1 ≡ marked
           → eqb p q ≡ same → Kept (recordCall o (returning t p) .observer)
-      go false early marked same e f g h = unmoved _ (ap (λ (x : Step). rows (x .observer)) (sym (return-unknown o w p t e)))
-      go true true marked same e f g h = unmoved _ (ap (λ (x : Step). rows (x .observer)) (sym (return-early o w p t e (ltb-true _ _ f))))
+      go false early marked same e f g h = unmoved _ (left-rows (return-unknown o w p t e))
+      go true true marked same e f g h = unmoved _ (left-rows (return-early o w p t e (ltb-true _ _ f)))
       go true false true same e f g h =
           unmoved _
-          (ap (λ (x : Step). rows (x .observer)) (sym (return-duplicate o w p t e (ltb-false _ _ f) (eqb-true _ _ g)))
+          (left-rows (return-duplicate o w p t e (ltb-false _ _ f) (eqb-true _ _ g))
           ∙ rows-counted (oneDuplicate (o .counts)) o refl)
       go true false false true e f g h =
           let is : p ≡ q = eqb-true p q h in
@@ -171,14 +174,14 @@ module _ (o : Observer) (w : wellFormed o ≡ true) (q : ℕ) (s : wasSent q (ro
           absurd (not-first (is, sym (ap (λ (x : ℕ). rowOf x rs .mark) is) ∙ unmarked, omega (arith, ltb-false t (rowOf p rs .«send_timestamp_ns») f, ap (λ (x : ℕ). rowOf x rs .«send_timestamp_ns») is)))
       go true false false false e f g h =
           beside _ (keeps o w (returning t p)) (placeOf p rs) (returned t (rowOf p rs)) (apart p e (eqb-false p q h))
-          (ap (λ (x : Step). rows (x .observer)) (sym (return-first o w p t e (ltb-false _ _ f) (eqb-false _ _ g))) ∙ rows-with _ _)
+          (left-rows (return-first o w p t e (ltb-false _ _ f) (eqb-false _ _ g)) ∙ rows-with _ _)
 
   kept-by : (call : Call) → (FirstReturn o call q → ⊥) → Kept (recordCall o call .observer)
   kept-by (sending p t) not-first = kept-sending p t
   kept-by (returning t p) not-first = kept-returning t p not-first
   kept-by indicating not-first =
       unmoved _
-      (ap (λ (x : Step). rows (x .observer)) (sym (indication-counted o w)) ∙ rows-counted (oneErrorIndication (o .counts)) o refl)
+      (left-rows (indication-counted o w) ∙ rows-counted (oneErrorIndication (o .counts)) o refl)
 
 -- ---- the claims
 
@@ -215,6 +218,6 @@ resend-parts o q t again w s f ne sum =
     let well = keeps o w (returning t q) in
     let two =
     replaced after well q (one .0) _ (keeps after well (sending q again)) (resent again (rowOf q (rows after))) (its-own after well q (one .0))
-    (ap (λ (x : Step). rows (x .observer)) (sym (sent-again after well q again (one .0))) ∙ rows-with _ after) in
+    (left-rows (sent-again after well q again (one .0)) ∙ rows-with _ after) in
     let row = two .1 ∙ ap (resent again) (one .1) in
     ne (omega (arith, f .2, sum, ap (λ (r : Row). r .latency) row, ap (λ (r : Row). r .«send_timestamp_ns») row, ap (λ (r : Row). r .«arrival_timestamp_ns») row))

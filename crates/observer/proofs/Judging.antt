@@ -13,13 +13,13 @@ use Rattle.columns.specs.Columns.{rising}
 use Rattle.observer.specs.Judge.{rowsKnown, wellFormed}
 use Rattle.columns.specs.Place.{place, holds}
 use Rattle.observer.specs.Place.{placeOf, wasSent}
-use Rattle.columns.specs.Columns.{returnsKnown}
+use Rattle.columns.specs.Columns.{returnKnown, returnsKnown}
 use Rattle.rows.proofs.Within.{Within}
 use Rattle.observer.proofs.Rows.{Fronts, room-for, rows-are}
 use Rattle.columns.proofs.Search.{both-left, place-within}
 
 -- a row is known where its two columns say so
-known-is : (m t : ℕ) → ltb m 2 && (eqb m 1 || eqb t 0) ≡ (eqb m 1 || (eqb m 0 && eqb t 0))
+known-is : (m t : ℕ) → ltb m 2 && (eqb m 1 || eqb t 0) ≡ returnKnown m t
 known-is m t = go m (eqb t 0)
   where
     go : (m : ℕ) (b : Bool) → ltb m 2 && (eqb m 1 || b) ≡ (eqb m 1 || (eqb m 0 && b))

@@ -7,12 +7,9 @@ fn print_row(sequence: u64, sent: u64, latency: u64, mark: u8, arrival: u64, fat
     text::print_count(b",", sent);
     text::print_count(b",", mark as u64);
     text::print(b",");
-    if mark != 0 {
-        text::print_number(arrival);
-        text::print_count(b",", latency);
-    } else {
-        text::print(b",");
-    }
+    column::print_if_returned(mark, arrival, b"");
+    text::print(b",");
+    column::print_if_returned(mark, latency, b"");
     text::print(b",");
     fate::print_fate(fate);
     text::print(b",");

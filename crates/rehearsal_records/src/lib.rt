@@ -140,21 +140,13 @@ fn print_refusals(refusals: &[u64; 64]) {
     text::print(b"],\n");
 }
 
-// A number of a return, or null where the probe did not return.
-fn print_if_returned(mark: u8, number: u64) {
-    if mark == 0 {
-        return text::print(b"null");
-    }
-    text::print_number(number)
-}
-
 fn print_probe(sequence: u64, sent: u64, latency: u64, mark: u8, arrival: u64, fate: u8) {
     text::print_count(b"  {\"probe\": ", sequence);
     text::print_count(b", \"sent_ns\": ", sent);
     text::print(b", \"returned_ns\": ");
-    print_if_returned(mark, arrival);
+    column::print_if_returned(mark, arrival, b"null");
     text::print(b",\n    \"latency_ns\": ");
-    print_if_returned(mark, latency);
+    column::print_if_returned(mark, latency, b"null");
     text::print(b", \"fate\": \"");
     fate::print_fate(fate);
     text::print(b"\", \"refused\": ");

@@ -2,20 +2,13 @@
 // by arrival.
 use crate::column;
 
-// A number of a return, or a dash where the probe did not return.
-fn print_if_returned(name: &[u8], mark: u8, number: u64) {
-    text::print(name);
-    if mark == 0 {
-        return text::print(b"-");
-    }
-    text::print_number(number)
-}
-
 fn print_row(sequence: u64, sent: u64, latency: u64, mark: u8, arrival: u64) {
     text::print_count(b"sequence=", sequence);
     text::print_count(b" sent_ns=", sent);
-    print_if_returned(b" returned_ns=", mark, arrival);
-    print_if_returned(b" latency_ns=", mark, latency);
+    text::print(b" returned_ns=");
+    column::print_if_returned(mark, arrival, b"-");
+    text::print(b" latency_ns=");
+    column::print_if_returned(mark, latency, b"-");
     text::print(b"\n");
 }
 

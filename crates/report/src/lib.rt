@@ -212,11 +212,11 @@ pub fn report(
         «window_start_ns» «window_end_ns» budget ⌝ }
 {
     if !observer::well_formed(
-        sequences,
+        &sequences[..],
         send_timestamps,
         latencies,
-        marks,
-        arrival_timestamps,
+        &marks[..],
+        &arrival_timestamps[..],
         counts,
     ) {
         return Reported::Refused(error::MALFORMED_OBSERVER);

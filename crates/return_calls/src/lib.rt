@@ -166,7 +166,7 @@ fn record_returned(
         (λ o. recordReturned o «return_timestamp_ns» returned) ⌝ }
 {
     if !observer::well_formed(
-        sequences,
+        &sequences[..],
         send_timestamps,
         latencies,
         marks,
