@@ -123,26 +123,12 @@ static struct testkit_plan plan_of(uint64_t count, uint64_t rate, uint64_t first
     return made;
 }
 
-static struct testkit_jitter_state jitter_of(uint64_t scaled, uint64_t earlier_latency)
-{
-    struct testkit_jitter_state made;
-    made.scaled_jitter_ns = scaled;
-    made.earlier_latency_ns = earlier_latency;
-    compare_testkit_jitter_state("a jitter state that is handed in", made, made);
-    return made;
-}
-
-/* The jitter state that counts are handed in with, and that is due in every answer. It is set anew only with new counts
- * and before first returns, so that every other call is seen to leave it. */
-static struct testkit_jitter_state jitter;
-
 static struct testkit_counts counts_of(size_t used, uint64_t duplicate, uint64_t out_of_order, uint64_t indications)
 {
     struct testkit_counts made;
     made.used = used;
     made.duplicate_packets = duplicate;
     made.out_of_order_packets = out_of_order;
-    made.jitter = jitter;
     made.gtpu_error_indications = indications;
     return made;
 }
@@ -669,7 +655,7 @@ static void open_sheet(struct testkit_sheet *sheet)
     uint8_t *marks = (uint8_t *)lend(ROWS);
     uint64_t *arrival_timestamps = (uint64_t *)lend(ROWS * sizeof(uint64_t));
     struct testkit_sheet opened = {
-        sequences, send_timestamps, latencies, marks, arrival_timestamps, ROWS, {0, 0, {0, 0}, 0, 0}};
+        sequences, send_timestamps, latencies, marks, arrival_timestamps, ROWS, {0, 0, 0, 0}};
     expect("the sequences' place", opened.sequences == sequences, true);
     expect("the send times' place", opened.send_timestamps == send_timestamps, true);
     expect("the latencies' place", opened.latencies == latencies, true);
@@ -677,7 +663,6 @@ static void open_sheet(struct testkit_sheet *sheet)
     expect("the arrival times' place", opened.arrival_timestamps == arrival_timestamps, true);
     expect("the capacity's place", opened.capacity, ROWS);
     *sheet = opened;
-    jitter = jitter_of(0, 0);
 }
 
 static void expect_alike(const char *what)
@@ -792,7 +777,6 @@ static void row(
 /* Rows 11, 12, 13, 14, 20, 21, 22 sent at different times, 12 sent again. */
 static void sending(void)
 {
-    jitter = jitter_of(505, 606);
     one.counts = two.counts = counts_of(0, 101, 202, 303);
     sent("a packet sent", 20, 5000, 0, counts_of(1, 101, 202, 303));
     sent("a packet sent below it", 11, 4000, 0, counts_of(2, 101, 202, 303));
@@ -813,18 +797,14 @@ static void sending(void)
     sent("a full sheet, known", 23, 9005, 0, counts_of(8, 101, 202, 303));
 }
 
-/* The first return of all leaves the scaled jitter as it was lent; each first return of a row after that adds |D| and
- * takes off (scaled + 8) / 16. */
 static void returning(void)
 {
     size_t length = make(6, 13);
-    jitter = jitter_of(505, 70);
     received("a return", 7070, length, 0, counts_of(8, 101, 202, 303));
     row("row 2", 2, 13, 7000, 70, 1, 7070);
     received("a return again", 7080, length, 0, counts_of(8, 102, 202, 303));
     row("row 2", 2, 13, 7000, 70, 1, 7070);
     length = make(4, 11);
-    jitter = jitter_of(505 + 60 - 32, 10);
     received("a return of a lower sequence", 4010, length, 0, counts_of(8, 102, 203, 303));
     row("row 0", 0, 11, 4000, 10, 1, 4010);
     received("no T-PDU", 4010, 0, TESTKIT_TRUNCATED_IP_HEADER, counts_of(8, 102, 203, 303));
@@ -838,7 +818,6 @@ static void returning(void)
     received("too early", 7999, length, TESTKIT_TIMESTAMP_REVERSED, counts_of(8, 102, 203, 303));
     row("row 3", 3, 14, 8000, 0, 0, 0);
 
-    jitter = jitter_of(533 + 190 - 33, 200);
     message(
         "a message with a T-PDU", 8200, 255, packet, length, 0, TESTKIT_OUTCOME_MEASUREMENT_TPDU, 0,
         counts_of(8, 102, 203, 303));
@@ -914,7 +893,6 @@ static void returning_in_lists(void)
     memcpy(tpdus, packet, 52);
     memcpy(tpdus + 156, packet, 30);
 
-    jitter = jitter_of(690 + 98 - 43, 298);
     due.number = 0;
     due.returns = RETURNS;
     due.counts = counts_of(8, 102, 203, 304);
@@ -1011,7 +989,6 @@ static void reporting(void)
     due.min_ns = 10;
     due.max_ns = 298;
     due.avg_ns = (10 + 70 + 200 + 298) / 4;
-    due.jitter_ns = 745 / 16;
     due.forwarding_proven = true;
     check_report(budget_of(401, 402, 403), due);
     due.budget = budget_of(401, 402, 403);
@@ -1035,7 +1012,7 @@ static void reporting(void)
     due.packet_continuity_proven = false;
     check_report(budget_of(2, 402, 123457), due);
 
-    /* nothing returned: the jitter is that of the counts all the same */
+    /* nothing returned */
     one.counts = two.counts = counts_of(0, 1, 2, 3);
     memset(&due, 0, sizeof due);
     due.window_start_ns = 55;
@@ -1043,17 +1020,14 @@ static void reporting(void)
     due.duplicate_packets = 1;
     due.out_of_order_packets = 2;
     due.gtpu_error_indications = 3;
-    due.jitter_ns = 745 / 16;
     check_report(budget_of(401, 402, 403), due);
     check_verdict(due, budget_of(401, 402, 403), TESTKIT_VERDICT_NOTHING_RETURNED, 0, 0);
-    jitter = jitter_of(15, 606);
     one.counts = two.counts = counts_of(0, 0, 0, 0);
-    due.duplicate_packets = due.out_of_order_packets = due.gtpu_error_indications = due.jitter_ns = 0;
+    due.duplicate_packets = due.out_of_order_packets = due.gtpu_error_indications = 0;
     due.packet_continuity_proven = true;
     check_report(budget_of(401, 402, 403), due);
 
-    /* refused: the counts come back as they were, and the report has no jitter */
-    jitter = jitter_of(505, 606);
+    /* refused: the counts come back as they were */
     one.counts = two.counts = counts_of(99, 101, 202, 303);
     memset(&due, 0, sizeof due);
     due.number = TESTKIT_MALFORMED_OBSERVER;
@@ -1131,7 +1105,6 @@ static void arrival_times(void)
     sent("a row above it", 33, 2000, 0, counts_of(2, 0, 0, 0));
     row("a new row", 0, 30, 1000, 0, 0, 0);
     row("a new row", 1, 33, 2000, 0, 0, 0);
-    jitter = jitter_of(0, 500);
     received("a first return", 2500, length, 0, counts_of(2, 0, 0, 0));
     row("a row that returned", 1, 33, 2000, 500, 1, 2500);
     sent("a row below it", 31, 1500, 0, counts_of(3, 0, 0, 0));
@@ -1160,19 +1133,16 @@ static void arrival_times(void)
     row("a new row of a plan", 4, 34, 2103, 0, 0, 0);
     expect("the arrival time past the used rows", one.arrival_timestamps[5], rest);
 
-    jitter = jitter_of(1200 + 1151 - 75, 549); /* by way of 1200 and latency 1700 */
     received_list("a list", list_due, 5, 0, counts_of(5, 3, 2, 0));
     row("a row that returned in a list, first too early, then twice", 0, 30, 1000, 1700, 1, 2700);
     row("a row that returned in a list", 2, 32, 2101, 549, 1, 2650);
     row("a row whose return was refused in a list", 4, 34, 2103, 0, 0, 0);
     length = make(4, 31);
-    jitter = jitter_of(2276 + 251 - 142, 800);
     message("a message", 2900, 255, packet, length, 0, TESTKIT_OUTCOME_MEASUREMENT_TPDU, 0, counts_of(5, 3, 3, 0));
     row("a row that returned in a message", 1, 31, 2100, 800, 1, 2900);
 
     length = make(4, 5);
     sent("a row at time 0", 5, 0, 0, counts_of(6, 3, 3, 0));
-    jitter = jitter_of(2385 + 800 - 149, 0);
     received("a return at time 0", 0, length, 0, counts_of(6, 3, 4, 0));
     row("a row that returned at time 0", 0, 5, 0, 0, 1, 0);
     row("the last row", 5, 34, 2103, 0, 0, 0);
@@ -1345,116 +1315,6 @@ static void short_columns(void)
     }
 }
 
-/* Two first returns, the first of all and the next: the jitter state before, both latencies, and what is due after. */
-static const struct {
-    const char *what;
-    uint64_t scaled, first, next, due, reported;
-} jitter_steps[] = {
-    {"latency 0, then 16", 0, 0, 16, 16, 1},
-    {"latency 16, then 0", 0, 16, 0, 16, 1},
-    {"a jitter under 1", 0, 100, 115, 15, 0},
-    {"|D| one under 2^59", 0, 0, (UINT64_C(1) << 59) - 1, (UINT64_C(1) << 59) - 1, (UINT64_C(1) << 55) - 1},
-    {"|D| of 2^59", 0, UINT64_C(1) << 59, 0, UINT64_C(1) << 59, UINT64_C(1) << 55},
-    {"|D| one above 2^59", 0, 0, (UINT64_C(1) << 59) + 1, UINT64_C(1) << 59, UINT64_C(1) << 55},
-    {"|D| of 2^63", 0, UINT64_C(1) << 63, 0, UINT64_C(1) << 59, UINT64_C(1) << 55},
-    {"the greatest D", 0, 0, UINT64_MAX, UINT64_C(1) << 59, UINT64_C(1) << 55},
-    {"the least D", 0, UINT64_MAX, 0, UINT64_C(1) << 59, UINT64_C(1) << 55},
-    {"both at the top", 0, UINT64_MAX - 7, UINT64_MAX, 7, 0},
-    {"8 and no D", 8, 100, 100, 7, 0},
-    {"7 and no D", 7, 100, 100, 7, 0},
-    {"no D and 8 below the top", UINT64_MAX - 8, 100, 100, UINT64_C(17293822569102704632),
-     UINT64_C(1080863910568919039)},
-    {"no D and 7 below the top", UINT64_MAX - 7, 100, 100, UINT64_C(17293822569102704632),
-     UINT64_C(1080863910568919039)},
-    {"no D at the top", UINT64_MAX, 100, 100, UINT64_C(17293822569102704639), UINT64_C(1080863910568919039)},
-    {"the greatest D at the top", UINT64_MAX, 0, UINT64_MAX, UINT64_C(17870283321406128127),
-     UINT64_C(1116892707587883007)},
-    {"the least D at the top", UINT64_MAX, UINT64_MAX, 0, UINT64_C(17870283321406128127),
-     UINT64_C(1116892707587883007)},
-};
-
-/* A return of a row that was sent at time 0, alone or in a message. */
-static void returned_after(const char *what, bool in_message, uint64_t sequence, uint64_t latency)
-{
-    size_t length = make(4, sequence);
-    struct testkit_counts counts = counts_of(one.counts.used, 0, 0, 0);
-    if (in_message)
-        message(what, latency, 255, packet, length, 0, TESTKIT_OUTCOME_MEASUREMENT_TPDU, 0, counts);
-    else
-        received(what, latency, length, 0, counts);
-}
-
-/* Each step by each call for returns: alone, in messages, in a list. Marks past the used rows do not count. */
-static void jitters(void)
-{
-    for (size_t k = 0; k < 3 * sizeof jitter_steps / sizeof *jitter_steps; k++) {
-        const char *what = jitter_steps[k / 3].what;
-        uint64_t scaled = jitter_steps[k / 3].scaled, first = jitter_steps[k / 3].first;
-        uint64_t next = jitter_steps[k / 3].next, due = jitter_steps[k / 3].due;
-        struct listed both[2] = {{1, first, 0}, {2, next, 0}};
-        jitter = jitter_of(scaled, scaled); /* fresh, where it is 0 */
-        one.counts = two.counts = counts_of(0, 0, 0, 0);
-        memset(one.marks, 1, ROWS);
-        memset(two.marks, 1, ROWS);
-        sent(what, 1, 0, 0, counts_of(1, 0, 0, 0));
-        if (k % 3 < 2) {
-            jitter = jitter_of(scaled, first);
-            returned_after(what, k % 3 == 1, 1, first);
-        }
-        sent(what, 2, 0, 0, counts_of(2, 0, 0, 0));
-        jitter = jitter_of(due, next);
-        if (k % 3 < 2)
-            returned_after(what, k % 3 == 1, 2, next);
-        else
-            received_list(what, both, 2, 0, counts_of(2, 0, 0, 0));
-        expect(what, testkit_sheet_report(&one, 1, 2, budget_of(1, 2, 3)).jitter_ns, jitter_steps[k / 3].reported);
-        expect(what, testkit_report(COLUMNS, 1, 2, budget_of(1, 2, 3)).jitter_ns, jitter_steps[k / 3].reported);
-    }
-}
-
-/* What leaves the jitter: rows sent again, whether they had returned or not, duplicates, refusals, an Error Indication,
- * a malformed sheet. The rows are 32, 33 and 34; 32 is the first return of all, behind two that are refused. */
-static void jitter_left(void)
-{
-    static const struct listed two_return[] = {
-        {35, 90, TESTKIT_SEQUENCE_WAS_NOT_SENT},
-        {34, 1, TESTKIT_TIMESTAMP_REVERSED},
-        {32, 0, 0},
-        {32, 90, 0},
-        {33, 17, 0},
-    };
-    static const struct listed left[] = {
-        {33, 90, 0},
-        {34, 5, TESTKIT_TIMESTAMP_REVERSED},
-        {35, 90, TESTKIT_SEQUENCE_WAS_NOT_SENT},
-    };
-    size_t length = 0;
-    jitter = jitter_of(64, 999);
-    one.counts = two.counts = counts_of(0, 0, 0, 0);
-    sent_plan("three rows", plan_of(3, 1000000000, 0), 32, 0, counts_of(3, 0, 0, 0));
-    jitter = jitter_of(64 + 16 - 4, 16); /* by way of 64 and latency 0 */
-    received_list("two first returns", two_return, 5, 0, counts_of(3, 1, 0, 0));
-    sent("a row that returned, sent again", 33, 7, 0, counts_of(3, 1, 0, 0));
-    sent_plan("two rows sent again by a plan", plan_of(2, 1000000000, 5), 33, 0, counts_of(3, 1, 0, 0));
-    received_list("no first return", left, 3, 0, counts_of(3, 2, 0, 0));
-    for (size_t k = 0; k < 3; k++) {
-        uint8_t outcome = left[k].number == 0 ? TESTKIT_OUTCOME_MEASUREMENT_TPDU : TESTKIT_OUTCOME_REFUSED;
-        length = make(4, left[k].sequence);
-        received("no first return", left[k].time, length, left[k].number, counts_of(3, k == 0 ? 3 : 4, 0, 0));
-        message(
-            "no first return", left[k].time, 255, packet, length, left[k].number, outcome, 0, counts_of(3, 4, 0, 0));
-    }
-    received("a T-PDU that is cut", 90, length - 1, TESTKIT_INVALID_IPV4_TOTAL_LENGTH, counts_of(3, 4, 0, 0));
-    check_message(
-        "an Error Indication", 1, 26, elements, 12, indication_as(named_by_elements(), counts_of(3, 4, 0, 1)));
-    one.marks[0] = two.marks[0] = 2;
-    each_refuses("a malformed sheet");
-    one.marks[0] = two.marks[0] = 1;
-    length = make(4, 34);
-    jitter = jitter_of(76 + 4 - 5, 20);
-    received("the next first return", 26, length, 0, counts_of(3, 4, 0, 1));
-}
-
 /* Columns of length 0, by null. */
 static void no_columns(void)
 {
@@ -1468,7 +1328,6 @@ static void no_columns(void)
     size_t length = make(4, 22);
     *long_as = length;
     memset(&none, 0, sizeof none);
-    jitter = jitter_of(0, 0);
     compare_testkit_recorded(
         "no columns", testkit_sheet_record_sent(&none, 1, 2),
         recorded_as(TESTKIT_OBSERVER_FULL, counts_of(0, 0, 0, 0)));
@@ -1892,8 +1751,6 @@ int main(int argc, char **argv)
     arrival_times();
     arrivals_without_marks();
     short_columns();
-    jitters();
-    jitter_left();
     no_columns();
     open_table(&table);
     open_table(&twin);

@@ -34,7 +34,7 @@ void probe_open(struct probe *probe, struct testkit_socket_addr self, struct tes
     probe->teid = teid;
 }
 
-/* A run begins with a fresh sheet: counts and jitter of 0. The next sequence goes on. */
+/* A run begins with a fresh sheet: counts of 0. The next sequence goes on. */
 void probe_start(struct probe *probe)
 {
     memset(&probe->sheet.counts, 0, sizeof probe->sheet.counts);
@@ -237,8 +237,8 @@ struct testkit_continuity_report probe_report(const struct probe *probe, struct 
         report.max_gap_duration_ns);
     if (report.has_latency) {
         printf(
-            "  latency %" PRIu64 " to %" PRIu64 " ns, jitter %" PRIu64 " ns, mean %" PRIu64 " ns\n", report.min_ns,
-            report.max_ns, report.jitter_ns, report.avg_ns);
+            "  latency %" PRIu64 " to %" PRIu64 " ns, mean %" PRIu64 " ns\n", report.min_ns, report.max_ns,
+            report.avg_ns);
     }
     printf("  Echo Responses %u, ignored %u\n", probe->echo_responses, probe->ignored);
     for (unsigned number = 0; number < 256; number++) {

@@ -17,11 +17,11 @@
  * lists of two returns, the first whole and the second whole, cut or empty. Plans: of 0, 1 and 2048 packets, and each
  * refusal. Element lists: up to 4096 elements before an address of each version, each cut. Run sheets: empty, of 1 row
  * and of 2048 rows, none, one, all or every other returned; a new row at the front, in the middle and at the end;
- * returns before and after their send time; counts and jitter of 0 and at their top; and malformed, by the used count,
- * by a mark and by an arrival time. Reports under budgets that each alone is and is not kept, and refused ones. Session
- * tables: empty, of 1 and of 4096 sessions, full and not, and refused; the first, the last and no session asked for;
- * sessions that differ from a registered one in one field; packets as above under each policy, and messages of every
- * type with and without TEID and sequence; counts of 0 and at their top, and the last error sequence.
+ * returns before and after their send time; counts of 0 and at their top; and malformed, by the used count, by a mark
+ * and by an arrival time. Reports under budgets that each alone is and is not kept, and refused ones. Session tables:
+ * empty, of 1 and of 4096 sessions, full and not, and refused; the first, the last and no session asked for; sessions
+ * that differ from a registered one in one field; packets as above under each policy, and messages of every type with
+ * and without TEID and sequence; counts of 0 and at their top, and the last error sequence.
  *
  * For x86-64 and GNU C. Linked with -z now, so that finding memcpy is not counted.
  */
@@ -560,7 +560,6 @@ static void measure_sheet(size_t used, size_t step)
     counts = (struct testkit_counts){
         .duplicate_packets = UINT64_MAX,
         .out_of_order_packets = UINT64_MAX,
-        .jitter = {UINT64_MAX, UINT64_MAX},
         .gtpu_error_indications = UINT64_MAX,
         .used = used,
     };

@@ -13,7 +13,7 @@
  * What is proved, what is checked, what is only said. Each call is proved to meet its contract, which stands beside its
  * code in crates/testkit_packets, testkit_sheet and testkit_reflector. The contract is what document 01 (docs/SCOPE.md)
  * and the RFCs say; document 02 has testkit_forecast, the tunnel that testkit_validate_elements and
- * testkit_record_return_gtpu_datagram give, and the arrival times and the jitter of a run sheet; testkit_version,
+ * testkit_record_return_gtpu_datagram give, and the arrival times of a run sheet; testkit_version,
  * testkit_record_sent_plan, testkit_record_received_tpdus and testkit_judge_report are in neither, and have contracts
  * of our own. This header is not proved. firmware/run, which is part of the gate, checks the following:
  *   - each call and each struct that the archive has, with types and names in their order, against the proved source.
@@ -69,19 +69,19 @@
  *
  * Answers. `number` is TESTKIT_ACCEPTED (0) or says why the call refused: enum testkit_number, testkit_number_text for
  * its cause in words, and docs/CARD.md for what to do about it. Of several causes it names the first in the order that
- * is given at the call. A call that refuses leaves every lent byte, every count and the jitter as they were, with two
- * exceptions: testkit_generate (the next sequence) and testkit_handle_datagram (counts). testkit_record_received_tpdus
- * answers for each return by itself: where one is refused, the others are still tried. On success, output bytes past
- * the answer stay as they were.
+ * is given at the call. A call that refuses leaves every lent byte and every count as it was, with two exceptions:
+ * testkit_generate (the next sequence) and testkit_handle_datagram (counts). testkit_record_received_tpdus answers for
+ * each return by itself: where one is refused, the others are still tried. On success, output bytes past the answer
+ * stay as they were.
  *
  * Time. Every call ends; none waits. How long it takes, up to a constant:
  *   - checksums, reading, echo and the walk over elements: the bytes that they are lent, or fewer;
  *   - testkit_generate: the bytes that it writes;
  *   - each call on a run sheet scans all used rows for TESTKIT_MALFORMED_OBSERVER (21) once, up to 2,048. Then a row is
  *     found by binary search. A new sequence moves every row above it by one: none where sequences rise, all where they
- *     fall. A first return looks through the marks above its row, and from the front up to the first marked row. So a
- *     plan or a list takes one scan in all, and the rest for each of its packets; single calls take a scan each. A
- *     return, single or in a list, also takes the bytes of its T-PDU or elements;
+ *     fall. A first return looks through the marks above its row. So a plan or a list takes one scan in all, and the
+ *     rest for each of its packets; single calls take a scan each. A return, single or in a list, also takes the bytes
+ *     of its T-PDU or elements;
  *   - each call on a session table searches the used rows one after the other, up to 4,096, whatever the message is. A
  *     G-PDU that is echoed also takes its payload's bytes;
  *   - the report: the used rows;
@@ -110,7 +110,7 @@
  * three parts alike. From one version to the next, MAJOR rises where a program may have to be changed; otherwise MINOR,
  * where something was added (a call, a number, a field) and a program need only be compiled again; otherwise PATCH.
  */
-#define TESTKIT_VERSION_MAJOR 6
+#define TESTKIT_VERSION_MAJOR 5
 #define TESTKIT_VERSION_MINOR 0
 #define TESTKIT_VERSION_PATCH 0
 #define TESTKIT_VERSION (TESTKIT_VERSION_MAJOR * 65536 + TESTKIT_VERSION_MINOR * 256 + TESTKIT_VERSION_PATCH)
@@ -256,12 +256,12 @@ enum testkit_stack {
     TESTKIT_STACK_GENERATE = 344,
     TESTKIT_STACK_FORECAST = 16,
     TESTKIT_STACK_VALIDATE_ELEMENTS = 1200,
-    TESTKIT_STACK_RECORD_SENT = 352,
+    TESTKIT_STACK_RECORD_SENT = 320,
     TESTKIT_STACK_RECORD_SENT_PLAN = 336,
-    TESTKIT_STACK_RECORD_RECEIVED_TPDU = 488,
-    TESTKIT_STACK_RECORD_RECEIVED_TPDUS = 312,
-    TESTKIT_STACK_RECORD_RETURN_GTPU_DATAGRAM = 1360,
-    TESTKIT_STACK_REPORT = 232,
+    TESTKIT_STACK_RECORD_RECEIVED_TPDU = 440,
+    TESTKIT_STACK_RECORD_RECEIVED_TPDUS = 296,
+    TESTKIT_STACK_RECORD_RETURN_GTPU_DATAGRAM = 1328,
+    TESTKIT_STACK_REPORT = 216,
     TESTKIT_STACK_JUDGE_REPORT = 48,
     TESTKIT_STACK_REGISTER_SESSION = 184,
     TESTKIT_STACK_REMOVE_SESSION = 128,
@@ -429,33 +429,18 @@ struct testkit_elements testkit_validate_elements(
 
 /* ---- Run sheet ---- */
 
-/*
- * The interarrival jitter of RFC 3550, section 6.4.1, in the integer form of its appendix A.8, in nanoseconds. It goes
- * in and comes back with the counts. Fresh: both 0; any other numbers are taken too. Only a return that gives its row
- * mark 1 writes it. D is the distance between that return's latency and earlier_latency_ns, and 2^59 where it is more.
- * scaled_jitter_ns rises by D and falls by (its old value + 8) / 16, rounded down, and earlier_latency_ns becomes the
- * return's latency; where no used row had mark 1 before, scaled_jitter_ns stays. Nothing overflows, and from a fresh
- * sheet scaled_jitter_ns never passes 2^63. Returns count in the order in which they are entered, whatever their return
- * times. Duplicates, packets sent again, Error Indications and refusals leave both numbers.
- */
-struct testkit_jitter_state {
-    uint64_t scaled_jitter_ns;   /* 16 times the jitter */
-    uint64_t earlier_latency_ns; /* of the last return that gave a row mark 1 */
-};
-
 /* Beside the columns of a run sheet. Fresh: all 0. A counter that has reached UINT64_MAX stays there. */
 struct testkit_counts {
     uint64_t duplicate_packets;    /* returns after the first of a sequence */
     uint64_t out_of_order_packets; /* first returns below a sequence that had returned */
-    struct testkit_jitter_state jitter;
     uint64_t gtpu_error_indications;
     size_t used;                   /* rows in use, from the front */
 };
 
 /*
  * A run sheet: five columns of `capacity` elements each, which the caller lends to every call, and counts, which the
- * calls below store. A row is a sent packet. Rows past TESTKIT_MAXIMUM_ROWS are never used. Fresh: all counts 0, and
- * the jitter's two numbers; what the columns hold does not matter.
+ * calls below store. A row is a sent packet. Rows past TESTKIT_MAXIMUM_ROWS are never used. Fresh: all counts 0; what
+ * the columns hold does not matter.
  */
 struct testkit_sheet {
     uint64_t *sequences; /* rising strictly over the used rows */
@@ -525,13 +510,10 @@ struct testkit_continuity_report {
     uint64_t gtpu_error_indications;
     uint64_t max_consecutive_lost_packets; /* the longest run of losses, by count */
     uint64_t max_gap_duration_ns;          /* the longest outage; perhaps of another run of losses */
-    bool has_latency;                      /* false where nothing returned, and then the next three are 0 */
+    bool has_latency;                      /* false where nothing returned, and then the three are 0 */
     uint64_t min_ns;
     uint64_t max_ns;
     uint64_t avg_ns;               /* rounded down */
-    uint64_t jitter_ns;            /* RFC 3550's interarrival jitter: scaled_jitter_ns / 16, rounded down, also where
-                                      nothing returned. On a sheet that was fresh, 0 until a second row returned. No
-                                      verdict looks at it */
     struct testkit_budget budget;  /* as handed in */
     bool forwarding_proven;        /* something returned */
     bool packet_continuity_proven; /* losses, longest run of losses and longest outage within budget, and no Error
@@ -598,8 +580,8 @@ struct testkit_verdict testkit_judge_report(struct testkit_continuity_report rep
  *
  * Every call refuses first by TESTKIT_MALFORMED_OBSERVER (21): the used count is above the number of rows, the
  * sequences of the used rows do not rise, one of their marks is not 0 or 1, or one of them has mark 0 and an arrival
- * time other than 0. No call leaves a sheet in that state. Nothing else is a cause: beside mark 1 any arrival time will
- * do, 0 too, in every row any send time and any latency, and beside the columns any counter and any jitter.
+ * time other than 0. No call leaves a sheet in that state. Nothing else in the columns is a cause: beside mark 1 any
+ * arrival time will do, 0 too, and in every row any send time and any latency.
  */
 
 /*
@@ -640,8 +622,7 @@ struct testkit_recorded testkit_record_sent_plan(
 
 /*
  * Enters a packet that came back as a T-PDU at `return_timestamp_ns`. The first return of a sequence gives its row mark
- * 1, the latency, and `return_timestamp_ns` as arrival time, and its latency goes into the counts' jitter; a second one
- * is only counted.
+ * 1, the latency, and `return_timestamp_ns` as arrival time; a second one is only counted.
  * Refuses by TESTKIT_MALFORMED_OBSERVER (21); then as testkit_decode; then by TESTKIT_SEQUENCE_WAS_NOT_SENT (23),
  * TESTKIT_TIMESTAMP_REVERSED (24).
  */
@@ -705,7 +686,7 @@ struct testkit_datagram_recorded testkit_record_return_gtpu_datagram(
     const uint8_t *payload, size_t payload_length);
 
 /*
- * The report of a run sheet. No figure of it comes from the arrival times; the jitter comes from the counts alone.
+ * The report of a run sheet. No figure of it comes from the arrival times.
  *   window_start_ns    copied into the report, and used for nothing else
  *   window_end_ns      when an outage ends that no return ended: the time at which the caller stopped waiting
  *   budget             what the report's packet_continuity_proven is about

@@ -9,7 +9,6 @@ use testkit_open::evidence::PacketContinuityBudget;
 use crate::batch::refuse_batches;
 use crate::cases::ipv4_probe;
 use crate::indication_inputs::sound_list;
-use crate::jitter::{sound_states, Jitter};
 use crate::malformed::{any_time, has_one_cause, refuse};
 use crate::numbers::{OBSERVER_FULL, TIMESTAMP_REVERSED};
 use crate::observer::{any_contents, Call, Given, Pair, ERROR_INDICATION, G_PDU};
@@ -129,8 +128,7 @@ impl ArrivalCounts {
     }
 }
 
-/// What a sheet may have in this column, and beside it, without being refused for it; and as its state of the
-/// jitter.
+/// What a sheet may have in this column, and beside it, without being refused for it.
 pub(crate) fn sound_situations(sheet: &RunSheet) -> Vec<Situation> {
     let used = sheet.counts.used;
     let some = |is: &dyn Fn(usize) -> bool| (0..used).any(is);
@@ -141,7 +139,7 @@ pub(crate) fn sound_situations(sheet: &RunSheet) -> Vec<Situation> {
         sent_at.checked_add(sheet.latencies[at]) == Some(time(at))
     };
     let past = used < capacity(sheet) && sheet.marks[used] == 0 && time(used) != 0;
-    let mut situations = vec![
+    vec![
         (
             "mark 1 and time 0",
             some(&|at| is_marked(at) && time(at) == 0),
@@ -155,9 +153,7 @@ pub(crate) fn sound_situations(sheet: &RunSheet) -> Vec<Situation> {
             some(&|at| !is_marked(at) && sheet.latencies[at] != 0),
         ),
         ("a time without a mark right behind the used rows", past),
-    ];
-    situations.extend(sound_states(sheet));
-    situations
+    ]
 }
 
 /// The calls of the part, and what they had in them.
@@ -244,22 +240,19 @@ impl Trial {
         let room = (contents.rows.len() + random.below(3)).min(MOST_ROWS);
         let sheet = fresh(random, room);
         let mut arrivals = Arrivals::any(random, &contents);
-        let jitter = Jitter::any(random);
         let (calls, time) = (row_calls(random, sequence), any_time(random));
 
-        let column = arrivals.column(&contents);
-        let mut spoiled = holding(&sheet, &contents, &column, jitter.state());
+        let mut spoiled = holding(&sheet, &contents, &arrivals.column(&contents));
         spoiled.arrival_timestamps[at] = time;
         has_one_cause(&mut self.part, &spoiled);
         refuse(&mut self.part, &mut self.given, &spoiled, &calls);
         refuse_batches(&mut self.part, random, &contents, &spoiled);
 
-        let pair = Pair::new(&sheet, contents.clone(), arrivals.clone(), jitter);
+        let pair = Pair::new(&sheet, contents.clone(), arrivals.clone());
         self.accept(pair, &calls);
         contents.rows[at].returned = true;
         arrivals.0.insert(sequence, time);
-        let pair = Pair::new(&sheet, contents, arrivals, jitter);
-        self.accept(pair, &calls);
+        self.accept(Pair::new(&sheet, contents, arrivals), &calls);
     }
 
     /// A sheet that is in order, whatever the latencies of unmarked rows.
@@ -271,8 +264,7 @@ impl Trial {
         }
         let window_end = self.random.any_u64();
         let budget = PacketContinuityBudget::zero_loss();
-        let question = (0, window_end, budget);
-        pair.report(&mut self.part, &mut self.given.rules, question);
+        pair.report(&mut self.part, (0, window_end, budget));
     }
 }
 
@@ -302,7 +294,7 @@ fn row_calls(random: &mut Random, sequence: u64) -> [Call; 5] {
 }
 
 /// The packet of a sequence.
-pub(crate) fn packet(sequence: u64) -> Vec<u8> {
+fn packet(sequence: u64) -> Vec<u8> {
     build(Probe {
         sequence,
         ..ipv4_probe(0)
@@ -310,13 +302,13 @@ pub(crate) fn packet(sequence: u64) -> Vec<u8> {
 }
 
 /// It returns as a T-PDU.
-pub(crate) fn returned(sequence: u64, time: u64) -> Call {
+fn returned(sequence: u64, time: u64) -> Call {
     let tpdu = packet(sequence);
     Call::Tpdu { time, tpdu }
 }
 
 /// It returns in a message.
-pub(crate) fn returned_in(sequence: u64, time: u64) -> Call {
+fn returned_in(sequence: u64, time: u64) -> Call {
     Call::Message {
         time,
         message_type: G_PDU,
@@ -325,7 +317,7 @@ pub(crate) fn returned_in(sequence: u64, time: u64) -> Call {
 }
 
 /// An Error Indication that is accepted.
-pub(crate) fn indication(random: &mut Random) -> Call {
+fn indication(random: &mut Random) -> Call {
     Call::Message {
         time: random.any_u64(),
         message_type: ERROR_INDICATION,

@@ -1,11 +1,11 @@
 //! Our batch calls against single calls in a loop, the Rust's and ours: the packets of a plan, all or
 //! none, and lists of returns. The Rust has no batch calls.
 
+use crate::arrivals::ArrivalCounts;
 use crate::compared::{as_the_rust_tells, require_unfilled, stand_in, told_apart, Answer};
-use crate::jitter::chosen_returns;
 use crate::malformed::{malformed_sheet, Causes};
 use crate::numbers::*;
-use crate::observer::{any_call, any_contents, any_rows, time_near, Call, Pair, Rules};
+use crate::observer::{any_call, any_contents, any_rows, time_near, Call, Pair};
 use crate::ours_traffic::RunSheet;
 use crate::part::Part;
 use crate::random::Random;
@@ -24,7 +24,8 @@ type Plan = (Probe, u64, u64);
 struct Given {
     /// The numbers that ours answered.
     seen: Seen,
-    rules: Rules,
+    /// What the rules on arrival times are about.
+    arrivals: ArrivalCounts,
 }
 
 /// Plans entered and lists of returns taken, on sheets in any state.
@@ -35,7 +36,6 @@ pub fn batches(seed: u64, rounds: u64) -> Part {
     for rows in [2, 48, MOST_ROWS] {
         fit(&mut part, &mut given, &mut random, rows);
     }
-    far_apart(&mut part, &mut given, &mut random);
     for round in 0..rounds / 10 {
         let rows = any_rows(&mut random, round);
         let used = rows - random.length(rows).min(rows);
@@ -44,20 +44,14 @@ pub fn batches(seed: u64, rounds: u64) -> Part {
         for _ in 0..3 {
             let plan = any_plan(&mut random, &pair.contents, rows);
             enter(&mut part, &mut given, &mut pair, plan);
-            let mut returns = Returns::new();
-            if random.below(2) == 0 {
-                let earlier = pair.jitter.state().earlier_latency_ns;
-                returns = chosen_returns(&mut random, &pair.contents, earlier);
-            }
-            returns.extend(any_returns(&mut random, &pair.contents, rows));
+            let returns = any_returns(&mut random, &pair.contents, rows);
             take(&mut part, &mut given, &mut random, &mut pair, &returns);
         }
-        pair.reports(&mut part, &mut given.rules, &mut random);
+        pair.reports(&mut part, &mut random);
     }
     let numbers = answers(&[READING, PLANNING, OBSERVING]);
     given.seen.require(&mut part, numbers);
-    given.rules.require(&mut part);
-    given.rules.jitter.require_lent(&mut part);
+    given.arrivals.require(&mut part);
     require_unfilled(&mut part);
     part
 }
@@ -165,7 +159,7 @@ fn enter(part: &mut Part, given: &mut Given, pair: &mut Pair, plan: Plan) -> u8 
                     sequence: packet.sequence,
                     send_timestamp_ns: packet.send_timestamp_ns,
                 };
-                pair.due_answer(&mut given.rules, &call);
+                pair.due_answer(&mut given.arrivals, &call);
             }
             0
         }
@@ -173,7 +167,7 @@ fn enter(part: &mut Part, given: &mut Given, pair: &mut Pair, plan: Plan) -> u8 
     let mut ours = pair.ours.clone();
     let answer = send(&mut ours, plan);
     given.seen.add(answer);
-    given.rules.arrivals.add_answer(&pair.ours, answer);
+    given.arrivals.add_answer(&pair.ours, answer);
     let due = pair.due();
     let differences = (difference(&ours, &due), difference(&ours, &singly));
     part.case(
@@ -212,25 +206,6 @@ fn fit(part: &mut Part, given: &mut Given, random: &mut Random, rows: usize) {
             take(part, given, random, &mut pair, &returns);
         }
     }
-}
-
-/// Rows that were all sent at time 0 return in one call, at 0 and at the last time in turn: D has both ends
-/// of its range.
-fn far_apart(part: &mut Part, given: &mut Given, random: &mut Random) {
-    let times = [0, u64::MAX, 0, u64::MAX];
-    let mut pair = Pair::fresh(random, times.len());
-    let mut returns = Vec::new();
-    for (sequence, time) in (0..).zip(times) {
-        let first = Probe {
-            sequence,
-            send_timestamp_ns: 0,
-            ..any_probe(random)
-        };
-        enter(part, given, &mut pair, (first, 1, 1_000));
-        returns.push((time, build(first)));
-    }
-    take(part, given, random, &mut pair, &returns);
-    pair.reports(part, &mut given.rules, random);
 }
 
 /// T-PDUs that came back, and their times.
@@ -356,7 +331,7 @@ fn take(
         Ok(tpdu) => {
             let sequence = decode(&tpdu).map_or(0, |probe| probe.sequence);
             let tpdu = tpdu.into_owned();
-            let taken = pair.due_answer(&mut given.rules, &Call::Tpdu { time, tpdu });
+            let taken = pair.due_answer(&mut given.arrivals, &Call::Tpdu { time, tpdu });
             (taken.number, sequence)
         }
     });

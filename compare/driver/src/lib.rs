@@ -15,7 +15,6 @@ pub mod damage;
 pub mod gtpu;
 pub mod indication;
 pub mod indication_inputs;
-pub mod jitter;
 pub mod lists;
 pub mod malformed;
 pub mod measurement;

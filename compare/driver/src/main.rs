@@ -9,8 +9,8 @@ use std::process::ExitCode;
 
 use driver::part::{grouped, left_out, Part};
 use driver::{
-    answers, arrivals, batch, cases, checksum, gtpu, jitter, malformed, measurement, observer,
-    reflector, tally, traffic,
+    answers, arrivals, batch, cases, checksum, gtpu, malformed, measurement, observer, reflector,
+    tally, traffic,
 };
 
 const USAGE: &str = "usage: compare [--seed N] [--rounds N] [--long] [--only NAME]..";
@@ -53,7 +53,6 @@ const PARTS: &[(&str, Run)] = &[
     ("run sheet, runs", SeedAndRounds(observer::runs)),
     ("run sheet, any state", SeedAndRounds(observer::states)),
     ("run sheet, arrival times", Seed(arrivals::each_row)),
-    ("run sheet, jitter", Seed(jitter::each_state)),
     ("run sheet, malformed", SeedAndRounds(malformed::malformed)),
     ("run sheet, batches", SeedAndRounds(batch::batches)),
     ("run sheet, malformed, batches", SeedAndRounds(batch::malformed_batches)),

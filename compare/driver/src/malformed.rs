@@ -8,7 +8,7 @@ use crate::numbers::MALFORMED_OBSERVER;
 use crate::observer::{
     any_call, any_contents, any_indication_call, tunnel_calls, type_calls, Call, Given, Pair, G_PDU,
 };
-use crate::ours_traffic::{JitterState, Noted, Report, RunSheet};
+use crate::ours_traffic::{Noted, Report, RunSheet};
 use crate::part::Part;
 use crate::random::Random;
 use crate::rust_side::traffic::Sheet;
@@ -139,13 +139,11 @@ pub(crate) fn refuse(part: &mut Part, given: &mut Given, sheet: &RunSheet, calls
     part.case(&[], report, due);
 }
 
-/// How often each cause of 21 was there, where the column of arrival times was it, and beside which states of
-/// the jitter, which are to be left.
+/// How often each cause of 21 was there, and where the column of arrival times was it.
 #[derive(Default)]
 pub(crate) struct Causes {
     all: Met,
     arrivals: Met,
-    jitter: Met,
 }
 
 impl Causes {
@@ -154,19 +152,11 @@ impl Causes {
         has_one_cause(part, sheet);
         self.all.add(&causes(sheet));
         self.arrivals.add(&arrival_causes(sheet));
-        let JitterState {
-            scaled_jitter_ns,
-            earlier_latency_ns,
-        } = sheet.counts.jitter;
-        let is_set = scaled_jitter_ns != 0 && earlier_latency_ns != 0;
-        self.jitter.add(&[("neither number 0", is_set)]);
     }
 
     pub(crate) fn require(&self, part: &mut Part) {
         self.all.require(part, "causes");
         self.arrivals.require(part, "causes in arrival times");
-        self.jitter
-            .require(part, "causes beside a state of the jitter");
     }
 }
 

@@ -1,6 +1,5 @@
 //! Our run sheet against the Rust's observer: whole runs, and sheets set to any state. The tunnel that is
-//! handed on, the column of arrival times and the jitter are held to models (`indication.rs`, `arrivals.rs`,
-//! `jitter.rs`).
+//! handed on and the column of arrival times are held to models (`indication.rs`, `arrivals.rs`).
 
 use std::collections::{BTreeMap, BTreeSet};
 
@@ -12,7 +11,6 @@ use crate::compared::{require_unfilled, stand_in, Answer};
 use crate::gtpu::any_elements;
 use crate::indication::due_tunnel;
 use crate::indication_inputs::{any_indication, each_indication, sound_list, Tried};
-use crate::jitter::{chosen_calls, Jitter, JitterCounts};
 use crate::numbers::*;
 use crate::ours_traffic::{Noted, Report, RunSheet, Tunnel};
 use crate::packet::{part_at, protocol_at, set_lengths, set_word, sum_again, UDP_HEADER};
@@ -23,9 +21,7 @@ use crate::rust_side::measurement::{build, decode, echo, Probe};
 use crate::rust_side::traffic::{Observer, Row, Sheet};
 use crate::rust_side::Outcome;
 use crate::seen::{Met, Seen};
-use crate::sheets::{
-    capacity, difference, due_report, fresh, holding, questions, Question, MOST_ROWS,
-};
+use crate::sheets::{capacity, difference, fresh, holding, questions, Question, MOST_ROWS};
 use crate::wild::{any_covered, any_probe, padded_packet, set_any_flags, set_any_ihl, PROBE};
 
 pub(crate) const ERROR_INDICATION: u8 = 26;
@@ -61,31 +57,8 @@ pub(crate) struct Given {
     tried: Tried,
     /// The other types that came with elements which an Error Indication may have.
     other_types: BTreeSet<u8>,
-    pub(crate) rules: Rules,
-}
-
-/// How often the calls of a part had what the rules are about that the Rust does not have.
-#[derive(Default)]
-pub(crate) struct Rules {
-    pub(crate) arrivals: ArrivalCounts,
-    pub(crate) jitter: JitterCounts,
-}
-
-impl Rules {
-    /// Counts a call that the Rust answers by this number, before the models follow it.
-    fn add_call(&mut self, pair: &Pair, call: &Call, number: u8) {
-        let contents = &pair.contents;
-        let Self { arrivals, jitter } = self;
-        arrivals.add_call(contents, &pair.arrivals, call, number);
-        jitter.add_call(contents, &pair.jitter, call, number);
-    }
-
-    /// Prints the counts below the part, which fails if one of them is 0.
-    pub(crate) fn require(&self, part: &mut Part) {
-        self.arrivals.require(part);
-        self.jitter.require_marking(part);
-        self.jitter.require_left(part);
-    }
+    /// What the rules on arrival times are about.
+    arrivals: ArrivalCounts,
 }
 
 impl Given {
@@ -137,14 +110,13 @@ pub fn runs(seed: u64, rounds: u64) -> Part {
         }
     }
     given.require(&mut part, every_number());
-    given.rules.require(&mut part);
-    given.rules.jitter.require_messages(&mut part);
+    given.arrivals.require(&mut part);
     require_unfilled(&mut part);
     part
 }
 
-/// Runs from any state: counters at or near their top, latencies and arrival times of any size, any state of
-/// the jitter, and on rows that have not returned a latency that nobody may look at.
+/// Runs from any state: counters at or near their top, latencies and arrival times of any size, and on
+/// rows that have not returned a latency that nobody may look at.
 pub fn states(seed: u64, rounds: u64) -> Part {
     let mut part = Part::new("calls and reports");
     let (mut given, mut sheets) = (Given::default(), Met::default());
@@ -156,7 +128,7 @@ pub fn states(seed: u64, rounds: u64) -> Part {
         let mut pair = Pair::any(&mut random, room, contents);
         pair.spoil_unmarked(&mut random);
         sheets.add(&sound_situations(&pair.ours));
-        pair.reports(&mut part, &mut given.rules, &mut random);
+        pair.reports(&mut part, &mut random);
         run(&mut part, &mut given, &mut random, &mut pair, 20);
         if round % 256 == 1 {
             each_type(&mut part, &mut given, &mut random, &mut pair);
@@ -164,9 +136,7 @@ pub fn states(seed: u64, rounds: u64) -> Part {
         }
     }
     given.require(&mut part, every_number());
-    given.rules.require(&mut part);
-    given.rules.jitter.require_messages(&mut part);
-    given.rules.jitter.require_lent(&mut part);
+    given.arrivals.require(&mut part);
     sheets.require(&mut part, "sheets in order");
     require_unfilled(&mut part);
     part
@@ -313,27 +283,19 @@ pub(crate) struct Pair {
     rust: Observer,
     /// What the observer holds.
     pub(crate) contents: Sheet,
-    /// The arrival times and the jitter beside it, which the observer does not have.
+    /// The arrival times beside it, which the observer does not have.
     arrivals: Arrivals,
-    pub(crate) jitter: Jitter,
     /// What stands as latency on rows of ours that have not returned, if it is not 0.
     unmarked_latencies: BTreeMap<u64, u64>,
 }
 
 impl Pair {
-    pub(crate) fn new(
-        sheet: &RunSheet,
-        contents: Sheet,
-        arrivals: Arrivals,
-        jitter: Jitter,
-    ) -> Self {
-        let column = arrivals.column(&contents);
+    pub(crate) fn new(sheet: &RunSheet, contents: Sheet, arrivals: Arrivals) -> Self {
         Self {
-            ours: holding(sheet, &contents, &column, jitter.state()),
+            ours: holding(sheet, &contents, &arrivals.column(&contents)),
             rust: Observer::from_sheet(&contents),
             contents,
             arrivals,
-            jitter,
             unmarked_latencies: BTreeMap::new(),
         }
     }
@@ -341,16 +303,14 @@ impl Pair {
     /// Both fresh, ours of this capacity.
     pub(crate) fn fresh(random: &mut Random, capacity: usize) -> Self {
         let sheet = fresh(random, capacity);
-        let (arrivals, jitter) = (Arrivals::default(), Jitter::default());
-        Self::new(&sheet, Sheet::default(), arrivals, jitter)
+        Self::new(&sheet, Sheet::default(), Arrivals::default())
     }
 
-    /// Both with these contents, ours of this capacity, with any arrival times and any state of the jitter.
+    /// Both with these contents, ours of this capacity and with any arrival times.
     pub(crate) fn any(random: &mut Random, capacity: usize, contents: Sheet) -> Self {
         let sheet = fresh(random, capacity);
         let arrivals = Arrivals::any(random, &contents);
-        let jitter = Jitter::any(random);
-        Self::new(&sheet, contents, arrivals, jitter)
+        Self::new(&sheet, contents, arrivals)
     }
 
     /// Writes any latency on our rows that have not returned.
@@ -369,8 +329,7 @@ impl Pair {
 
     /// Our sheet as it has to be for what the observer holds: every cell past the used rows kept.
     pub(crate) fn due(&self) -> RunSheet {
-        let jitter = self.jitter.state();
-        let mut due = holding(&self.ours, &self.contents, &self.arrival_column(), jitter);
+        let mut due = holding(&self.ours, &self.contents, &self.arrival_column());
         if !self.unmarked_latencies.is_empty() {
             for (at, row) in self.contents.rows.iter().enumerate() {
                 if let (false, Some(&latency)) =
@@ -392,9 +351,9 @@ impl Pair {
         used == capacity(&self.ours) && self.contents.row(*sequence).is_none()
     }
 
-    /// Makes a call on the Rust's observer: what ours has to answer. The arrival times and the jitter follow
-    /// what the Rust answers.
-    pub(crate) fn due_answer(&mut self, rules: &mut Rules, call: &Call) -> Noted {
+    /// Makes a call on the Rust's observer: what ours has to answer. The arrival times follow what the Rust
+    /// answers.
+    pub(crate) fn due_answer(&mut self, counts: &mut ArrivalCounts, call: &Call) -> Noted {
         let due_answer = if self.full_for(call) {
             Noted {
                 number: OBSERVER_FULL,
@@ -403,10 +362,8 @@ impl Pair {
         } else {
             call.on_rust(&mut self.rust)
         };
-        let number = due_answer.number;
-        rules.add_call(self, call, number);
-        self.arrivals.follow(call, number);
-        self.jitter.follow(&self.contents, call, number);
+        counts.add_call(&self.contents, &self.arrivals, call, due_answer.number);
+        self.arrivals.follow(call, due_answer.number);
         self.contents = self.rust.sheet();
         due_answer
     }
@@ -417,10 +374,9 @@ impl Pair {
         let mut ours = self.ours.clone();
         let answer = call.on_ours(&mut ours);
         given.add(call, answer.number);
-        let rules = &mut given.rules;
-        rules.arrivals.add_answer(&self.ours, answer.number);
+        given.arrivals.add_answer(&self.ours, answer.number);
         let due_answer = match call.stand_in(part) {
-            Ok(call) => self.due_answer(rules, &call),
+            Ok(call) => self.due_answer(&mut given.arrivals, &call),
             Err(number) => Noted {
                 number,
                 ..Noted::default()
@@ -434,23 +390,21 @@ impl Pair {
     }
 
     fn due_report(&self, (start, end, budget): Question) -> Report {
-        let report = self.rust.report(start, end, budget);
-        due_report(report, self.jitter.reported())
+        self.rust.report(start, end, budget).into()
     }
 
     /// Reports, and the verdict on each.
-    pub(crate) fn reports(&self, part: &mut Part, rules: &mut Rules, random: &mut Random) {
+    pub(crate) fn reports(&self, part: &mut Part, random: &mut Random) {
         let due_report = |question| self.due_report(question);
         for question in questions(random, &self.contents, due_report) {
-            self.report(part, rules, question);
+            self.report(part, question);
         }
     }
 
     /// A report, and the verdict on it: judged by the figures of a report that was made for another
     /// budget, a run passes where the Rust's report says both that it forwards and that it keeps to
     /// this one.
-    pub(crate) fn report(&self, part: &mut Part, rules: &mut Rules, question: Question) {
-        rules.jitter.add_report(&self.jitter);
+    pub(crate) fn report(&self, part: &mut Part, question: Question) {
         let (start, end, budget) = question;
         let due = self.due_report(question);
         part.case(&[], self.ours.report(start, end, budget), due);
@@ -463,31 +417,25 @@ impl Pair {
     }
 }
 
-/// This many random steps, most of one call, with reports now and then.
-fn run(part: &mut Part, given: &mut Given, random: &mut Random, pair: &mut Pair, steps: usize) {
+/// This many random calls, with reports now and then.
+fn run(part: &mut Part, given: &mut Given, random: &mut Random, pair: &mut Pair, calls: usize) {
     let rows = capacity(&pair.ours);
     let base = match random.below(4) {
         0 => 0,
         1 => u64::MAX - rows as u64,
         _ => random.number(),
     };
-    for step in 0..steps {
-        let calls = match random.below(8) {
-            0 => vec![any_indication_call(random)],
-            1 => {
-                let earlier = pair.jitter.state().earlier_latency_ns;
-                chosen_calls(random, &pair.contents, earlier)
-            }
-            _ => vec![any_call(random, &pair.contents.rows, base, rows)],
+    for step in 0..calls {
+        let call = match random.below(8) {
+            0 => any_indication_call(random),
+            _ => any_call(random, &pair.contents.rows, base, rows),
         };
-        for call in calls {
-            pair.call(part, given, &call);
-        }
+        pair.call(part, given, &call);
         if step % 16 == 15 && (rows < MOST_ROWS || step % 256 == 15) {
-            pair.reports(part, &mut given.rules, random);
+            pair.reports(part, random);
         }
     }
-    pair.reports(part, &mut given.rules, random);
+    pair.reports(part, random);
 }
 
 /// Sends new sequences until the sheet is full, one more, and a row that is there.
@@ -504,7 +452,7 @@ fn fill(part: &mut Part, given: &mut Given, random: &mut Random, pair: &mut Pair
         };
         pair.call(part, given, &call);
     }
-    pair.reports(part, &mut given.rules, random);
+    pair.reports(part, random);
 }
 
 /// Every message type, with a T-PDU of a row, with elements and with nothing.

@@ -155,22 +155,12 @@ pub struct Forecast {
     pub last_send_timestamp_ns: u64,
 }
 
-/// C's `struct testkit_jitter_state`: 16 times the jitter, and the latency of the last return that marked
-/// a row.
-#[repr(C)]
-#[derive(Debug, Clone, Copy, Default, PartialEq, Eq)]
-pub struct JitterState {
-    pub scaled_jitter_ns: u64,
-    pub earlier_latency_ns: u64,
-}
-
 /// C's `struct testkit_counts`: what stands beside the columns of a run sheet.
 #[repr(C)]
 #[derive(Debug, Clone, Copy, Default, PartialEq, Eq)]
 pub struct Counts {
     pub duplicate_packets: u64,
     pub out_of_order_packets: u64,
-    pub jitter: JitterState,
     pub gtpu_error_indications: u64,
     pub used: usize,
 }
@@ -304,7 +294,6 @@ pub struct Report {
     pub min_ns: u64,
     pub max_ns: u64,
     pub avg_ns: u64,
-    pub jitter_ns: u64,
     pub budget: Budget,
     pub forwarding_proven: bool,
     pub packet_continuity_proven: bool,

@@ -1,7 +1,7 @@
 //! A sample of the Rust's answers, as the records that `crates/replay` reads: its README says what
-//! is in them. A refusal is told by the number that is due of ours (`told_apart`), and the arrival times and
-//! the jitter of a run sheet, which the Rust does not have, are the models' (`arrivals.rs`, `jitter.rs`).
-//! Nothing here, or in `sample_reflector.rs`, calls our library.
+//! is in them. A refusal is told by the number that is due of ours (`told_apart`), and the arrival times of
+//! a run sheet, which the Rust does not have, are the model's (`arrivals.rs`). Nothing here, or in
+//! `sample_reflector.rs`, calls our library.
 
 use std::collections::{BTreeMap, BTreeSet};
 
@@ -10,7 +10,6 @@ use testkit_open::traffic::TrafficPlan;
 use crate::arrivals::Arrivals;
 use crate::compared::{compared, told_apart, NEVER_COMPARED};
 use crate::gtpu::any_elements;
-use crate::jitter::{chosen_calls, Jitter, CASES};
 use crate::numbers::in_the_rust;
 use crate::observer::{any_call, any_contents, Call};
 use crate::ours::{Values, DIRTY_ADDRESS};
@@ -21,7 +20,7 @@ use crate::rust_side::gtpu::validate_error_indication_ies;
 use crate::rust_side::measurement::{build, checksum, decode, echo, Probe};
 use crate::rust_side::traffic::{generate, Observer, Sheet};
 use crate::sample_reflector::{draw_handle, draw_register, draw_remove};
-use crate::sheets::{capacity, dirty, due_report, holding, questions};
+use crate::sheets::{capacity, dirty, holding, questions};
 use crate::wild::{any_packet, any_probe};
 
 /// The kinds of records.
@@ -57,7 +56,7 @@ pub struct Sample {
 /// # Panics
 ///
 /// If a number for a cause at which the Rust refuses is not among the answers of all of it, but for those
-/// that no compared T-PDU has; or if it lacks one of the cases that the rules on jitter have.
+/// that no compared T-PDU has.
 pub fn sample(seed: u64, first: u8) -> Sample {
     let mut sample = Sample {
         seed,
@@ -71,7 +70,7 @@ pub fn sample(seed: u64, first: u8) -> Sample {
     sample.draw(GENERATE, 15, 60, draw_generate);
     sample.draw(ELEMENTS, 40, 60, draw_elements);
     sample.draw(RECORD_SENT, 0, 120, |random| draw_call(random, RECORD_SENT));
-    sample.draw(RECORD_RECEIVED_TPDU, 8, 10, |random| {
+    sample.draw(RECORD_RECEIVED_TPDU, 8, 90, |random| {
         draw_call(random, RECORD_RECEIVED_TPDU)
     });
     sample.draw(RECORD_RETURN_GTPU_DATAGRAM, 6, 30, |random| {
@@ -87,8 +86,6 @@ pub fn sample(seed: u64, first: u8) -> Sample {
         due.insert(0);
         let numbers: BTreeSet<u8> = sample.seen.keys().map(|&(_, number, _)| number).collect();
         assert_eq!(numbers, due, "the numbers of the sample");
-        let has = |case| sample.seen.contains_key(&(RECORD_RECEIVED_TPDU, 0, case));
-        assert!((0..CASES).all(has), "the cases of jitter in the sample");
     }
     sample
 }
@@ -268,33 +265,27 @@ fn draw_elements(random: &mut Random) -> Option<Drawn> {
     (list.len() <= MOST_BYTES).then_some((number, 0, list))
 }
 
-/// A sheet that holds these contents and times and this jitter in columns of `ROWS` cells, and how much of
-/// each is lent.
+/// A sheet that holds these contents and times in columns of `ROWS` cells, and how much of each is lent.
 fn any_sheet(
     random: &mut Random,
     contents: &Sheet,
     arrivals: &Arrivals,
-    jitter: &Jitter,
 ) -> (RunSheet, [u8; RunSheet::COLUMNS]) {
     let dirty = dirty(random, [ROWS; RunSheet::COLUMNS]);
     let used = contents.rows.len();
     let lent = [0; RunSheet::COLUMNS].map(|_| (used + random.below(ROWS - used + 1)) as u8);
-    let column = arrivals.column(contents);
-    (holding(&dirty, contents, &column, jitter.state()), lent)
+    (holding(&dirty, contents, &arrivals.column(contents)), lent)
 }
 
-/// 41 bytes.
 fn counts_bytes(counts: &Counts) -> Vec<u8> {
     let mut bytes = vec![counts.used as u8];
     bytes.extend(counts.duplicate_packets.to_be_bytes());
     bytes.extend(counts.out_of_order_packets.to_be_bytes());
-    bytes.extend(counts.jitter.scaled_jitter_ns.to_be_bytes());
-    bytes.extend(counts.jitter.earlier_latency_ns.to_be_bytes());
     bytes.extend(counts.gtpu_error_indications.to_be_bytes());
     bytes
 }
 
-/// Counts and columns: 239 bytes.
+/// Counts and columns: 223 bytes.
 fn sheet_bytes(sheet: &RunSheet) -> Vec<u8> {
     fn numbers(column: &[u64]) -> impl Iterator<Item = u8> + '_ {
         column.iter().flat_map(|cell| cell.to_be_bytes())
@@ -327,22 +318,14 @@ fn call_parts(call: &Call) -> (u8, [u64; 2], &[u8]) {
     }
 }
 
-/// A call of this kind on a sheet in any state; none where the sheet would be full. The varieties are what a
-/// message was, and of a T-PDU the cases that the rules on jitter have.
+/// A call of this kind on a sheet in any state; none where the sheet would be full.
 fn draw_call(random: &mut Random, kind: u8) -> Option<Drawn> {
     let used = random.below(ROWS + 1);
     let contents = any_contents(random, used);
     let mut arrivals = Arrivals::any(random, &contents);
-    let mut jitter = Jitter::any(random);
-    let (sheet, lent) = any_sheet(random, &contents, &arrivals, &jitter);
+    let (sheet, lent) = any_sheet(random, &contents, &arrivals);
     let base = contents.rows.first().map_or(0, |row| row.sequence);
-    let mut call = any_call(random, &contents.rows, base, ROWS);
-    if kind != RECORD_SENT && call_parts(&call).0 != kind {
-        // In its place one for the rules on jitter, which may be of this kind.
-        let earlier = jitter.state().earlier_latency_ns;
-        let mut calls = chosen_calls(random, &contents, earlier).into_iter();
-        call = calls.next()?;
-    }
+    let call = any_call(random, &contents.rows, base, ROWS);
     let (call_kind, numbers, payload) = call_parts(&call);
     let is_compared = call.tpdu().is_none_or(compared);
     if call_kind != kind || payload.len() > MOST_BYTES || !is_compared {
@@ -356,18 +339,12 @@ fn draw_call(random: &mut Random, kind: u8) -> Option<Drawn> {
         message_type,
         ..
     } = call.on_rust(&mut observer);
-    let variety = match call {
-        Call::Tpdu { .. } => jitter.case(&contents, &call, number),
-        _ => outcome,
-    };
     arrivals.follow(&call, number);
-    jitter.follow(&contents, &call, number);
     let contents = observer.sheet();
     if contents.rows.len() > room.min(capacity(&sheet)) {
         return None;
     }
-    let column = arrivals.column(&contents);
-    let due = holding(&sheet, &contents, &column, jitter.state());
+    let due = holding(&sheet, &contents, &arrivals.column(&contents));
     let mut rest = lent.to_vec();
     rest.extend(sheet_bytes(&sheet));
     rest.extend(sheet_bytes(&due));
@@ -375,7 +352,7 @@ fn draw_call(random: &mut Random, kind: u8) -> Option<Drawn> {
     rest.extend(numbers.into_iter().flat_map(u64::to_be_bytes));
     rest.extend(payload);
     let number = told_apart(call.tpdu().unwrap_or(&[]), number);
-    Some((number, variety, rest))
+    Some((number, outcome, rest))
 }
 
 fn report_bytes(report: &Report) -> Vec<u8> {
@@ -391,7 +368,6 @@ fn report_bytes(report: &Report) -> Vec<u8> {
         report.min_ns,
         report.max_ns,
         report.avg_ns,
-        report.jitter_ns,
     ];
     let flags = [
         report.has_latency,
@@ -408,13 +384,9 @@ fn draw_report(random: &mut Random) -> Option<Drawn> {
     let used = random.below(ROWS + 1);
     let contents = any_contents(random, used);
     let arrivals = Arrivals::any(random, &contents);
-    let jitter = Jitter::any(random);
-    let (sheet, lent) = any_sheet(random, &contents, &arrivals, &jitter);
+    let (sheet, lent) = any_sheet(random, &contents, &arrivals);
     let observer = Observer::from_sheet(&contents);
-    let report = |(start, end, budget)| {
-        let report = observer.report(start, end, budget);
-        due_report(report, jitter.reported())
-    };
+    let report = |(start, end, budget)| Report::from(observer.report(start, end, budget));
     let mut asked = questions(random, &contents, report);
     let question = asked.swap_remove(random.below(asked.len()));
     let (start, end, budget) = question;

@@ -5,7 +5,7 @@ use std::fmt::Debug;
 
 use testkit_open::evidence::{PacketContinuityBudget, PacketContinuityReport};
 
-use crate::ours_traffic::{Counts, JitterState, Report, RunSheet};
+use crate::ours_traffic::{Counts, Report, RunSheet};
 use crate::random::Random;
 use crate::rust_side::traffic::Sheet;
 
@@ -57,14 +57,8 @@ pub fn capacity_without_arrivals(sheet: &RunSheet) -> usize {
     others.into_iter().fold(MOST_ROWS, usize::min)
 }
 
-/// The sheet with these rows, their arrival times, these counters and this state of the jitter in it, all
-/// other cells kept.
-pub fn holding(
-    sheet: &RunSheet,
-    contents: &Sheet,
-    arrivals: &[u64],
-    jitter: JitterState,
-) -> RunSheet {
+/// The sheet with these rows, their arrival times and these counters in it, all other cells kept.
+pub fn holding(sheet: &RunSheet, contents: &Sheet, arrivals: &[u64]) -> RunSheet {
     let mut due = sheet.clone();
     for (at, row) in contents.rows.iter().enumerate() {
         due.sequences[at] = row.sequence;
@@ -77,7 +71,6 @@ pub fn holding(
         used: contents.rows.len(),
         duplicate_packets: contents.duplicates,
         out_of_order_packets: contents.out_of_order,
-        jitter,
         gtpu_error_indications: contents.error_indications,
     };
     due
@@ -147,28 +140,28 @@ pub fn questions(
     questions
 }
 
-/// What ours has to report where the Rust reports this, and this jitter is due, which the Rust does not have.
-pub fn due_report(report: PacketContinuityReport, jitter_ns: u64) -> Report {
-    let latency = report.latency;
-    Report {
-        number: 0,
-        window_start_ns: report.window_start_ns,
-        window_end_ns: report.window_end_ns,
-        sent_packets: report.sent_packets,
-        received_packets: report.received_packets,
-        lost_packets: report.lost_packets,
-        duplicate_packets: report.duplicate_packets,
-        out_of_order_packets: report.out_of_order_packets,
-        gtpu_error_indications: report.gtpu_error_indications,
-        max_consecutive_lost_packets: report.max_consecutive_lost_packets,
-        max_gap_duration_ns: report.max_gap_duration_ns,
-        has_latency: latency.is_some(),
-        min_ns: latency.map_or(0, |latency| latency.min_ns),
-        max_ns: latency.map_or(0, |latency| latency.max_ns),
-        avg_ns: latency.map_or(0, |latency| latency.avg_ns),
-        jitter_ns,
-        budget: report.budget.into(),
-        forwarding_proven: report.forwarding_proven,
-        packet_continuity_proven: report.packet_continuity_proven,
+impl From<PacketContinuityReport> for Report {
+    fn from(report: PacketContinuityReport) -> Self {
+        let latency = report.latency;
+        Self {
+            number: 0,
+            window_start_ns: report.window_start_ns,
+            window_end_ns: report.window_end_ns,
+            sent_packets: report.sent_packets,
+            received_packets: report.received_packets,
+            lost_packets: report.lost_packets,
+            duplicate_packets: report.duplicate_packets,
+            out_of_order_packets: report.out_of_order_packets,
+            gtpu_error_indications: report.gtpu_error_indications,
+            max_consecutive_lost_packets: report.max_consecutive_lost_packets,
+            max_gap_duration_ns: report.max_gap_duration_ns,
+            has_latency: latency.is_some(),
+            min_ns: latency.map_or(0, |latency| latency.min_ns),
+            max_ns: latency.map_or(0, |latency| latency.max_ns),
+            avg_ns: latency.map_or(0, |latency| latency.avg_ns),
+            budget: report.budget.into(),
+            forwarding_proven: report.forwarding_proven,
+            packet_continuity_proven: report.packet_continuity_proven,
+        }
     }
 }

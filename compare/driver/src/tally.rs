@@ -8,16 +8,14 @@ use testkit_open::evidence::PacketContinuityBudget;
 
 use crate::compared::due;
 use crate::damage::{excluded, turn, window_starts};
-use crate::jitter::{chosen_latency, difference_situations};
-use crate::numbers::{READING, TIMESTAMP_REVERSED};
+use crate::numbers::TIMESTAMP_REVERSED;
 use crate::ours::{self, Values};
-use crate::ours_traffic::{self, JitterState, Noted, Report, RunSheet, Tunnel};
+use crate::ours_traffic::{self, Noted, Report, RunSheet, Tunnel};
 use crate::packet::{part_at, word};
 use crate::part::{grouped, Part};
 use crate::random::Random;
 use crate::rust_side::measurement::decode;
 use crate::rust_side::traffic::{Row, Sheet};
-use crate::seen::{self, Situation};
 use crate::sheets::{difference, fresh, holding, questions, Question, MOST_ROWS};
 use crate::traffic::any_plan;
 
@@ -28,8 +26,6 @@ struct Tally {
     sheet: Sheet,
     /// Beside each row its arrival time: 0, then the time of the return that marks it (document 02, job 8).
     arrivals: Vec<u64>,
-    /// The latencies of the returns that mark rows, in the order of these returns (document 02, job 2).
-    latencies: Vec<u64>,
 }
 
 impl Tally {
@@ -44,7 +40,6 @@ impl Tally {
         let rows: Vec<Row> = packets.map(row).collect();
         Self {
             arrivals: vec![0; rows.len()],
-            latencies: vec![],
             sheet: Sheet {
                 rows,
                 ..Sheet::default()
@@ -54,19 +49,7 @@ impl Tally {
 
     /// A sheet of ours as it has to be, every cell past the used rows kept.
     fn on(&self, sheet: &RunSheet) -> RunSheet {
-        holding(sheet, &self.sheet, &self.arrivals, self.jitter())
-    }
-
-    /// The state of the jitter after these latencies. It fits, since from 0 on it does not pass 2^63.
-    fn jitter(&self) -> JitterState {
-        let scaled = self.latencies.windows(2).fold(0, |state, pair| {
-            let size = pair[1].abs_diff(pair[0]).min(1 << 59);
-            state + size - (state + 8) / 16
-        });
-        JitterState {
-            scaled_jitter_ns: scaled,
-            earlier_latency_ns: self.latencies.last().copied().unwrap_or(0),
-        }
+        holding(sheet, &self.sheet, &self.arrivals)
     }
 
     /// The arrival time of a packet, if its row is marked.
@@ -91,11 +74,9 @@ impl Tally {
         if sheet.rows.iter().any(is_higher) {
             sheet.out_of_order = sheet.out_of_order.saturating_add(1);
         }
-        let latency = time - row.send_timestamp_ns;
         sheet.rows[packet].returned = true;
-        sheet.rows[packet].latency = latency;
+        sheet.rows[packet].latency = time - row.send_timestamp_ns;
         self.arrivals[packet] = time;
-        self.latencies.push(latency);
     }
 
     /// Leaf 7 on the tally.
@@ -138,7 +119,6 @@ impl Tally {
             min_ns: latencies.iter().min().copied().unwrap_or(0),
             max_ns: latencies.iter().max().copied().unwrap_or(0),
             avg_ns: mean as u64,
-            jitter_ns: self.jitter().scaled_jitter_ns / 16,
             budget: budget.into(),
             forwarding_proven: received > 0,
             packet_continuity_proven: lost <= max_lost_packets
@@ -213,10 +193,6 @@ struct Met {
     first_above_0: u64,
     first_at_0: u64,
     duplicates_at_another_time: u64,
-    /// Returns that mark a row: what the rule on jitter is about.
-    jitter: seen::Met,
-    /// Other returns, where neither number of its state is 0.
-    jitter_left: seen::Met,
 }
 
 impl Met {
@@ -233,37 +209,6 @@ impl Met {
         self.first_at_0 += u64::from(is_first && each.time == 0);
         self.duplicates_at_another_time += u64::from(is_taken && is_another);
     }
-
-    /// Counts a return that ours answered by this number, with this state of the jitter before it.
-    fn add_to_jitter(&mut self, tally: &Tally, number: u8, before: JitterState, is_first: bool) {
-        if is_first {
-            self.jitter.add(&jitter_situations(&tally.latencies));
-        } else if before.scaled_jitter_ns != 0 && before.earlier_latency_ns != 0 {
-            self.jitter_left.add(&[
-                ("duplicate", number == 0),
-                ("too early", number == TIMESTAMP_REVERSED),
-                ("not read", READING.contains(&number)),
-            ]);
-        }
-    }
-}
-
-/// What may be said of the last of these latencies.
-fn jitter_situations(latencies: &[u64]) -> Vec<Situation> {
-    let difference = match *latencies {
-        [.., earlier, later] => Some(i128::from(later) - i128::from(earlier)),
-        _ => None,
-    };
-    let mut situations = vec![
-        ("first, latency 0", matches!(latencies, [0])),
-        (
-            "first, another latency",
-            matches!(*latencies, [latency] if latency > 0),
-        ),
-        ("second, after latency 0", matches!(latencies, [0, _])),
-    ];
-    situations.extend(difference_situations(difference));
-    situations
 }
 
 /// Lists of returns on random accepted plans: after each return our sheet must be the tally's, and
@@ -302,8 +247,6 @@ pub fn tallies(seed: u64, rounds: u64) -> Part {
     part.case(&[], missing, vec![]);
     let counts = counts.map(|(name, count)| format!("{name}: {}", grouped(count)));
     part.note(counts.join(", "));
-    met.jitter.require(&mut part, "jitter");
-    met.jitter_left.require(&mut part, "jitter left");
     part
 }
 
@@ -345,15 +288,13 @@ fn list(part: &mut Part, random: &mut Random, met: &mut Met, packets: &[(u64, u6
             .collect(),
     };
     for each in &returns {
-        let (before, jitter) = (sheet.clone(), tally.jitter());
+        let before = sheet.clone();
         let marked_at = tally.marked_at(each.packet);
         let Noted { number, tunnel, .. } = each.on(&mut sheet);
         tally.take(each.packet, each.time, is_refused(part, &each.arrived));
         let answer = (tunnel, difference(&sheet, &tally.on(&before)));
         part.case(&each.arrived, answer, (Tunnel::default(), None));
         met.add(each, number, marked_at);
-        let is_first = number == 0 && marked_at.is_none();
-        met.add_to_jitter(&tally, number, jitter, is_first);
         if number == 0 || !each.damaged {
             let noted = each.mended().on(&mut second);
             part.case(&each.whole, noted.tunnel, Tunnel::default());
@@ -419,7 +360,6 @@ fn any_return(
         0 => random.number(),
         1 => send_timestamp_ns.saturating_sub(1),
         2 => [0, u64::MAX][random.below(2)],
-        3 | 4 => send_timestamp_ns.saturating_add(chosen_latency(random, 0)),
         _ => send_timestamp_ns.saturating_add(random.length(1 << 20) as u64),
     };
     Some(Return {

@@ -11,7 +11,7 @@ use lib.Dec.{ltb, eqb}
 use lib.ListN.{length, get_or, take, drop, length-take, length-drop}
 use lib.Seq.{slice, drop-cons, drop-drop, drop_at, get_or-take, length-take-le, take_all, take-nil, take-take, take-add}
 use Rattle.error.proofs.Tests.{true_not_false}
-use Rattle.columns.specs.Columns.{rising, any_marked, all_marked, return_known, returns_known}
+use Rattle.columns.specs.Columns.{rising, all_marked, return_known, returns_known}
 
 pub and_assoc : (a b c : Bool) → (a && b) && c ≡ a && (b && c)
 and_assoc true b c = refl
@@ -182,21 +182,3 @@ known_whole n m (x ∷ ms) [] e = known_none (take m (x ∷ ms)) m ∙ sym (know
 known_whole zero m (x ∷ ms) (t ∷ ts) e = rw (let z : m ≡ 0 = omega arith in z)
 known_whole (suc n) zero (x ∷ ms) (t ∷ ts) e = absurd (omega arith)
 known_whole (suc n) (suc m) (x ∷ ms) (t ∷ ts) e = ap (λ (b : Bool). return_known x t && b) (known_whole n m ms ts (omega arith))
-
--- ---- some mark
-
-any_cut : (k : ℕ) (ms : List ℕ) → any_marked ms ≡ (any_marked (take k ms) || any_marked (drop k ms))
-any_cut zero ms = refl
-any_cut (suc k) [] = refl
-any_cut (suc k) (m ∷ ms) = ap (λ (b : Bool). eqb m 1 || b) (any_cut k ms) ∙ sym (or_assoc (eqb m 1) _ _)
-
-module _ (marks : List ℕ) (n : ℕ) (fits : n ≤ length marks) where
-  -- the rows from i up to the next turn, and the rest
-  pub any_turn : (i next : ℕ) → i ≤ next → next ≤ n
-      → any_marked (drop i (take n marks)) ≡ (any_marked (drop i (take next marks)) || any_marked (drop next (take n marks)))
-  any_turn i next h g =
-      let e : i + (next - i) ≡ next = omega arith in
-      any_cut (next - i) (drop i (take n marks))
-      ∙ (λ j.
-      any_marked ((front_left marks n fits (next - i) i (omega arith) ∙ sym (slice_front (next - i) i marks (omega arith)) ∙ ap (λ (m : ℕ). slice i m marks) e) j)
-      || any_marked ((drop-drop (next - i) i (take n marks) ∙ ap (λ (m : ℕ). drop m (take n marks)) e) j))

@@ -63,8 +63,6 @@ pub struct PacketContinuityReport {
     pub max_consecutive_lost_packets: u64,
     pub max_gap_duration_ns: u64,
     pub latency: Latency,
-    // The interarrival jitter of the first returns, in nanoseconds (document 02, job 2; the Rust has none).
-    pub jitter_ns: u64,
     // What the run was held to.
     pub budget: PacketContinuityBudget,
     // Some packet returned.

@@ -3,7 +3,7 @@
 use Prim.Native.Nat.{ℕ, suc, ◌+◌, ◌-◌, ◌≤◌, ◌<◌}
 use mathlib.Core.Path.{◌≡◌, refl, sym, ap, ◌∙◌}
 use mathlib.Core.List.{List}
-use mathlib.Core.Bool.{Bool, true, false, ◌||◌}
+use mathlib.Core.Bool.{Bool, true, false}
 use native.Mathlib.Numerals.{add-one}
 use native.Mathlib.Omega.{arith}
 use lib.Dec.{eqb, ltb}
@@ -12,18 +12,17 @@ use borrow.Author.Tests.{eqb-true, eqb-false, ltb-true, ltb-false}
 use Rattle.error.specs.Outcome.{gives}
 use Rattle.columns.specs.Columns.{any_marked}
 use Rattle.columns.specs.Place.{place, holds, found}
-use Rattle.columns.proofs.Gathering.{left, any_turn}
 use Rattle.columns.proofs.Search.{both_right, found_place}
 use Rattle.rows.specs.Columns.{Columns, column_lengths, capacity_of, Left}
-use Rattle.rows.specs.Arriving.{returned_at, first_return, arriving}
+use Rattle.rows.specs.Arriving.{returned_at, arriving}
 use Rattle.rows.specs.declared.Arrival.{Arrival}
 use Rattle.rows.proofs.Within.{held_used}
-use Rattle.rows.proofs.Ways.{arrives_unknown, arrives_early, arrives_again, arrives_first, first_late, first_in_order, first_of_all}
-use Rattle.observer.specs.Counts.{with_used, out_of_order_if, with_latency}
+use Rattle.rows.proofs.Ways.{arrives_unknown, arrives_early, arrives_again, arrives_late, arrives_in_order}
+use Rattle.observer.specs.Counts.{with_used, out_of_order_if}
 use Rattle.observer.specs.Observer.{Row, Observer, capacity, rows, row_at, with_rows, with_counts, sequences_of}
 use Rattle.observer.specs.Judge.{well_formed, Step, step}
-use Rattle.observer.specs.Place.{was_sent, row_of, some_marked, highest_marked, marked_above}
-use Rattle.observer.specs.Returning.{returned, counts_after, record_return}
+use Rattle.observer.specs.Place.{was_sent, row_of, highest_marked, marked_above}
+use Rattle.observer.specs.Returning.{returned, record_return}
 use Rattle.observer.specs.Answer.{observer_of, after_arrival, recorded}
 use Rattle.observer.specs.declared.ObserverCounts.{ObserverCounts}
 use Rattle.observer.specs.declared.Recorded.{Recorded}
@@ -52,13 +51,9 @@ returned_columns {o} w k t c e h =
       arrival_timestamps = column_set (λ r. r.arrival_timestamp_ns) (rows o) o.columns.arrival_timestamps f.count f.arrival_timestamps k r h i;
     }) (with_used ((length-set (rows o) k r ∙ f.count ∙ sym e) i) c)
 
--- the counts after the first return of a row, by whether a row behind it and a row before it are marked
-abbrev counts_by : Bool → Bool → ℕ → ObserverCounts → ObserverCounts
-counts_by late earlier latency c = with_latency (earlier || late) latency (out_of_order_if late c)
-
-used_kept : (late earlier : Bool) (latency : ℕ) (c : ObserverCounts) → (counts_by late earlier latency c).used ≡ c.used
-used_kept true earlier latency c = refl
-used_kept false earlier latency c = refl
+used_kept : (late : Bool) (c : ObserverCounts) → (out_of_order_if late c).used ≡ c.used
+used_kept true c = refl
+used_kept false c = refl
 
 -- what an arrival is answered by, and the columns as it leaves them
 abbrev pub arrival_step : ObserverCounts → Left Arrival → Step
@@ -118,25 +113,6 @@ module _ {o : Observer} (w : Well o) (q t : ℕ) where
         ∙ ap (λ (l : List ℕ). any_marked (drop (suc k) l)) w.fronts.marks
         ∙ ap (λ (i : ℕ). any_marked (drop i (take o.counts.used o.columns.marks))) (sym (add-one k))
 
-    -- what the row's latency becomes
-    abbrev latency : ℕ
-    latency = t - get_or o.columns.send_timestamps k 0
-
-    latency_is : latency ≡ (returned t (row_of q (rows o))).latency
-    latency_is = ap (λ (s : ℕ). t - s) (sym sent_is)
-
-    -- some row is marked: one before it or one behind it, as it is not
-    some_is : eqb (get_or o.columns.marks k 0) 1 ≡ false
-        → {late earlier : Bool} → any_marked (drop (k + 1) (take n o.columns.marks)) ≡ late → any_marked (take k o.columns.marks) ≡ earlier
-        → (earlier || late) ≡ some_marked (rows o)
-    some_is m l f =
-        let marks = o.columns.marks in
-        let enough : n ≤ length marks = omega (arith, fits) in
-        (λ i. sym f i || (sym (ap (λ (b : Bool). b || any_marked (drop (k + 1) (take n marks))) m ∙ l) i))
-        ∙ ap (λ (x : Bool). any_marked (take k marks) || x) (sym (ap any_marked (left marks n enough k below)))
-        ∙ sym (any_turn marks n enough 0 k (omega arith) (omega (arith, below)))
-        ∙ ap any_marked (sym w.fronts.marks)
-
     early : t < get_or o.columns.send_timestamps k 0 → arrival_step o.counts (arriving n t q o.columns) ≡ record_return o t q
     early g =
         ap (arrival_step o.counts) (sym (arrives_early n t q o.columns fits k refl h g))
@@ -148,32 +124,21 @@ module _ {o : Observer} (w : Well o) (q t : ℕ) where
           ap (arrival_step o.counts) (sym (arrives_again n t q o.columns fits k refl h g m))
           ∙ return_duplicate o w.accepted q t known (omega (arith, sent_is)) (mark_is ∙ eqb-true _ 1 m)
 
-      -- the row as it then is, and the counts by which other rows are marked
-      first : eqb (get_or o.columns.marks k 0) 1 ≡ false → (late earlier : Bool) → any_marked (drop (k + 1) (take n o.columns.marks)) ≡ late → any_marked (take k o.columns.marks) ≡ earlier
-          → step o (gives (observer_of (returned_at k t o.columns) (counts_by late earlier latency o.counts))) ≡ record_return o t q
-      unfolding counts_after
-      first m late earlier l f =
+      -- the row as it then is, and the counts by whether some row behind it is marked
+      first : eqb (get_or o.columns.marks k 0) 1 ≡ false → (late : Bool) → any_marked (drop (k + 1) (take n o.columns.marks)) ≡ late
+          → step o (gives (observer_of (returned_at k t o.columns) (out_of_order_if late o.counts))) ≡ record_return o t q
+      first m late l =
           let row : ℕ → ObserverCounts → Observer = λ i x. with_rows (set (rows o) i (returned t (row_at i (rows o)))) (with_counts x o) in
           ap (λ (x : Observer). step o (gives x))
-          (sym (returned_columns w k t (counts_by late earlier latency o.counts) (used_kept late earlier latency o.counts) below)
-          ∙ (λ i. row k (with_latency (some_is m l f i) (latency_is i) (out_of_order_if (sym (late_is ∙ l) i) o.counts)))
-          ∙ ap (λ (i : ℕ). row i (with_latency (some_marked (rows o)) (returned t (row_of q (rows o))).latency (out_of_order_if (ltb q (highest_marked (rows o))) o.counts))) (sym (place_is w q k at)))
+          (sym (returned_columns w k t (out_of_order_if late o.counts) (used_kept late o.counts) below)
+          ∙ ap (λ (b : Bool). row k (out_of_order_if b o.counts)) (sym (late_is ∙ l))
+          ∙ ap (λ (i : ℕ). row i (out_of_order_if (ltb q (highest_marked (rows o))) o.counts)) (sym (place_is w q k at)))
           ∙ return_first o w.accepted q t known (omega (arith, sent_is)) (λ x. eqb-false _ 1 m (sym mark_is ∙ x))
 
-      answered : {a : Arrival} → a ≡ first_return n k latency o.columns.marks
-          → arrival_step o.counts (record { answer = first_return n k latency o.columns.marks; columns = returned_at k t o.columns })
-          ≡ arrival_step o.counts (record { answer = a; columns = returned_at k t o.columns })
-      answered e = ap (λ (x : Arrival). arrival_step o.counts (record { answer = x; columns = returned_at k t o.columns })) (sym e)
-
-      first_is : eqb (get_or o.columns.marks k 0) 1 ≡ false → arrival_step o.counts (arriving n t q o.columns) ≡ record_return o t q
-      first_is m = ap (arrival_step o.counts) (sym (arrives_first n t q o.columns fits k refl h g m)) ∙ go _ _ refl refl
-        where
-          go : (late earlier : Bool) → any_marked (drop (k + 1) (take n o.columns.marks)) ≡ late → any_marked (take k o.columns.marks) ≡ earlier
-              → arrival_step o.counts (record { answer = first_return n k latency o.columns.marks; columns = returned_at k t o.columns }) ≡ record_return o t q
-          go true true l f = answered (first_late n k latency o.columns.marks l) ∙ first m true true l f
-          go true false l f = answered (first_late n k latency o.columns.marks l) ∙ first m true false l f
-          go false true l f = answered (first_in_order n k latency o.columns.marks l f) ∙ first m false true l f
-          go false false l f = answered (first_of_all n k latency o.columns.marks l f) ∙ first m false false l f
+      first_is : eqb (get_or o.columns.marks k 0) 1 ≡ false → (late : Bool) → any_marked (drop (k + 1) (take n o.columns.marks)) ≡ late
+          → arrival_step o.counts (arriving n t q o.columns) ≡ record_return o t q
+      first_is m true l = ap (arrival_step o.counts) (sym (arrives_late n t q o.columns fits k refl h g m l)) ∙ first m true l
+      first_is m false l = ap (arrival_step o.counts) (sym (arrives_in_order n t q o.columns fits k refl h g m l)) ∙ first m false l
 
   pub arrival_is_return : arrival_step o.counts (arriving n t q o.columns) ≡ record_return o t q
   arrival_is_return = go (holds q k (take n o.columns.sequences)) (ltb t (get_or o.columns.send_timestamps k 0)) (eqb (get_or o.columns.marks k 0) 1) refl refl refl
@@ -183,7 +148,7 @@ module _ {o : Observer} (w : Well o) (q t : ℕ) where
       go false reversed marked e f m = unknown e
       go true true marked e f m = early e (ltb-true _ _ f)
       go true false true e f m = duplicate e (ltb-false _ _ f) m
-      go true false false e f m = first_is e (ltb-false _ _ f) m
+      go true false false e f m = first_is e (ltb-false _ _ f) m _ refl
 
 -- the code's call, and its answer
 pub return_is : (o : Observer) (t q : ℕ) (a : Arrival) (r : Recorded) (c : Columns) → well_formed o ≡ true

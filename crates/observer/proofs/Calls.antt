@@ -2,19 +2,19 @@
 use Prim.Native.Nat.{ℕ, ◌≤◌, ◌<◌}
 use mathlib.Core.Path.{◌≡◌, sym, ap, ◌∙◌}
 use mathlib.Core.Bool.{Bool, true, false, not}
-use lib.Dec.{eqb}
+use lib.Dec.{eqb, ltb}
 use lib.ListN.{set}
 use borrow.Author.Tests.{eq-eqb, ne_eqb, lt-ltb, le-ltb}
 use Rattle.error.specs.Number.{malformed_observer, observer_full, sequence_was_not_sent, timestamp_reversed}
 use Rattle.error.specs.Outcome.{Outcome, refused, gives, first_cause}
 use Rattle.error.proofs.Causes.{refuses, passes, here, later, past, none}
 use Rattle.error.proofs.Tests.{and_left, and_right, and_both}
-use Rattle.observer.specs.Counts.{one_duplicate, one_error_indication}
+use Rattle.observer.specs.Counts.{one_duplicate, out_of_order_if, one_error_indication}
 use Rattle.observer.specs.Observer.{Observer, capacity, rows, sent_row, with_rows, with_counts}
 use Rattle.observer.specs.Judge.{well_formed, judged, step, refusing}
-use Rattle.observer.specs.Place.{place_of, was_sent, row_of}
+use Rattle.observer.specs.Place.{place_of, was_sent, row_of, highest_marked}
 use Rattle.observer.specs.Sending.{resent, entered, sending_causes, record_sent}
-use Rattle.observer.specs.Returning.{returned, return_causes, counts_after, after_return, record_return, record_error_indication}
+use Rattle.observer.specs.Returning.{returned, return_causes, after_return, record_return, record_error_indication}
 use Rattle.observer.proofs.Rows.{put_in}
 
 -- ---- 21
@@ -110,7 +110,7 @@ module _ (o : Observer) (w : well_formed o ≡ true) (q t : ℕ) where
           | true ↦ with_counts (one_duplicate o.counts) o
           | false ↦
               with_rows (set (rows o) (place_of q (rows o)) (returned t (row_of q (rows o))))
-              (with_counts (counts_after o q t) o)
+              (with_counts (out_of_order_if (ltb q (highest_marked (rows o))) o.counts) o)
         ]
 
     taken : (marked : Bool) → (row_of q (rows o)).send_timestamp_ns ≤ t → eqb (row_of q (rows o)).mark 1 ≡ marked
@@ -130,7 +130,7 @@ module _ (o : Observer) (w : well_formed o ≡ true) (q t : ℕ) where
         → step o
         (gives
         (with_rows (set (rows o) (place_of q (rows o)) (returned t (row_of q (rows o))))
-        (with_counts (counts_after o q t) o)))
+        (with_counts (out_of_order_if (ltb q (highest_marked (rows o))) o.counts) o)))
         ≡ record_return o t q
     return_first h m = taken false h (ne_eqb _ _ m)
 

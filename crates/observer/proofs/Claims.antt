@@ -10,14 +10,14 @@ use lib.Seq.{drop_at}
 use borrow.Author.Tests.{eqb-true, eqb-false, eq-eqb, lt-ltb, le-leb, ltb-true, ltb-false}
 use Rattle.error.specs.Outcome.{Outcome, gives, Cause, ◌⇒◌, first_cause}
 use Rattle.error.proofs.Tests.{and_both}
-use Rattle.observer.specs.Counts.{with_used, one_duplicate, one_error_indication}
+use Rattle.observer.specs.Counts.{with_used, one_duplicate, out_of_order_if, one_error_indication}
 use Rattle.observer.specs.Observer.{Row, Observer, capacity, rows, row_at, sequences_of, column, with_rows, with_counts}
 use Rattle.columns.specs.Columns.{rising}
 use Rattle.observer.specs.Judge.{row_known, rows_known, well_formed, judged, Step, step}
 use Rattle.columns.specs.Place.{holds}
-use Rattle.observer.specs.Place.{place_of, was_sent, row_of}
+use Rattle.observer.specs.Place.{place_of, was_sent, row_of, highest_marked}
 use Rattle.observer.specs.Sending.{resent, entered, sending_causes, record_sent}
-use Rattle.observer.specs.Returning.{returned, return_causes, counts_after, after_return, record_return, record_error_indication}
+use Rattle.observer.specs.Returning.{returned, return_causes, after_return, record_return, record_error_indication}
 use Rattle.observer.specs.declared.ObserverCounts.{ObserverCounts}
 use Rattle.observer.specs.Claims.{PutBack, MalformedIs, FreshIsWell, Call, sending, returning, indicating, record_call, CallsKeepWell, SameFrom, RestKept, SearchFinds, FullOnlyWhenFull, FullAtRow2049, SentAgain, BelowHighestMarked}
 use Rattle.columns.proofs.Search.{both_left, both_right, rising_at, place_at, held_within}
@@ -136,7 +136,7 @@ module _ (o : Observer) (w : well_formed o ≡ true) where
           kept (return_duplicate o w q t e (ltb-false _ _ f) (eqb-true _ _ g)) (counts_well (one_duplicate o.counts) o refl ∙ w)
       go true false false e f g =
           kept (return_first o w q t e (ltb-false _ _ f) (eqb-false _ _ g))
-          (set_well o (counts_after o q t) (place_of q (rows o)) (returned t (row_of q (rows o))) rows_well_at count refl refl)
+          (set_well o (out_of_order_if (ltb q (highest_marked (rows o))) o.counts) (place_of q (rows o)) (returned t (row_of q (rows o))) rows_well_at count refl refl)
 
   pub keeps : (call : Call) → well_formed (record_call o call).observer ≡ true
   keeps (sending q t) = keeps_sent q t
@@ -190,7 +190,7 @@ module _ (o : Observer) where
             | true ↦ with_counts (one_duplicate o.counts) o
             | false ↦
                 with_rows (set (rows o) (place_of q (rows o)) (returned t (row_of q (rows o))))
-                (with_counts (counts_after o q t) o)
+                (with_counts (out_of_order_if (ltb q (highest_marked (rows o))) o.counts) o)
           ])
       go true = counted (one_duplicate o.counts)
       go false = written _ _

@@ -8,5 +8,3 @@ pub mod Arriving
 pub mod Keeping
 pub mod Claims
 pub mod Arrivals
-pub mod Jitter
-pub mod Reached

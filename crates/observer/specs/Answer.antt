@@ -1,5 +1,5 @@
 -- What the code's values mean: the observer that lent columns and counts form, and each case of an answer.
-use Rattle.std.specs.Prelude.{ℕ, ◌≡◌, true, false}
+use Rattle.std.specs.Prelude.{ℕ, ◌≡◌}
 use Rattle.error.specs.Number.{malformed_observer, observer_full, sequence_was_not_sent, timestamp_reversed}
 use Rattle.error.specs.Outcome.{Outcome, refused, gives}
 use Rattle.rows.specs.Columns.{Columns, Sheet}
@@ -7,7 +7,7 @@ use Rattle.rows.specs.declared.Entry.{Entry}
 use Rattle.rows.specs.declared.Entry.TheVariants as entry
 use Rattle.rows.specs.declared.Arrival.{Arrival}
 use Rattle.rows.specs.declared.Arrival.TheVariants as arrival
-use Rattle.observer.specs.Counts.{with_used, one_duplicate, one_out_of_order, with_latency}
+use Rattle.observer.specs.Counts.{with_used, one_duplicate, one_out_of_order}
 use Rattle.observer.specs.Observer.{Observer}
 use Rattle.observer.specs.Judge.{Step}
 use Rattle.observer.specs.declared.ObserverCounts.{ObserverCounts}
@@ -43,9 +43,8 @@ after_entry c entry.Malformed = refusal malformed_observer c
 
 -- The answer to a return, and the counts after it, by what became of the sequence.
 abbrev pub after_arrival : ObserverCounts → Arrival → Recorded
-after_arrival c (arrival.First latency) = acceptance (with_latency false latency c)
-after_arrival c (arrival.InOrder latency) = acceptance (with_latency true latency c)
-after_arrival c (arrival.OutOfOrder latency) = acceptance (with_latency true latency (one_out_of_order c))
+after_arrival c arrival.InOrder = acceptance c
+after_arrival c arrival.OutOfOrder = acceptance (one_out_of_order c)
 after_arrival c arrival.Duplicate = acceptance (one_duplicate c)
 after_arrival c arrival.NotSent = refusal sequence_was_not_sent c
 after_arrival c arrival.Reversed = refusal timestamp_reversed c

@@ -9,4 +9,3 @@ pub mod InTurn
 pub mod Answer
 pub mod Claims
 pub mod Arrivals
-pub mod Jitter

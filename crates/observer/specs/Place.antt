@@ -1,8 +1,7 @@
--- Where a sequence stands, whether a row is marked, and what "below the highest marked sequence" means.
+-- Where a sequence stands, and what "below the highest marked sequence" means.
 use Rattle.std.specs.Prelude.{ℕ, max, List, [], ◌∷◌, Bool, true, false, ◌&&◌, ◌||◌, ltb, eqb}
-use Rattle.columns.specs.Columns.{any_marked}
 use Rattle.columns.specs.Place.{place, holds}
-use Rattle.observer.specs.Observer.{Row, row_at, sequences_of, marks_of}
+use Rattle.observer.specs.Observer.{Row, row_at, sequences_of}
 
 -- where a sequence stands: how many rows stand before it
 abbrev pub place_of : ℕ → List Row → ℕ
@@ -15,10 +14,6 @@ was_sent q rs = holds q (place_of q rs) (sequences_of rs)
 -- the row of a sequence that is on the sheet
 abbrev pub row_of : ℕ → List Row → Row
 row_of q rs = row_at (place_of q rs) rs
-
--- some row is marked
-abbrev pub some_marked : List Row → Bool
-some_marked rs = any_marked (marks_of rs)
 
 -- "the highest marked sequence"; 0, which no sequence is below, if none is marked
 abbrev pub highest_marked : List Row → ℕ

@@ -3,11 +3,10 @@
 use Rattle.std.specs.Prelude.{ℕ, ◌-◌, List, [], ◌∷◌, true, false, not, eqb, ltb, set}
 use Rattle.error.specs.Number.{sequence_was_not_sent, timestamp_reversed}
 use Rattle.error.specs.Outcome.{gives, Cause, ◌⇒◌, first_cause}
-use Rattle.observer.specs.Counts.{one_duplicate, out_of_order_if, one_error_indication, with_latency}
+use Rattle.observer.specs.Counts.{one_duplicate, out_of_order_if, one_error_indication}
 use Rattle.observer.specs.Observer.{Row, Observer, rows, with_rows, with_counts}
 use Rattle.observer.specs.Judge.{judged, Step, step}
-use Rattle.observer.specs.Place.{place_of, was_sent, row_of, some_marked, highest_marked}
-use Rattle.observer.specs.declared.ObserverCounts.{ObserverCounts}
+use Rattle.observer.specs.Place.{place_of, was_sent, row_of, highest_marked}
 
 -- A row at its first return: "mark 1 and as latency its time less the send time" (document 01, "The tally"), and that
 -- time as arrival time (document 02, job 8).
@@ -27,14 +26,6 @@ return_causes o q t =
     ∷ (ltb t (row_of q (rows o)).send_timestamp_ns ⇒ timestamp_reversed)
     ∷ []
 
--- The counts after a return that marks its row: "out of order (below the highest marked sequence)", and the jitter's
--- state, over "first returns, in order of arrival" (document 02, job 2). A latency of 0 is a latency, so the first
--- return is told by the rows: none of them was marked before.
-unfoldable pub counts_after : Observer → ℕ → ℕ → ObserverCounts
-counts_after o q t =
-    with_latency (some_marked (rows o)) (returned t (row_of q (rows o))).latency
-    (out_of_order_if (ltb q (highest_marked (rows o))) o.counts)
-
 -- "then duplicate, then out of order (below the highest marked sequence). A duplicate changes its counter only."
 unfoldable pub after_return : Observer → ℕ → ℕ → Observer
 after_return o q t =
@@ -42,7 +33,7 @@ after_return o q t =
       | true ↦ with_counts (one_duplicate o.counts) o
       | false ↦
           with_rows (set (rows o) (place_of q (rows o)) (returned t (row_of q (rows o))))
-          (with_counts (counts_after o q t) o)
+          (with_counts (out_of_order_if (ltb q (highest_marked (rows o))) o.counts) o)
     ]
 
 -- This sequence returns at this time. "A return is judged 21, .. 23, 24, then duplicate, then out of order".

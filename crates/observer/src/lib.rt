@@ -3,21 +3,18 @@
 // beside the answer. Each call judges the columns first (21); the crate `rows` then changes the row. specs/ defines
 // what a call answers and leaves, and its contract is that one equation (`records`): answer, counts and every column at
 // exit, on refusals too. The crates above have the calls for returns and for whole plans.
-ghost use Rattle.std.specs.Prelude.{◌≡◌, true, false};
+ghost use Rattle.std.specs.Prelude.{◌≡◌};
 ghost use Rattle.error.specs.Outcome.{outcome_number};
 ghost use Rattle.rows.specs.Columns.{sheet};
-ghost use Rattle.observer.specs.Counts.{one_duplicate, one_out_of_order, one_error_indication, with_used, with_latency};
+ghost use Rattle.observer.specs.Counts.{one_duplicate, one_out_of_order, one_error_indication, with_used};
 ghost use Rattle.observer.specs.Judge.{well_formed};
 ghost use Rattle.observer.specs.Sending.{record_sent};
 ghost use Rattle.observer.specs.Claims.{PutBack, MalformedIs, FreshIsWell, CallsKeepWell, RestKept, SearchFinds};
 ghost use Rattle.observer.specs.Claims.{FullOnlyWhenFull, FullAtRow2049, SentAgain, BelowHighestMarked};
 ghost use Rattle.observer.specs.Arrivals.{ArrivalKept, ArrivalKeptForGood, FirstReturnArrives, ResendParts};
-ghost use Rattle.observer.specs.Jitter.{JitterOfReturns, JitterBounded, JitterKept, FirstIsByRows, AnyLatencies};
-ghost use Rattle.observer.specs.Jitter.{ReachedOnSheets};
 ghost use Rattle.observer.specs.Answer.{recording_means, acceptance, refusal, after_entry, after_arrival, lent};
 ghost use Rattle.observer.specs.Answer.{records};
 
-use jitter::JitterState;
 use rows::{Arrival, Entry};
 
 // What stands beside the columns. Fresh: all 0. The used count is last, and the counts are first in each answer: copies
@@ -29,8 +26,6 @@ pub struct ObserverCounts {
     pub duplicate_packets: u64,
     // First returns of a sequence below one that had returned before.
     pub out_of_order_packets: u64,
-    // 16 times the jitter, and the latency of the return that marked a row last.
-    pub jitter: JitterState,
     // Error Indications on the return path.
     pub gtpu_error_indications: u64,
     // Rows in use, from the front.
@@ -63,26 +58,6 @@ impl ObserverCounts {
         ensures { result ≡ one_error_indication self }
     {
         self.gtpu_error_indications = counter::one_more(self.gtpu_error_indications);
-        self
-    }
-
-    // After the first return of a row, with this latency: the first of all.
-    fn with_first_latency(mut self, latency_ns: u64) -> Self
-        ensures { result ≡ with_latency false latency_ns self }
-    {
-        let state = self.jitter;
-        let next = state.after_first(latency_ns);
-        self.jitter = next;
-        self
-    }
-
-    // The same, where other rows had returned before.
-    fn with_later_latency(mut self, latency_ns: u64) -> Self
-        ensures { result ≡ with_latency true latency_ns self }
-    {
-        let state = self.jitter;
-        let next = state.after_later(latency_ns);
-        self.jitter = next;
         self
     }
 
@@ -122,12 +97,8 @@ impl ObserverCounts {
         ensures { result ≡ after_arrival self arrival }
     {
         match arrival {
-            Arrival::First(latency) => self.with_first_latency(latency).accepted(),
-            Arrival::InOrder(latency) => self.with_later_latency(latency).accepted(),
-            Arrival::OutOfOrder(latency) => self
-                .one_out_of_order()
-                .with_later_latency(latency)
-                .accepted(),
+            Arrival::InOrder => self.accepted(),
+            Arrival::OutOfOrder => self.one_out_of_order().accepted(),
             Arrival::Duplicate => self.one_duplicate().accepted(),
             Arrival::NotSent => self.refused(error::SEQUENCE_WAS_NOT_SENT),
             Arrival::Reversed => self.refused(error::TIMESTAMP_REVERSED),
@@ -246,17 +217,6 @@ pub fn calls_keep_well_formed()
 // send time.
 pub fn arrival_is_kept()
     ensures { ArrivalKept × ArrivalKeptForGood × FirstReturnArrives × ResendParts }
-{}
-
-// Carries that the jitter's state is RFC 3550's over the returns that mark a row, in their order, that from fresh it
-// never passes 2^63, which return is the first, and that every other call leaves the state.
-pub fn jitter_is_of_first_returns()
-    ensures { JitterOfReturns × JitterBounded × JitterKept × FirstIsByRows }
-{}
-
-// Carries that every list of latencies can come to a sheet, and so how near to 2^63 the jitter's state gets.
-pub fn any_latencies_come()
-    ensures { AnyLatencies × ReachedOnSheets }
 {}
 
 // Carries that no call writes past the rows that it leaves in use.

@@ -45,19 +45,6 @@ fn fate(before: ObserverCounts, recorded: MessageRecorded) -> u8 {
     }
 }
 
-// Notes what became of a return of a probe, and answers it.
-fn note_fate(
-    probe: u64,
-    before: ObserverCounts,
-    recorded: MessageRecorded,
-    fates: &mut [u8],
-    refusals: &mut [u64],
-) -> u8 {
-    let became = fate(before, recorded);
-    probe_fate::note(fates, refusals, rehearsal_path::row(probe), became);
-    became
-}
-
 // How many bytes the reflector sends.
 fn sent_length(action: ReflectorAction) -> usize {
     match action {
@@ -171,6 +158,7 @@ pub fn deliver(
         message,
         first_bytes(&out, length),
     );
-    let became = note_fate(probe, before, recorded, fates, refusals);
+    let became = fate(before, recorded);
+    probe_fate::note(fates, refusals, rehearsal_path::row(probe), became);
     after(run, probe, became, handled, recorded)
 }

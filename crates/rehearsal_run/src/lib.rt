@@ -5,7 +5,6 @@ ghost use Rattle.std.specs.Prelude.{◌≡◌, length};
 
 use evidence::PacketContinuityBudget;
 use forecast::PlanForecast;
-use jitter::JitterState;
 use measurement::Written;
 use observer::{ObserverCounts, Recorded, Recording};
 use plan::TrafficPlan;
@@ -36,10 +35,6 @@ fn fresh() -> ObserverCounts {
     ObserverCounts {
         duplicate_packets: 0,
         out_of_order_packets: 0,
-        jitter: JitterState {
-            scaled_jitter_ns: 0,
-            earlier_latency_ns: 0,
-        },
         gtpu_error_indications: 0,
         used: 0,
     }

@@ -94,7 +94,7 @@ fn replay_and_print(s: &[u8], counts: &mut [u64]) {
     text::print(b"\n");
 }
 
-// Room for the data, and for a quarter as much again.
+// Room for the data, and for half as much again.
 fn room() -> [u8; 1048576]
     ensures { 1048576 ≡ length result }
 {

@@ -1,11 +1,10 @@
 // The calls on a run sheet, each on a record of the data. A record has how much of each column is lent (5 bytes) and
-// the sheet before the call: the counts (41 bytes) and the columns, of 6 rows (198). A call that may change it then has
+// the sheet before the call: the counts (25 bytes) and the columns, of 6 rows (198). A call that may change it then has
 // the counts and the columns after the call; what the datagram was and its message's type (2 bytes, else 0); two
 // numbers (16); and a payload. Every cell is compared, lent or not.
 ghost use Rattle.std.specs.Prelude.{◌≤◌, ◌≡◌, length};
 
 use evidence::PacketContinuityBudget;
-use jitter::JitterState;
 use observer::ObserverCounts;
 use testkit_sheet::{TestkitContinuityReport, TestkitDatagramRecorded, TestkitRecorded};
 
@@ -20,33 +19,33 @@ pub const REPORT: u8 = 9;
 
 const COUNTS: usize = 5;
 
-const SEQUENCES: usize = 46;
+const SEQUENCES: usize = 30;
 
-const SEND_TIMESTAMPS: usize = 94;
+const SEND_TIMESTAMPS: usize = 78;
 
-const LATENCIES: usize = 142;
+const LATENCIES: usize = 126;
 
-const MARKS: usize = 190;
+const MARKS: usize = 174;
 
-const ARRIVAL_TIMESTAMPS: usize = 196;
+const ARRIVAL_TIMESTAMPS: usize = 180;
 
-const COUNTS_AFTER: usize = 244;
+const COUNTS_AFTER: usize = 228;
 
-const COLUMNS_AFTER: usize = 285;
+const COLUMNS_AFTER: usize = 253;
 
-const OUTCOME: usize = 483;
+const OUTCOME: usize = 451;
 
-const MESSAGE_TYPE: usize = 484;
+const MESSAGE_TYPE: usize = 452;
 
-const FIRST: usize = 485;
+const FIRST: usize = 453;
 
-const SECOND: usize = 493;
+const SECOND: usize = 461;
 
-const PAYLOAD: usize = 501;
+const PAYLOAD: usize = 469;
 
-const QUESTION: usize = 244;
+const QUESTION: usize = 228;
 
-const REPORT_AFTER: usize = 284;
+const REPORT_AFTER: usize = 268;
 
 // Whether no more of any column is to be lent than its 6 cells.
 fn lends_what_is_there(s: &[u8]) -> bool {
@@ -95,11 +94,7 @@ fn counts(s: &[u8]) -> ObserverCounts {
     ObserverCounts {
         duplicate_packets: replay_data::number(s, 1),
         out_of_order_packets: replay_data::number(s, 9),
-        jitter: JitterState {
-            scaled_jitter_ns: replay_data::number(s, 17),
-            earlier_latency_ns: replay_data::number(s, 25),
-        },
-        gtpu_error_indications: replay_data::number(s, 33),
+        gtpu_error_indications: replay_data::number(s, 17),
         used: replay_data::byte(s, 0) as usize,
     }
 }
@@ -122,12 +117,9 @@ fn same_columns(
 }
 
 fn same_counts(counts: ObserverCounts, due: &[u8]) -> bool {
-    let jitter = counts.jitter;
     let numbers = [
         counts.duplicate_packets,
         counts.out_of_order_packets,
-        jitter.scaled_jitter_ns,
-        jitter.earlier_latency_ns,
         counts.gtpu_error_indications,
     ];
     counts.used == replay_data::byte(due, 0) as usize
@@ -171,7 +163,6 @@ fn same_figures(r: TestkitContinuityReport, due: &[u8]) -> bool {
         r.min_ns,
         r.max_ns,
         r.avg_ns,
-        r.jitter_ns,
     ];
     replay_data::same_numbers(&numbers, due)
 }
@@ -196,13 +187,13 @@ fn same_question(r: TestkitContinuityReport, question: &[u8]) -> bool {
     replay_data::same_numbers(&numbers, question)
 }
 
-// After the columns: the window's start and end and the budget (40 bytes), and the report (99).
+// After the columns: the window's start and end and the budget (40 bytes), and the report (91).
 fn same_report(r: TestkitContinuityReport, number: u8, s: &[u8]) -> bool {
     let due = replay_data::rest(s, REPORT_AFTER);
     replay_data::same_number(r.number, number)
         && same_question(r, replay_data::rest(s, QUESTION))
         && same_figures(r, due)
-        && same_flags(r, replay_data::rest(due, 96))
+        && same_flags(r, replay_data::rest(due, 88))
 }
 
 fn budget(question: &[u8]) -> PacketContinuityBudget {

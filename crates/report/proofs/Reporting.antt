@@ -9,7 +9,6 @@ use lib.ListN.{length, take, length-take}
 use Rattle.error.specs.Number.{malformed_observer}
 use Rattle.error.specs.Outcome.{refused, gives}
 use Rattle.evidence.specs.Latency.{latency_means, latency_for}
-use Rattle.jitter.specs.Jitter.{jitter_shown}
 use Rattle.evidence.specs.declared.Latency.{Latency}
 use Rattle.evidence.specs.declared.Latency.TheVariants.{Absent, Summary}
 use Rattle.evidence.specs.declared.PacketContinuityBudget.{PacketContinuityBudget}
@@ -72,7 +71,6 @@ module _ {o : Observer} (w : Well o) where
         max_consecutive_lost_packets = run;
         max_gap_duration_ns = outage;
         latency = latency;
-        jitter_ns = jitter_shown o.counts.jitter;
         budget = budget;
         forwarding_proven = ltb 0 n;
         packet_continuity_proven = within_budget budget (o.counts.used - n) run outage o.counts.gtpu_error_indications;

@@ -7,7 +7,6 @@ use Rattle.evidence.specs.Latency.{latency_for}
 use Rattle.evidence.specs.declared.LatencySummary.{LatencySummary}
 use Rattle.evidence.specs.declared.PacketContinuityBudget.{PacketContinuityBudget}
 use Rattle.evidence.specs.declared.PacketContinuityReport.{PacketContinuityReport}
-use Rattle.jitter.specs.Jitter.{jitter_shown}
 use Rattle.observer.specs.Observer.{Row, Observer, rows}
 use Rattle.observer.specs.Judge.{judged}
 use Rattle.observer.specs.declared.ObserverCounts.{ObserverCounts}
@@ -86,8 +85,7 @@ within_budget budget lost run outage indications =
     && (leb outage budget.outage_budget_ns && eqb indications 0))
 
 -- The report on these rows and counts, for a window and a budget. "Lost is sent less returned." "Longest count and
--- longest duration may be different runs." "Forwarding: returned above 0." "The report shows the state divided by 16,
--- rounded down" (document 02, job 2).
+-- longest duration may be different runs." "Forwarding: returned above 0."
 unfoldable pub report_of : List Row → ObserverCounts → ℕ → ℕ → PacketContinuityBudget → PacketContinuityReport
 report_of rs counts window_start window_end budget =
     let sent : ℕ = length rs in
@@ -106,7 +104,6 @@ report_of rs counts window_start window_end budget =
       max_consecutive_lost_packets = run;
       max_gap_duration_ns = outage;
       latency = latency_for (latency_of (latencies_of rs));
-      jitter_ns = jitter_shown counts.jitter;
       budget = budget;
       forwarding_proven = ltb 0 returned;
       packet_continuity_proven = within_budget budget (sent - returned) run outage counts.gtpu_error_indications;

@@ -226,7 +226,6 @@ pub fn report(
     let received = gathered.count;
     let lost = sent - received;
     let worst = longest_runs(send_timestamps, marks, used, window_end_ns);
-    let jitter = counts.jitter;
     Reported::Given(PacketContinuityReport {
         window_start_ns,
         window_end_ns,
@@ -239,7 +238,6 @@ pub fn report(
         max_consecutive_lost_packets: worst.packets,
         max_gap_duration_ns: worst.duration,
         latency: summary(gathered),
-        jitter_ns: jitter.shown_ns(),
         budget,
         forwarding_proven: 0 < received,
         packet_continuity_proven: within_budget(budget, lost, worst, counts.gtpu_error_indications),

@@ -59,7 +59,6 @@ pub fn print_report(r: PacketContinuityReport) {
     );
     text::print_count(b",\n  \"max_gap_duration_ns\": ", r.max_gap_duration_ns);
     print_latency(latency);
-    text::print_count(b",\n  \"jitter_ns\": ", r.jitter_ns);
     print_flag(b",\n  \"forwarding_proven\": ", r.forwarding_proven);
     print_flag(
         b",\n  \"packet_continuity_proven\": ",

@@ -10,23 +10,19 @@ pub fn print_budget(budget: PacketContinuityBudget) {
     text::print(b"\n");
 }
 
-// The jitter stands before the mean: voice planners read it first. Two numbers, however large, fit in a line.
-fn print_summary(latency: LatencySummary, jitter_ns: u64) {
+fn print_summary(latency: LatencySummary) {
     text::print_milliseconds(latency.min_ns);
     text::print(b" to ");
     text::print_milliseconds(latency.max_ns);
-    text::print(b"\n           jitter ");
-    text::print_milliseconds(jitter_ns);
     text::print(b", mean ");
     text::print_milliseconds(latency.avg_ns);
 }
 
-// Where nothing returned there is no jitter either.
-fn print_latency(latency: Latency, jitter_ns: u64) {
+fn print_latency(latency: Latency) {
     text::print(b"latency:   ");
     match latency {
         Latency::Absent => text::print(b"none, nothing returned"),
-        Latency::Summary(summary) => print_summary(summary, jitter_ns),
+        Latency::Summary(summary) => print_summary(summary),
     }
     text::print(b"\n");
 }
@@ -43,7 +39,7 @@ pub fn print_report(r: PacketContinuityReport) {
     text::print_milliseconds(r.max_gap_duration_ns);
     text::print_count(b", most lost in a row ", r.max_consecutive_lost_packets);
     text::print(b"\n");
-    print_latency(latency, r.jitter_ns);
+    print_latency(latency);
 }
 
 // A number of probes against what is allowed.

@@ -2,7 +2,6 @@
 use Prim.Native.Nat.{ℕ, ◌+◌, ◌-◌, ◌≤◌, ◌<◌}
 use mathlib.Core.Path.{◌≡◌, refl, sym, ap, ◌∙◌}
 use mathlib.Core.Bool.{Bool, true, false}
-use mathlib.Core.List.{List}
 use lib.Dec.{leb, ltb, eqb}
 use lib.ListN.{get_or, take, drop}
 use borrow.Author.Tests.{le-leb, lt-leb, lt-ltb, le-ltb, eq-eqb, ne_eqb}
@@ -10,7 +9,7 @@ use Rattle.columns.specs.Columns.{any_marked}
 use Rattle.columns.specs.Place.{holds, found}
 use Rattle.rows.specs.Columns.{Columns, column_lengths, capacity_of, Left}
 use Rattle.rows.specs.Entering.{sent_again, sent_new, entering_at, entering}
-use Rattle.rows.specs.Arriving.{returned_at, first_return, arriving_at, arriving_from, arriving}
+use Rattle.rows.specs.Arriving.{returned_at, arriving_at, arriving_from, arriving}
 use Rattle.rows.specs.declared.Entry.{Entry}
 use Rattle.rows.specs.declared.Entry.TheVariants as entry
 use Rattle.rows.specs.declared.Arrival.{Arrival}
@@ -96,48 +95,33 @@ module _ (n t q : ℕ) (c : Columns) where
 
     -- it has row k
     module _ (has : holds q k (take n c.sequences) ≡ true) where
-      abbrev arriving_at_if : Bool → Bool → Left Arrival
-      arriving_at_if early marked =
+      abbrev arriving_at_if : Bool → Bool → Bool → Left Arrival
+      arriving_at_if early marked late =
           elim early [
             | true ↦ record { answer = arrival.Reversed; columns = c }
             | false ↦
                 elim marked [
                   | true ↦ record { answer = arrival.Duplicate; columns = c }
-                  | false ↦ record { answer = first_return n k (t - get_or c.send_timestamps k 0) c.marks; columns = returned_at k t c }
+                  | false ↦ record { answer = elim late [ true ↦ arrival.OutOfOrder | false ↦ arrival.InOrder ]; columns = returned_at k t c }
                 ]
           ]
 
-      arriving_at_lem : (early marked : Bool) → ltb t (get_or c.send_timestamps k 0) ≡ early → eqb (get_or c.marks k 0) 1 ≡ marked
-          → arriving_at_if early marked ≡ arriving n t q c
+      arriving_at_lem : (early marked late : Bool) → ltb t (get_or c.send_timestamps k 0) ≡ early → eqb (get_or c.marks k 0) 1 ≡ marked
+          → any_marked (drop (k + 1) (take n c.marks)) ≡ late → arriving_at_if early marked late ≡ arriving n t q c
       unfolding arriving_at
-      arriving_at_lem early marked e f = sym (λ i. arriving_at_if (e i) (f i)) ∙ arriving_from_lem true has
+      arriving_at_lem early marked late e f g = sym (λ i. arriving_at_if (e i) (f i) (g i)) ∙ arriving_from_lem true has
 
       pub arrives_early : t < get_or c.send_timestamps k 0 → record { answer = arrival.Reversed; columns = c } ≡ arriving n t q c
-      arrives_early h = arriving_at_lem true (eqb (get_or c.marks k 0) 1) (lt-ltb t _ h) refl
+      arrives_early h = arriving_at_lem true (eqb (get_or c.marks k 0) 1) _ (lt-ltb t _ h) refl refl
 
       module _ (h : get_or c.send_timestamps k 0 ≤ t) where
         pub arrives_again : eqb (get_or c.marks k 0) 1 ≡ true → record { answer = arrival.Duplicate; columns = c } ≡ arriving n t q c
-        arrives_again e = arriving_at_lem false true (le-ltb t _ h) e
+        arrives_again e = arriving_at_lem false true _ (le-ltb t _ h) e refl
 
-        pub arrives_first : eqb (get_or c.marks k 0) 1 ≡ false
-            → record { answer = first_return n k (t - get_or c.send_timestamps k 0) c.marks; columns = returned_at k t c } ≡ arriving n t q c
-        arrives_first e = arriving_at_lem false false (le-ltb t _ h) e
+        pub arrives_late : eqb (get_or c.marks k 0) 1 ≡ false → any_marked (drop (k + 1) (take n c.marks)) ≡ true
+            → record { answer = arrival.OutOfOrder; columns = returned_at k t c } ≡ arriving n t q c
+        arrives_late e l = arriving_at_lem false false true (le-ltb t _ h) e l
 
--- ---- the first return of a row
-
-module _ (n k latency : ℕ) (marks : List ℕ) where
-  first_return_lem : (late earlier : Bool) → any_marked (drop (k + 1) (take n marks)) ≡ late → any_marked (take k marks) ≡ earlier
-      → elim late [ true ↦ arrival.OutOfOrder latency | false ↦ elim earlier [ true ↦ arrival.InOrder latency | false ↦ arrival.First latency ] ]
-      ≡ first_return n k latency marks
-  unfolding first_return
-  first_return_lem late earlier e f =
-      sym (λ i. elim (e i) [ true ↦ arrival.OutOfOrder latency | false ↦ elim (f i) [ true ↦ arrival.InOrder latency | false ↦ arrival.First latency ] ])
-
-  pub first_late : any_marked (drop (k + 1) (take n marks)) ≡ true → arrival.OutOfOrder latency ≡ first_return n k latency marks
-  first_late e = first_return_lem true (any_marked (take k marks)) e refl
-
-  pub first_in_order : any_marked (drop (k + 1) (take n marks)) ≡ false → any_marked (take k marks) ≡ true → arrival.InOrder latency ≡ first_return n k latency marks
-  first_in_order e f = first_return_lem false true e f
-
-  pub first_of_all : any_marked (drop (k + 1) (take n marks)) ≡ false → any_marked (take k marks) ≡ false → arrival.First latency ≡ first_return n k latency marks
-  first_of_all e f = first_return_lem false false e f
+        pub arrives_in_order : eqb (get_or c.marks k 0) 1 ≡ false → any_marked (drop (k + 1) (take n c.marks)) ≡ false
+            → record { answer = arrival.InOrder; columns = returned_at k t c } ≡ arriving n t q c
+        arrives_in_order e l = arriving_at_lem false false false (le-ltb t _ h) e l

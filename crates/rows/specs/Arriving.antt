@@ -1,12 +1,11 @@
 -- A sequence returns; n rows of the columns are in use. Where 21 does not refuse, this is document 01's return, as
 -- observer proves (specs/Returning.antt).
-use Rattle.std.specs.Prelude.{ℕ, ◌+◌, ◌-◌, List, true, false, leb, ltb, eqb, get_or, take, drop, set}
+use Rattle.std.specs.Prelude.{ℕ, ◌+◌, ◌-◌, true, false, leb, ltb, eqb, get_or, take, drop, set}
 use Rattle.columns.specs.Columns.{any_marked}
 use Rattle.columns.specs.Place.{holds, found}
 use Rattle.rows.specs.Columns.{Columns, column_lengths, capacity_of, Left}
 use Rattle.rows.specs.declared.Arrival.{Arrival}
-use Rattle.rows.specs.declared.Arrival.TheVariants.{First, InOrder, OutOfOrder}
-use Rattle.rows.specs.declared.Arrival.TheVariants.{Duplicate, NotSent, Reversed, Malformed}
+use Rattle.rows.specs.declared.Arrival.TheVariants.{InOrder, OutOfOrder, Duplicate, NotSent, Reversed, Malformed}
 
 -- Row k returns at this time: "mark 1 and as latency its time less the send time" (document 01, "The tally"), and "the
 -- return time of the first accepted return" (document 02, job 8).
@@ -19,16 +18,6 @@ returned_at k t c = record {
   arrival_timestamps = set c.arrival_timestamps k t;
 }
 
--- What the first return of row k is, by the marks before it: out of order if a later row had returned; the first of all
--- if no other row had ("The first return only sets the earlier latency", document 02, job 2). Its latency stands
--- beside it.
-unfoldable pub first_return : ℕ → ℕ → ℕ → List ℕ → Arrival
-first_return n k latency marks =
-    elim (any_marked (drop (k + 1) (take n marks))) [
-      | true ↦ OutOfOrder latency
-      | false ↦ elim (any_marked (take k marks)) [ true ↦ InOrder latency | false ↦ First latency ]
-    ]
-
 -- The sequence is that of row k.
 unfoldable pub arriving_at : ℕ → ℕ → ℕ → Columns → Left Arrival
 arriving_at n k t c =
@@ -38,7 +27,7 @@ arriving_at n k t c =
           elim (eqb (get_or c.marks k 0) 1) [
             | true ↦ record { answer = Duplicate; columns = c }
             | false ↦ record {
-              answer = first_return n k (t - get_or c.send_timestamps k 0) c.marks;
+              answer = elim (any_marked (drop (k + 1) (take n c.marks))) [ true ↦ OutOfOrder | false ↦ InOrder ];
               columns = returned_at k t c;
             }
           ]

@@ -14,7 +14,7 @@ use Rattle.observer.specs.Judge.{well_formed, Step, step, refusing, after_readin
 use Rattle.observer.specs.Observer.{Row, Observer, capacity, rows, with_rows, with_counts, sent_row}
 use Rattle.observer.specs.Place.{place_of, was_sent, row_of, highest_marked}
 use Rattle.observer.specs.Sending.{resent, record_sent}
-use Rattle.observer.specs.Returning.{returned, counts_after, record_return, record_error_indication}
+use Rattle.observer.specs.Returning.{returned, record_return, record_error_indication}
 use Rattle.observer.proofs.Calls.{sent_again_lem, sent_full, sent_new_lem, refusing_well, return_unknown, return_early, return_duplicate, return_first, indication_counted, judged_well}
 use Rattle.observer.proofs.Claims.{fresh_is_well, calls_keep_well}
 use Rattle.observer.proofs.Keeping.{well_rows}
@@ -135,27 +135,14 @@ pub record AsStep (o : Observer) (x : Recorded (Unit {0})) (s : Step) : Type 0 w
   pub same : Same x.observer s.observer
   pub room : capacity s.observer ≡ capacity o
 
--- the counts after a first return keep the other counters
-module _ (o : Observer) (q t : ℕ) where
-  duplicates_kept : o.counts.duplicate_packets ≡ (counts_after o q t).duplicate_packets
-  unfolding counts_after
-  duplicates_kept = go (ltb q (highest_marked (rows o)))
-    where
-      go : (b : Bool) → o.counts.duplicate_packets ≡ (out_of_order_if b o.counts).duplicate_packets
-      go true = refl
-      go false = refl
+-- what the counts keep beside out_of_order returns
+duplicates_kept : (b : Bool) (c : ObserverCounts) → c.duplicate_packets ≡ (out_of_order_if b c).duplicate_packets
+duplicates_kept true c = refl
+duplicates_kept false c = refl
 
-  indications_kept : o.counts.gtpu_error_indications ≡ (counts_after o q t).gtpu_error_indications
-  unfolding counts_after
-  indications_kept = go (ltb q (highest_marked (rows o)))
-    where
-      go : (b : Bool) → o.counts.gtpu_error_indications ≡ (out_of_order_if b o.counts).gtpu_error_indications
-      go true = refl
-      go false = refl
-
-  late_after : (out_of_order_if (ltb q (highest_marked (rows o))) o.counts).out_of_order_packets ≡ (counts_after o q t).out_of_order_packets
-  unfolding counts_after
-  late_after = refl
+indications_kept : (b : Bool) (c : ObserverCounts) → c.gtpu_error_indications ≡ (out_of_order_if b c).gtpu_error_indications
+indications_kept true c = refl
+indications_kept false c = refl
 
 late_counted : (b late : Bool) (n : ℕ) (c : ObserverCounts) → b ≡ late → n ≡ c.out_of_order_packets
     → elim b [ true ↦ saturating_add n 1 | false ↦ n ] ≡ (out_of_order_if late c).out_of_order_packets
@@ -220,7 +207,7 @@ module _ (rust : ContinuityObserver) (o : Observer) (same : Same rust o) (t : �
 
   -- the rows X are put back with the counts
   first_as : (l : ℕ) (X : List Row) → l ≤ u64_max → length X ≤ capacity o
-      → step o (gives (with_rows X (with_counts (counts_after o q t) o))) ≡ record_return o t q
+      → step o (gives (with_rows X (with_counts (out_of_order_if late o.counts) o))) ≡ record_return o t q
       → sent_of X ≡ sent_of (rows o) → insert q l (received_of (rows o)) ≡ received_of X
       → AsStep o (record { result = Ok tt; observer = first_return rust q l }) (record_return o t q)
   unfolding first_return with_rows capacity
@@ -232,15 +219,15 @@ module _ (rust : ContinuityObserver) (o : Observer) (same : Same rust o) (t : �
       received = ap (insert q l) same.received ∙ r ∙ ap received_of (sym (rows_with X with_counts_lem));
       latencies = insert_fits q l rust.received small same.latencies;
       highest = ap (λ (h : Option ℕ). Some (map_or h q (λ highest. max highest q))) same.highest ∙ sym (highest_insert q l rust.received);
-      duplicates = same.duplicates ∙ duplicates_kept o q t;
-      out_of_order = late_counted (is_some_and rust.highest_received_sequence (λ highest. ltb q highest)) late rust.out_of_order_packets o.counts lateness same.out_of_order ∙ late_after o q t;
-      indications = same.indications ∙ indications_kept o q t;
+      duplicates = same.duplicates ∙ duplicates_kept late o.counts;
+      out_of_order = late_counted (is_some_and rust.highest_received_sequence (λ highest. ltb q highest)) late rust.out_of_order_packets o.counts lateness same.out_of_order;
+      indications = same.indications ∙ indications_kept late o.counts;
     });
     room = ap (λ (x : Step). capacity x.observer) (sym e) ∙ capacity_with X with_counts_lem fit;
   }
     where
       with_counts_lem : Observer
-      with_counts_lem = with_counts (counts_after o q t) o
+      with_counts_lem = with_counts (out_of_order_if late o.counts) o
 
       lateness : is_some_and rust.highest_received_sequence (λ highest. ltb q highest) ≡ late
       lateness = ap (λ (h : Option ℕ). is_some_and h (λ highest. ltb q highest)) (same.highest ∙ ap highest_key same.received) ∙ late_is q (rows o)
@@ -273,7 +260,7 @@ module _ (rust : ContinuityObserver) (o : Observer) (same : Same rust o) (t : �
       judged_by false m h =
           first_as (t - r.send_timestamp_ns) (before ++ returned t r ∷ after) (omega arith)
           (omega (arith, ap length e, length-append before (returned t r ∷ after), length-append before (r ∷ after), used_fits rust o same q t))
-          (ap (λ (l : List Row). step o (gives (with_rows l (with_counts (counts_after o q t) o)))) (sym put)
+          (ap (λ (l : List Row). step o (gives (with_rows l (with_counts (out_of_order_if late o.counts) o)))) (sym put)
           ∙ return_first o same.well q t w (rw row_is h) (rw row_is (eqb-false r.mark 1 m)))
           (sent_returned q before r after b s a t ∙ ap sent_of (sym e))
           (ap (λ (l : List Row). insert q (t - r.send_timestamp_ns) (received_of l)) e ∙ insert_received q before r after b s a t m)

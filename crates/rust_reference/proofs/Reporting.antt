@@ -2,8 +2,9 @@
 use Rattle.std.proofs.Common.{◌≡◌, ℕ, suc, ◌+◌, ◌-◌, ◌*◌, ◌/◌, ◌%◌, ◌<◌, ◌≤◌, min, max, Bool, true, false, eqb, ltb, List, [], ◌∷◌, ◌++◌, map, length, sym, refl, ap, ◌∙◌, subst, ap₂, append_assoc, le_trans, arith, lit≤, ltb-false, ltb-true, eq-eqb, ne_eqb}
 use native.Mathlib.Nat.{div-le_of_le-mul, min-eq_left}
 use lib.ListN.{length-map}
-use Rattle.error.specs.Outcome.{Outcome, gives}
+use Rattle.error.specs.Outcome.{gives}
 use Rattle.evidence.specs.Latency.{latency_for}
+use Rattle.evidence.specs.declared.Latency.{Latency}
 use Rattle.evidence.specs.declared.LatencySummary.{LatencySummary}
 use Rattle.evidence.specs.declared.PacketContinuityBudget.{PacketContinuityBudget}
 use Rattle.evidence.specs.declared.PacketContinuityReport.{PacketContinuityReport}
@@ -19,10 +20,9 @@ use Rattle.report.specs.Loops.{longest_in, outage_in, gap_of, since_of}
 use Rattle.report.proofs.Runs.{longest_of_lem, outage_of}
 use Rattle.rust_reference.specs.Compared.{told}
 use Rattle.rust_reference.specs.Claims.{Report}
-use Rattle.rust_reference.specs.Answers.{rust_latency, rust_report, rust_reported}
-use Rattle.rust_reference.specs.Evidence as evidence
+use Rattle.rust_reference.specs.Answers.{latency_of, report_of}
 use Rattle.rust_reference.specs.Values.{u64_max, saturating_add, saturating_add_u128}
-use Rattle.rust_reference.specs.Map.{Option, Some, Entry, keys, values, contains}
+use Rattle.rust_reference.specs.Map.{Some, Entry, keys, values, contains}
 use Rattle.rust_reference.specs.Sheet.{sent_of, received_of, ValuesFit, Same}
 use Rattle.rust_reference.specs.Traffic.{ContinuityObserver, for_latency, latency_summary, GapSummary, for_sent, gap_summary, report}
 use Rattle.rust_reference.proofs.Maps.{Below, Above, rising_above, contains_keys, contains_found}
@@ -85,7 +85,7 @@ latency_loop (x ∷ xs) low high sum count f h k =
 mean_fits : (xs : List ℕ) → Fit xs → total xs / length xs ≤ u64_max
 mean_fits xs f = div-le_of_le-mul (length xs) (total_bound xs f)
 
-summary_is : (xs : List ℕ) → Fit xs → length xs ≤ 2048 → latency_summary xs ≡ rust_latency (latency_for (leaf.latency_of xs))
+summary_is : (xs : List ℕ) → Fit xs → length xs ≤ 2048 → latency_of (latency_summary xs) ≡ latency_for (leaf.latency_of xs)
 unfolding latency_summary
 summary_is [] f h = refl
 summary_is (x ∷ xs) f h =
@@ -94,7 +94,7 @@ summary_is (x ∷ xs) f h =
     let sum : 0 + total (x ∷ xs) ≡ total (x ∷ xs) = omega arith in
     let count : 0 + length (x ∷ xs) ≡ length (x ∷ xs) = omega arith in
     let mean : total (x ∷ xs) / length (x ∷ xs) % 18446744073709551616 ≡ total (x ∷ xs) / length (x ∷ xs) = small (mean_fits (x ∷ xs) f) in
-    ap (λ (s : LatencySummary). Some s)
+    ap (λ (s : LatencySummary). latency_of (Some s))
     (latency_loop (x ∷ xs) u64_max 0 0 0 f (omega arith) (omega arith)
     ∙ ap₂ (λ (l m : ℕ). record { min_ns = l; max_ns = m; avg_ns = (0 + total (x ∷ xs)) / (0 + length (x ∷ xs)) % 18446744073709551616 }) low high
     ∙ ap₂ (λ (s n : ℕ). record { min_ns = least x xs; max_ns = greatest (x ∷ xs); avg_ns = s / n % 18446744073709551616 }) sum count
@@ -240,7 +240,7 @@ module _ (rust : ContinuityObserver) (o : Observer) (same : Same rust o) (start 
   rs = rows o
 
   -- the report on these numbers
-  abbrev on : ℕ → ℕ → ℕ → ℕ → Option LatencySummary → ℕ → ℕ → ℕ → evidence.PacketContinuityReport
+  abbrev on : ℕ → ℕ → ℕ → ℕ → Latency → ℕ → ℕ → ℕ → PacketContinuityReport
   on sent received run outage latency duplicates late indications = record {
     window_start_ns = start;
     window_end_ns = end;
@@ -270,9 +270,9 @@ module _ (rust : ContinuityObserver) (o : Observer) (same : Same rust o) (start 
   received_is : length rust.received ≡ length (latencies_of rs)
   received_is = sym (length-map rust.received (λ e. e.value)) ∙ ap length values_same
 
-  latency_is : latency_summary (values rust.received) ≡ rust_latency (latency_for (leaf.latency_of (latencies_of rs)))
+  latency_is : latency_of (latency_summary (values rust.received)) ≡ latency_for (leaf.latency_of (latencies_of rs))
   latency_is =
-      ap latency_summary values_same
+      ap (λ (l : List ℕ). latency_of (latency_summary l)) values_same
       ∙ summary_is (latencies_of rs) (subst Fit values_same (values_fit rust.received same.latencies)) (omega (arith, few, few_latencies rs))
 
   gap_is : gap_summary rust.sent rust.received end
@@ -281,7 +281,7 @@ module _ (rust : ContinuityObserver) (o : Observer) (same : Same rust o) (start 
       ap₂ (λ (m : List Entry) (l : List Entry). gap_summary m l end) same.sent same.received
       ∙ gap_of_lem rs end (agrees [] rs (well_rows o same.well).rises) few
 
-  report_is : report rust start end budget ≡ rust_report (leaf.report_of rs o.counts start end budget)
+  report_is : report_of (report rust start end budget) ≡ leaf.report_of rs o.counts start end budget
   unfolding report leaf.report_of
   report_is =
       λ i. on (sent_is i) (received_is i) (gap_is i).max_count (gap_is i).max_duration (latency_is i) (same.duplicates i) (same.out_of_order i) (same.indications i)
@@ -289,5 +289,5 @@ module _ (rust : ContinuityObserver) (o : Observer) (same : Same rust o) (start 
 pub report_same : Report
 unfolding reporting
 report_same rust o same start end budget =
-    ap (λ (r : evidence.PacketContinuityReport). gives r) (report_is rust o same start end budget)
-    ∙ ap (λ (x : Outcome PacketContinuityReport). told (rust_reported x)) (judged_well o (gives (leaf.report_of (rows o) o.counts start end budget)) same.well)
+    ap (λ (r : PacketContinuityReport). gives r) (report_is rust o same start end budget)
+    ∙ ap told (judged_well o (gives (leaf.report_of (rows o) o.counts start end budget)) same.well)

@@ -22,7 +22,6 @@ use Rattle.rust_reference.specs.Error.{Result, Ok, Err, InvalidPacket, Timestamp
 use Rattle.rust_reference.specs.Map.{Option, None, Some, Entry, get, contains_key, insert}
 use Rattle.rust_reference.specs.Gtpu.{validate_error_indication_ies}
 use Rattle.rust_reference.specs.Measurement as measurement
-use Rattle.rust_reference.specs.Answers.{rust_reported}
 use Rattle.rust_reference.specs.Runs.{Call, sending, receiving, returning, reporting_on, Typed, Answer, done, message, reported, answering, answer_to, after_call, answers_to, after, rust_answer_to, rust_after_call, rust_answers_to, rust_after}
 use Rattle.rust_reference.specs.Traffic.{ContinuityObserver, new, Recorded, tried, ok_or, checked_sub, record_sent, duplicate, first_return, record_received_tpdu, error_indication, record_return_gtpu_datagram}
 use Rattle.rust_reference.proofs.Observing.{new_same, sending_kept, sending_same, arriving, received_step, received_same, message_step, message_same}
@@ -44,7 +43,7 @@ call_same rust o same (receiving t tpdu) typed added =
 call_same rust o same (returning t ty payload) typed added =
     let s = message_same rust o same t typed.0 ty payload typed.1 in (ap (answering message) s.0 ∙ told_answering message (record_return_message o t ty payload).outcome, s.1)
 call_same rust o same (reporting_on start end budget) typed added =
-    (ap (answering reported) (report_same rust o same start end budget) ∙ told_answering reported (rust_reported (reporting o start end budget)), same)
+    (ap (answering reported) (report_same rust o same start end budget) ∙ told_answering reported (reporting o start end budget), same)
 
 abbrev RunsAlike : ContinuityObserver → Observer → List Call → Type 0
 RunsAlike rust o calls = (rust_answers_to rust calls ≡ map told (answers_to o calls)) × Same (rust_after rust calls) (after o calls)
@@ -194,7 +193,7 @@ call_free rust o same room (returning t ty payload) typed h =
     let s = message_step rust o same t typed.0 ty payload typed.1 in
     (ap (answering message) s.answer ∙ told_answering message (record_return_message o t ty payload).outcome, s.same, s.room)
 call_free rust o same room (reporting_on start end budget) typed h =
-    (ap (answering reported) (report_same rust o same start end budget) ∙ told_answering reported (rust_reported (reporting o start end budget)), same, refl)
+    (ap (answering reported) (report_same rust o same start end budget) ∙ told_answering reported (reporting o start end budget), same, refl)
 
 related_free : (rust : ContinuityObserver) (o : Observer) → Same rust o → capacity o ≡ 2048 → (calls : List Call) → AllTyped calls
     → length (rust_after rust calls).sent ≤ 2048 → RunsAlike rust o calls

@@ -1,7 +1,7 @@
--- The Rust's values as ours ("What must change shape", document 01): flows and T-PDUs; `Vec`s in a lent buffer. And
--- our report as the Rust's.
+-- The Rust's values as ours ("What must change shape", document 01): flows and T-PDUs; `Vec`s in a lent buffer; the
+-- report.
 use Rattle.std.specs.Prelude.{ℕ, List, [], ◌∷◌, ◌++◌, map, length, drop}
-use Rattle.error.specs.Outcome.{Outcome, refused, gives}
+use Rattle.error.specs.Outcome.{refused, gives}
 use Rattle.measurement.specs.Answer.{Writing}
 use Rattle.measurement.specs.Flow.{address, padded}
 use Rattle.measurement.specs.declared.DecodedTpdu.{DecodedTpdu}
@@ -81,31 +81,25 @@ packets_in_buffer (Err error) next buffer = record { outcome = refused (error_nu
 abbrev pub told_generating : Generating → Generating
 told_generating g = record { outcome = told g.outcome; next = g.next; buffer = g.buffer }
 
--- Our report as the Rust's ("`Option` becomes an enum"): every figure that the Rust has. It has no jitter (document 02,
--- job 2), so the jitter is left out.
-abbrev pub rust_latency : Latency → Option LatencySummary
-rust_latency Absent = None
-rust_latency (Summary summary) = Some summary
+-- The Rust's report as ours ("`Option` becomes an enum").
+abbrev pub latency_of : Option LatencySummary → Latency
+latency_of None = Absent
+latency_of (Some summary) = Summary summary
 
-abbrev pub rust_report : PacketContinuityReport → evidence.PacketContinuityReport
-rust_report ours = record {
-  window_start_ns = ours.window_start_ns;
-  window_end_ns = ours.window_end_ns;
-  sent_packets = ours.sent_packets;
-  received_packets = ours.received_packets;
-  lost_packets = ours.lost_packets;
-  duplicate_packets = ours.duplicate_packets;
-  out_of_order_packets = ours.out_of_order_packets;
-  gtpu_error_indications = ours.gtpu_error_indications;
-  max_consecutive_lost_packets = ours.max_consecutive_lost_packets;
-  max_gap_duration_ns = ours.max_gap_duration_ns;
-  latency = rust_latency ours.latency;
-  budget = ours.budget;
-  forwarding_proven = ours.forwarding_proven;
-  packet_continuity_proven = ours.packet_continuity_proven;
+abbrev pub report_of : evidence.PacketContinuityReport → PacketContinuityReport
+report_of rust = record {
+  window_start_ns = rust.window_start_ns;
+  window_end_ns = rust.window_end_ns;
+  sent_packets = rust.sent_packets;
+  received_packets = rust.received_packets;
+  lost_packets = rust.lost_packets;
+  duplicate_packets = rust.duplicate_packets;
+  out_of_order_packets = rust.out_of_order_packets;
+  gtpu_error_indications = rust.gtpu_error_indications;
+  max_consecutive_lost_packets = rust.max_consecutive_lost_packets;
+  max_gap_duration_ns = rust.max_gap_duration_ns;
+  latency = latency_of rust.latency;
+  budget = rust.budget;
+  forwarding_proven = rust.forwarding_proven;
+  packet_continuity_proven = rust.packet_continuity_proven;
 }
-
--- What our report call answers, as the Rust's.
-abbrev pub rust_reported : Outcome PacketContinuityReport → Outcome evidence.PacketContinuityReport
-rust_reported (refused n) = refused n
-rust_reported (gives ours) = gives (rust_report ours)

@@ -56,7 +56,7 @@ use Rattle.rust_reference.specs.Number.{error_number, outcome_by, outcome_of}
 use Rattle.rust_reference.specs.Compared.{Filled, Compared, ComparedReturn, ComparedMessage, due_of_a_fragment}
 use Rattle.rust_reference.specs.Compared.{as_the_rust_tells, told}
 use Rattle.rust_reference.specs.Answers.{rust_flow, tpdu_of, in_buffer, told_writing, headers_of, packets_in_buffer}
-use Rattle.rust_reference.specs.Answers.{told_generating, rust_reported}
+use Rattle.rust_reference.specs.Answers.{told_generating, report_of}
 use Rattle.rust_reference.specs.Sessions.{Reflector, table_in, with_table, with_state, fresh_reflector, handling}
 use Rattle.rust_reference.specs.Sessions.{rust_address, rust_session, rust_config, rust_reflector, rust_message}
 use Rattle.rust_reference.specs.Sessions.{rust_removed, rust_action, outcome_to, in_output, IsMade, SequenceFits}
@@ -244,12 +244,12 @@ RecordReturnGtpuDatagram = (rust : traffic.ContinuityObserver) (o : Observer) �
     (outcome_of after.result ≡ told (record_return_message o time message_type payload).outcome)
     × Same after.observer (record_return_message o time message_type payload).observer
 
--- Every window and budget; every figure but the jitter, which the Rust does not have.
+-- Every window and budget.
 abbrev pub Report : Type 0
 Report = (rust : traffic.ContinuityObserver) (o : Observer) → Same rust o
     → (window_start window_end : ℕ) (budget : PacketContinuityBudget)
-    → gives (traffic.report rust window_start window_end budget)
-    ≡ told (rust_reported (reporting o window_start window_end budget))
+    → gives (report_of (traffic.report rust window_start window_end budget))
+    ≡ told (reporting o window_start window_end budget)
 
 -- ---- whole runs
 

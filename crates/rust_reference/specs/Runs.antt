@@ -3,6 +3,7 @@
 use Rattle.std.specs.Prelude.{ℕ, ◌≤◌, List, [], ◌∷◌}
 use Rattle.error.specs.Outcome.{Outcome, refused, gives}
 use Rattle.evidence.specs.declared.PacketContinuityBudget.{PacketContinuityBudget}
+use Rattle.evidence.specs.declared.PacketContinuityReport.{PacketContinuityReport}
 use Rattle.observer.specs.Observer.{Observer}
 use Rattle.observer.specs.Sending.{record_sent}
 use Rattle.report.specs.Report.{reporting}
@@ -11,8 +12,7 @@ use Rattle.return_calls.specs.declared.GtpuReturnDatagramOutcome.{GtpuReturnData
 use Rattle.rust_reference.specs.Number.{outcome_of}
 use Rattle.rust_reference.specs.Compared.{Compared, ComparedReturn}
 use Rattle.rust_reference.specs.Values.{u64_max}
-use Rattle.rust_reference.specs.Answers.{rust_reported}
-use Rattle.rust_reference.specs.Evidence.{PacketContinuityReport}
+use Rattle.rust_reference.specs.Answers.{report_of}
 use Rattle.rust_reference.specs.Traffic as traffic
 
 -- A call, with what it is handed: a sequence and its time; a time and a T-PDU; a time, a message type and a payload; a
@@ -30,7 +30,7 @@ Typed (receiving time tpdu) = (time ≤ u64_max) × Compared tpdu
 Typed (returning time message_type payload) = (time ≤ u64_max) × ComparedReturn message_type payload
 Typed (reporting_on window_start window_end budget) = Unit {0}
 
--- What an accepted call gives: nothing more (`done`), what the message was, or a report, as the Rust has it.
+-- What an accepted call gives: nothing more (`done`), what the message was, or a report.
 pub data Answer : Type 0 where
   done : Answer
   message : GtpuReturnDatagramOutcome → Answer
@@ -46,8 +46,7 @@ answer_to o (sending sequence time) = answering (λ u. done) (record_sent o sequ
 answer_to o (receiving time tpdu) = answering (λ u. done) (record_received_tpdu o time tpdu).outcome
 answer_to o (returning time message_type payload) =
     answering message (record_return_message o time message_type payload).outcome
-answer_to o (reporting_on window_start window_end budget) =
-    answering reported (rust_reported (reporting o window_start window_end budget))
+answer_to o (reporting_on window_start window_end budget) = answering reported (reporting o window_start window_end budget)
 
 abbrev pub after_call : Observer → Call → Observer
 after_call o (sending sequence time) = (record_sent o sequence time).observer
@@ -71,7 +70,7 @@ rust_answer_to o (receiving time tpdu) =
 rust_answer_to o (returning time message_type payload) =
     answering message (outcome_of (traffic.record_return_gtpu_datagram o time message_type payload).result)
 rust_answer_to o (reporting_on window_start window_end budget) =
-    gives (reported (traffic.report o window_start window_end budget))
+    gives (reported (report_of (traffic.report o window_start window_end budget)))
 
 abbrev pub rust_after_call : traffic.ContinuityObserver → Call → traffic.ContinuityObserver
 rust_after_call o (sending sequence time) = traffic.record_sent o sequence time

@@ -61,12 +61,12 @@ head_is e = cc
 tail_is : {a b : ℕ} {l m : List ℕ} → a ∷ l ≡ b ∷ m → l ≡ m
 tail_is e = cc
 
-not_empty_lem : {a : ℕ} {l : List ℕ} → a ∷ l ≡ [] → ⊥
-not_empty_lem e = let z : ◌≡◌ {A = ℕ} 0 1 = cc in omega arith
+not_empty : {a : ℕ} {l : List ℕ} → a ∷ l ≡ [] → ⊥
+not_empty e = let z : ◌≡◌ {A = ℕ} 0 1 = cc in omega arith
 
 all_zero : (n : ℕ) (o : Observer) (packets : List MeasurementHeader) → (send_in_turn o packets).numbers ≡ replicate n 0 → NoneRefused o packets
 all_zero n o [] e = tt
-all_zero zero o (p ∷ packets) e = absurd (not_empty_lem e)
+all_zero zero o (p ∷ packets) e = absurd (not_empty e)
 all_zero (suc n) o (p ∷ packets) e =
     (taken o p.sequence p.send_timestamp_ns (head_is e), all_zero n (record_sent o p.sequence p.send_timestamp_ns).observer packets (tail_is e))
 

@@ -17,14 +17,11 @@ use Rattle.plan.proofs.Claims.{intervals}
 use Rattle.gtpu.specs.Element.{elements_of}
 use Rattle.gtpu.specs.Claims.{EmptyList}
 use Rattle.gtpu.proofs.Claims.{empty_list}
-use Rattle.jitter.specs.Jitter.{fresh_jitter, jitter_of}
-use Rattle.jitter.specs.declared.JitterState.{JitterState}
-use Rattle.observer.specs.Counts.{fresh, with_used, with_jitter}
 use Rattle.observer.specs.Observer.{Observer, capacity, rows, with_rows}
 use Rattle.observer.specs.Judge.{well_formed, judged, after_reading}
 use Rattle.columns.specs.Place.{holds}
 use Rattle.observer.specs.Sending.{entered, sending_causes, record_sent}
-use Rattle.observer.specs.Returning.{return_causes, counts_after, after_return, record_return}
+use Rattle.observer.specs.Returning.{return_causes, after_return, record_return}
 use Rattle.rows.specs.Columns.{columns_of}
 use Rattle.observer.specs.Answer.{observer_of}
 use Rattle.return_calls.specs.Returns.{sequence_read, record_received_tpdu}
@@ -46,33 +43,34 @@ range4 q t g h = record {
   time = h;
 }
 
--- the observer of five rows, some of them used: sequences, send times, latencies, marks, arrival times, the jitter's state
-abbrev observed : List ℕ → List ℕ → List ℕ → List ℕ → List ℕ → JitterState → ℕ → Observer
-observed qs ts ls ms rs jitter used = observer_of (columns_of qs ts ls ms rs) (with_jitter jitter (with_used used fresh))
+-- the observer of five rows, some of them used: sequences, send times, latencies, marks, arrival times
+abbrev observed : List ℕ → List ℕ → List ℕ → List ℕ → List ℕ → ℕ → Observer
+observed qs ts ls ms rs used =
+    observer_of (columns_of qs ts ls ms rs) (record { used = used; duplicate_packets = 0; out_of_order_packets = 0; gtpu_error_indications = 0 })
 
 abbrev one : Observer
-one = observed (1 ∷ 9 ∷ 9 ∷ 9 ∷ 9 ∷ []) (0 ∷ 9 ∷ 9 ∷ 9 ∷ 9 ∷ []) (0 ∷ 9 ∷ 9 ∷ 9 ∷ 9 ∷ []) (0 ∷ 9 ∷ 9 ∷ 9 ∷ 9 ∷ []) (0 ∷ 9 ∷ 9 ∷ 9 ∷ 9 ∷ []) fresh_jitter 1
+one = observed (1 ∷ 9 ∷ 9 ∷ 9 ∷ 9 ∷ []) (0 ∷ 9 ∷ 9 ∷ 9 ∷ 9 ∷ []) (0 ∷ 9 ∷ 9 ∷ 9 ∷ 9 ∷ []) (0 ∷ 9 ∷ 9 ∷ 9 ∷ 9 ∷ []) (0 ∷ 9 ∷ 9 ∷ 9 ∷ 9 ∷ []) 1
 
 abbrev two : Observer
-two = observed (1 ∷ 2 ∷ 9 ∷ 9 ∷ 9 ∷ []) (0 ∷ 10 ∷ 9 ∷ 9 ∷ 9 ∷ []) (0 ∷ 0 ∷ 9 ∷ 9 ∷ 9 ∷ []) (0 ∷ 0 ∷ 9 ∷ 9 ∷ 9 ∷ []) (0 ∷ 0 ∷ 9 ∷ 9 ∷ 9 ∷ []) fresh_jitter 2
+two = observed (1 ∷ 2 ∷ 9 ∷ 9 ∷ 9 ∷ []) (0 ∷ 10 ∷ 9 ∷ 9 ∷ 9 ∷ []) (0 ∷ 0 ∷ 9 ∷ 9 ∷ 9 ∷ []) (0 ∷ 0 ∷ 9 ∷ 9 ∷ 9 ∷ []) (0 ∷ 0 ∷ 9 ∷ 9 ∷ 9 ∷ []) 2
 
 abbrev three : Observer
-three = observed (1 ∷ 2 ∷ 3 ∷ 9 ∷ 9 ∷ []) (0 ∷ 10 ∷ 20 ∷ 9 ∷ 9 ∷ []) (0 ∷ 0 ∷ 0 ∷ 9 ∷ 9 ∷ []) (0 ∷ 0 ∷ 0 ∷ 9 ∷ 9 ∷ []) (0 ∷ 0 ∷ 0 ∷ 9 ∷ 9 ∷ []) fresh_jitter 3
+three = observed (1 ∷ 2 ∷ 3 ∷ 9 ∷ 9 ∷ []) (0 ∷ 10 ∷ 20 ∷ 9 ∷ 9 ∷ []) (0 ∷ 0 ∷ 0 ∷ 9 ∷ 9 ∷ []) (0 ∷ 0 ∷ 0 ∷ 9 ∷ 9 ∷ []) (0 ∷ 0 ∷ 0 ∷ 9 ∷ 9 ∷ []) 3
 
 abbrev four : Observer
-four = observed (1 ∷ 2 ∷ 3 ∷ 4 ∷ 9 ∷ []) (0 ∷ 10 ∷ 20 ∷ 30 ∷ 9 ∷ []) (0 ∷ 0 ∷ 0 ∷ 0 ∷ 9 ∷ []) (0 ∷ 0 ∷ 0 ∷ 0 ∷ 9 ∷ []) (0 ∷ 0 ∷ 0 ∷ 0 ∷ 9 ∷ []) fresh_jitter 4
+four = observed (1 ∷ 2 ∷ 3 ∷ 4 ∷ 9 ∷ []) (0 ∷ 10 ∷ 20 ∷ 30 ∷ 9 ∷ []) (0 ∷ 0 ∷ 0 ∷ 0 ∷ 9 ∷ []) (0 ∷ 0 ∷ 0 ∷ 0 ∷ 9 ∷ []) (0 ∷ 0 ∷ 0 ∷ 0 ∷ 9 ∷ []) 4
 
-abbrev five : List ℕ → List ℕ → List ℕ → JitterState → Observer
-five ls ms rs jitter = observed (1 ∷ 2 ∷ 3 ∷ 4 ∷ 5 ∷ []) (0 ∷ 10 ∷ 20 ∷ 30 ∷ 40 ∷ []) ls ms rs jitter 5
+abbrev five : List ℕ → List ℕ → List ℕ → Observer
+five ls ms rs = observed (1 ∷ 2 ∷ 3 ∷ 4 ∷ 5 ∷ []) (0 ∷ 10 ∷ 20 ∷ 30 ∷ 40 ∷ []) ls ms rs 5
 
 abbrev sent : Observer
-sent = five (0 ∷ 0 ∷ 0 ∷ 0 ∷ 0 ∷ []) (0 ∷ 0 ∷ 0 ∷ 0 ∷ 0 ∷ []) (0 ∷ 0 ∷ 0 ∷ 0 ∷ 0 ∷ []) fresh_jitter
+sent = five (0 ∷ 0 ∷ 0 ∷ 0 ∷ 0 ∷ []) (0 ∷ 0 ∷ 0 ∷ 0 ∷ 0 ∷ []) (0 ∷ 0 ∷ 0 ∷ 0 ∷ 0 ∷ [])
 
 abbrev with2 : Observer
-with2 = five (0 ∷ 40 ∷ 0 ∷ 0 ∷ 0 ∷ []) (0 ∷ 1 ∷ 0 ∷ 0 ∷ 0 ∷ []) (0 ∷ 50 ∷ 0 ∷ 0 ∷ 0 ∷ []) (jitter_of (40 ∷ []))
+with2 = five (0 ∷ 40 ∷ 0 ∷ 0 ∷ 0 ∷ []) (0 ∷ 1 ∷ 0 ∷ 0 ∷ 0 ∷ []) (0 ∷ 50 ∷ 0 ∷ 0 ∷ 0 ∷ [])
 
 abbrev with2_and5 : Observer
-with2_and5 = five (0 ∷ 40 ∷ 0 ∷ 0 ∷ 20 ∷ []) (0 ∷ 1 ∷ 0 ∷ 0 ∷ 1 ∷ []) (0 ∷ 50 ∷ 0 ∷ 0 ∷ 60 ∷ []) (jitter_of (40 ∷ 20 ∷ []))
+with2_and5 = five (0 ∷ 40 ∷ 0 ∷ 0 ∷ 20 ∷ []) (0 ∷ 1 ∷ 0 ∷ 0 ∷ 1 ∷ []) (0 ∷ 50 ∷ 0 ∷ 0 ∷ 60 ∷ [])
 
 sent_one : (record_sent fresh_observer 1 0).observer ≡ one
 unfolding first_cause capacity rows with_rows well_formed judged holds entered sending_causes record_sent
@@ -110,11 +108,11 @@ read_as o q sent_at time g h =
     (reads_back_alone ipv4_flow q sent_at (range4 q sent_at g h))
 
 return_2 : (record_return sent 50 2).observer ≡ with2
-unfolding first_cause capacity rows with_rows well_formed judged holds return_causes counts_after after_return record_return
+unfolding first_cause capacity rows with_rows well_formed judged holds return_causes after_return record_return
 return_2 = refl
 
 return_5 : (record_return with2 60 5).observer ≡ with2_and5
-unfolding first_cause capacity rows with_rows well_formed judged holds return_causes counts_after after_return record_return
+unfolding first_cause capacity rows with_rows well_formed judged holds return_causes after_return record_return
 return_5 = refl
 
 returned_2 : returns sent_five 2 10 50 ≡ with2

@@ -25,11 +25,10 @@ use Rattle.observer.proofs.Rows.{rows_are, rows_with, field_at, capacity_with}
 use Rattle.observer.proofs.Keeping.{well_rows}
 use Rattle.observer.proofs.Calls.{sent_full, sent_new_lem}
 use Rattle.observer.proofs.Claims.{calls_keep_well, fresh_is_well}
-use Rattle.observer.proofs.Jitter.{Timed, timed_sent, timed_fresh}
 use Rattle.tally.specs.Tally.{Tally, row_for, tally_of}
 use Rattle.tally.specs.Demand.{send_all, NoneRefused, Takes}
 use Rattle.tally.proofs.Rows.{Consecutive, sequence_is, consecutive_snoc}
-use Rattle.tally.proofs.Steps.{tallied, with_counts_of, read_off, Ready, Holds}
+use Rattle.tally.proofs.Steps.{tallied, with_counts_of, read_off, Ready}
 
 pub used_is : {q n : ℕ} {o : Observer} → Ready q n o → length (rows o) ≡ o.counts.used
 used_is {o = o} i = (rows_are o (well_rows o i.well).fits).count
@@ -68,9 +67,9 @@ module _ {q n : ℕ} {o : Observer} (i : Ready q n o) (t : ℕ) where
   not_full : call.outcome ≡ gives tt → o.counts.used ≡ capacity o → ⊥
   not_full h e = refused_gives (ap (λ (s : Step). s.outcome) (sent_full o i.well (q + n) t not_sent e) ∙ h)
 
-  read_off_rows : (rs : List Row) → read_off (with_rows rs o) [] ≡ with_counts_of rs o.counts []
+  read_off_rows : (rs : List Row) → read_off (with_rows rs o) ≡ with_counts_of rs o.counts
   unfolding with_rows
-  read_off_rows rs = ap (λ (x : List Row). with_counts_of x o.counts []) (rows_with rs o)
+  read_off_rows rs = ap (λ (x : List Row). with_counts_of x o.counts) (rows_with rs o)
 
   pub room : n < capacity o → o.counts.used ≡ capacity o → ⊥
   room h e = omega (arith, used_is i, i.number)
@@ -85,12 +84,12 @@ module _ {q n : ℕ} {o : Observer} (i : Ready q n o) (t : ℕ) where
 
   pub record Sending : Type 0 where
     pub ready : Ready q (suc n) call.observer
-    pub is : read_off call.observer [] ≡ with_counts_of new_rows o.counts []
+    pub is : read_off call.observer ≡ with_counts_of new_rows o.counts
 
   pub sends : call.outcome ≡ gives tt → Sending
   sends h =
-      let is : read_off call.observer [] ≡ with_counts_of new_rows o.counts [] =
-      ap (λ (s : Step). read_off s.observer []) (sym (sent_is (not_full h))) ∙ read_off_rows new_rows in
+      let is : read_off call.observer ≡ with_counts_of new_rows o.counts =
+      ap (λ (s : Step). read_off s.observer) (sym (sent_is (not_full h))) ∙ read_off_rows new_rows in
       let new : rows call.observer ≡ new_rows = ap (λ (a : Tally). a.rows) is in
       record {
         ready = record {
@@ -105,23 +104,25 @@ module _ {q n : ℕ} {o : Observer} (i : Ready q n o) (t : ℕ) where
 -- ---- all packets
 
 module _ (plan : TrafficPlan) (next : ℕ) where
-  enter : (n k m : ℕ) (o : Observer) → m ≡ k + n → Ready next k o → Timed o [] → NoneRefused o (packets_from plan next n k)
-      → Holds next m (send_all o (packets_from plan next n k)) (with_counts_of (rows o ++ map row_for (packets_from plan next n k)) o.counts [])
+  pub record Entered (m : ℕ) (o : Observer) (a : Tally) : Type 0 where
+    pub ready : Ready next m o
+    pub is : read_off o ≡ a
+
+  enter : (n k m : ℕ) (o : Observer) → m ≡ k + n → Ready next k o → NoneRefused o (packets_from plan next n k)
+      → Entered m (send_all o (packets_from plan next n k)) (with_counts_of (rows o ++ map row_for (packets_from plan next n k)) o.counts)
   unfolding packets_from
-  enter zero k m o e i v h = record {
+  enter zero k m o e i h = record {
     ready = subst (λ (x : ℕ). Ready next x o) (omega arith) i;
-    timed = v;
-    is = ap (λ (rs : List Row). with_counts_of rs o.counts []) (sym (append-nil (rows o)));
+    is = ap (λ (rs : List Row). with_counts_of rs o.counts) (sym (append-nil (rows o)));
   }
-  enter (suc n) k m o e i v h =
+  enter (suc n) k m o e i h =
       let s = sends i (time_at plan k) h.0 in
-      let onward = enter n (suc k) m (record_sent o (next + k) (time_at plan k)).observer (omega arith) s.ready (timed_sent v i.well (next + k) (time_at plan k)) h.1 in
+      let onward = enter n (suc k) m (record_sent o (next + k) (time_at plan k)).observer (omega arith) s.ready h.1 in
       record {
         ready = onward.ready;
-        timed = onward.timed;
         is = onward.is
-            ∙ ap (λ (a : Tally). tallied (a.rows ++ map row_for (packets_from plan next n (suc k))) a.duplicates a.out_of_order a.error_indications []) s.is
-            ∙ ap (λ (rs : List Row). with_counts_of rs o.counts []) (append_assoc (rows o) (sent_row (next + k) (time_at plan k) ∷ []) (map row_for (packets_from plan next n (suc k))));
+            ∙ ap (λ (a : Tally). tallied (a.rows ++ map row_for (packets_from plan next n (suc k))) a.duplicates a.out_of_order a.error_indications) s.is
+            ∙ ap (λ (rs : List Row). with_counts_of rs o.counts) (append_assoc (rows o) (sent_row (next + k) (time_at plan k) ∷ []) (map row_for (packets_from plan next n (suc k))));
       }
 
   fresh_well : (o : Observer) (c : ObserverCounts) → c ≡ o.counts → c ≡ fresh → well_formed o ≡ true
@@ -136,16 +137,15 @@ module _ (plan : TrafficPlan) (next : ℕ) where
       let none : rows o ≡ [] = fresh_rows o (ap (λ (c : ObserverCounts). c.used) e) in
       record { well = fresh_well o o.counts refl e; number = ap length none; consecutive = subst (λ (rs : List Row). Consecutive next rs) (sym none) tt }
 
-  pub entered : (o : Observer) → Takes plan next o → Holds next plan.packet_count (send_all o (packets_of plan next)) (tally_of (packets_of plan next))
+  pub entered : (o : Observer) → Takes plan next o → Entered plan.packet_count (send_all o (packets_of plan next)) (tally_of (packets_of plan next))
   unfolding packets_of
   entered o t =
       let i = fresh_ready o t.is_fresh in
-      let all = enter plan.packet_count 0 plan.packet_count o (omega arith) i (timed_fresh o t.is_fresh) t.none_refused in
+      let all = enter plan.packet_count 0 plan.packet_count o (omega arith) i t.none_refused in
       record {
         ready = all.ready;
-        timed = all.timed;
         is = all.is
-            ∙ ap₂ (λ (rs : List Row) (c : ObserverCounts). with_counts_of (rs ++ map row_for (packets_from plan next plan.packet_count 0)) c [])
+            ∙ ap₂ (λ (rs : List Row) (c : ObserverCounts). with_counts_of (rs ++ map row_for (packets_from plan next plan.packet_count 0)) c)
             (fresh_rows o (ap (λ (c : ObserverCounts). c.used) t.is_fresh)) t.is_fresh;
       }
 

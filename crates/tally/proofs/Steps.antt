@@ -1,9 +1,9 @@
 -- One return, on an observer and in the tally.
-use Prim.Native.Nat.{ℕ, ◌+◌, ◌-◌, ◌<◌}
+use Prim.Native.Nat.{ℕ, ◌+◌, ◌<◌}
 use native.Mathlib.Omega.{arith}
 use mathlib.Core.Path.{◌≡◌, refl, sym, ap, ap₂, ◌∙◌, subst}
 use mathlib.Core.Bool.{Bool, true, false}
-use mathlib.Core.List.{List, [], ◌∷◌, ◌++◌}
+use mathlib.Core.List.{List, [], ◌∷◌}
 use lib.Dec.{ltb, eqb}
 use lib.ListN.{length, set, length-set}
 use borrow.Author.Tests.{ltb-true, ltb-false, eqb-true, eqb-false}
@@ -11,17 +11,16 @@ use Rattle.error.specs.Outcome.{Outcome, refused, gives}
 use Rattle.measurement.specs.declared.DecodedTpdu.{DecodedTpdu}
 use Rattle.measurement_reading.specs.Read.{read_of}
 use Rattle.counter.specs.Counter.{one_more}
-use Rattle.observer.specs.Counts.{one_duplicate, out_of_order_if, with_latency}
+use Rattle.observer.specs.Counts.{one_duplicate, out_of_order_if}
 use Rattle.observer.specs.Observer.{Row, Observer, rows, row_at, with_rows, with_counts}
 use Rattle.observer.specs.Judge.{well_formed, Step, step, refusing, after_reading}
-use Rattle.observer.specs.Place.{place_of, was_sent, row_of, some_marked, highest_marked}
-use Rattle.observer.specs.Returning.{returned, counts_after, record_return}
+use Rattle.observer.specs.Place.{place_of, was_sent, row_of, highest_marked}
+use Rattle.observer.specs.Returning.{returned, record_return}
 use Rattle.observer.specs.Claims.{returning}
 use Rattle.observer.specs.declared.ObserverCounts.{ObserverCounts}
 use Rattle.observer.proofs.Rows.{rows_with}
 use Rattle.observer.proofs.Calls.{judged_malformed, judged_well, refusing_well, return_early, return_duplicate, return_first}
 use Rattle.observer.proofs.Claims.{calls_keep_well, search_finds}
-use Rattle.observer.proofs.Jitter.{Timed, timed_counted, timed_marked}
 use Rattle.return_calls.specs.Kinds.{message_kind}
 use Rattle.return_calls.specs.Returns.{sequence_read, record_received_tpdu, record_return_message}
 use Rattle.return_calls.specs.declared.GtpuReturnDatagramOutcome.TheVariants.{MeasurementTpdu}
@@ -29,14 +28,13 @@ use Rattle.tally.specs.Tally.{Tally, Fed, is_refused, row_of_packet, higher_mark
 use Rattle.tally.specs.Demand.{Call, tpdu_call, message_call, Taken, taken_by}
 use Rattle.tally.proofs.Rows.{Consecutive, sequence_is, consecutive_set, higher_is}
 
--- an observer's rows and counters, as a tally with these latencies
-abbrev pub read_off : Observer → List ℕ → Tally
-read_off o latencies = record {
+-- an observer's rows and counters, as a tally
+abbrev pub read_off : Observer → Tally
+read_off o = record {
   rows = rows o;
   duplicates = o.counts.duplicate_packets;
   out_of_order = o.counts.out_of_order_packets;
   error_indications = o.counts.gtpu_error_indications;
-  latencies = latencies;
 }
 
 -- an observer with n rows from the sequence q on
@@ -48,62 +46,48 @@ pub record Ready (q n : ℕ) (o : Observer) : Type 0 where
 abbrev pub of_step : Step → Taken
 of_step s = record { refuses = is_refused s.outcome; observer = s.observer }
 
--- the observer holds what the tally a holds, and its jitter's state is that of the tally's latencies
-pub record Holds (q n : ℕ) (o : Observer) (a : Tally) : Type 0 where
-  pub ready : Ready q n o
-  pub timed : Timed o a.latencies
-  pub is : read_off o a.latencies ≡ a
+-- what a call made of o, against the tally a after its step
+pub record Answers (q n : ℕ) (o : Observer) (x : Taken) (a : Tally) : Type 0 where
+  pub ready : Ready q n x.observer
+  pub is : read_off x.observer ≡ a
+  pub unchanged : x.refuses ≡ true → x.observer ≡ o
 
--- what a call made of an observer, against the tally a after its step, which was b before
-pub record Answers (q n : ℕ) (b : Tally) (x : Taken) (a : Tally) : Type 0 where
-  pub holds : Holds q n x.observer a
-  pub unchanged : x.refuses ≡ true → a ≡ b
+abbrev pub tallied : List Row → ℕ → ℕ → ℕ → Tally
+tallied rs duplicates out_of_order error_indications = record { rows = rs; duplicates = duplicates; out_of_order = out_of_order; error_indications = error_indications }
 
-abbrev pub tallied : List Row → ℕ → ℕ → ℕ → List ℕ → Tally
-tallied rs duplicates out_of_order error_indications latencies =
-    record { rows = rs; duplicates = duplicates; out_of_order = out_of_order; error_indications = error_indications; latencies = latencies }
+abbrev pub with_counts_of : List Row → ObserverCounts → Tally
+with_counts_of rs c = tallied rs c.duplicate_packets c.out_of_order_packets c.gtpu_error_indications
 
-abbrev pub with_counts_of : List Row → ObserverCounts → List ℕ → Tally
-with_counts_of rs c latencies = tallied rs c.duplicate_packets c.out_of_order_packets c.gtpu_error_indications latencies
-
-read_off_with : (rs : List Row) (c : ObserverCounts) (o : Observer) (ls : List ℕ) → read_off (with_rows rs (with_counts c o)) ls ≡ with_counts_of rs c ls
+read_off_with : (rs : List Row) (c : ObserverCounts) (o : Observer) → read_off (with_rows rs (with_counts c o)) ≡ with_counts_of rs c
 unfolding with_rows
-read_off_with rs c o ls = ap (λ (x : List Row). with_counts_of x c ls) (rows_with rs (with_counts c o))
+read_off_with rs c o = ap (λ (x : List Row). with_counts_of x c) (rows_with rs (with_counts c o))
 
 abbrev one_more_if : Bool → ℕ → ℕ
 one_more_if b n = elim b [ true ↦ one_more n | false ↦ n ]
 
-out_of_order : (o : Observer) (q t : ℕ) (rs : List Row) (ls : List ℕ)
-    → let c = o.counts in
-    with_counts_of rs (counts_after o q t) ls ≡ tallied rs c.duplicate_packets (one_more_if (ltb q (highest_marked (rows o))) c.out_of_order_packets) c.gtpu_error_indications ls
-unfolding counts_after
-out_of_order o q t rs ls = go (ltb q (highest_marked (rows o)))
-  where
-    go : (b : Bool)
-        → with_counts_of rs (with_latency (some_marked (rows o)) (returned t (row_of q (rows o))).latency (out_of_order_if b o.counts)) ls
-        ≡ tallied rs o.counts.duplicate_packets (one_more_if b o.counts.out_of_order_packets) o.counts.gtpu_error_indications ls
-    go true = refl
-    go false = refl
+out_of_order : (b : Bool) (rs : List Row) (c : ObserverCounts)
+    → with_counts_of rs (out_of_order_if b c) ≡ tallied rs c.duplicate_packets (one_more_if b c.out_of_order_packets) c.gtpu_error_indications
+out_of_order true rs c = refl
+out_of_order false rs c = refl
 
 counted_duplicate : (a : Tally) (k t : ℕ) (r : Row) → eqb r.mark 1 ≡ true
-    → tallied a.rows (one_more a.duplicates) a.out_of_order a.error_indications a.latencies ≡ counted a k t r
+    → tallied a.rows (one_more a.duplicates) a.out_of_order a.error_indications ≡ counted a k t r
 unfolding counted
 counted_duplicate a k t r e = rw (e, counted)
 
 counted_first : (a : Tally) (k t : ℕ) (r : Row) → eqb r.mark 1 ≡ false
     → tallied (set a.rows k (marked t r)) a.duplicates (one_more_if (higher_marked r.sequence a.rows) a.out_of_order) a.error_indications
-    (a.latencies ++ (marked t r).latency ∷ [])
     ≡ counted a k t r
 unfolding counted
 counted_first a k t r e = rw (e, counted)
 
-taken_as_lem : {q n : ℕ} {b a : Tally} {x y : Step} → x ≡ y → Answers q n b (of_step x) a → Answers q n b (of_step y) a
-taken_as_lem {q = q} {n = n} {b = b} {a = a} e h = subst (λ (s : Step). Answers q n b (of_step s) a) e h
+taken_as_lem : {q n : ℕ} {o : Observer} {a : Tally} {x y : Step} → x ≡ y → Answers q n o (of_step x) a → Answers q n o (of_step y) a
+taken_as_lem {q = q} {n = n} {o = o} {a = a} e h = subst (λ (s : Step). Answers q n o (of_step s) a) e h
 
 no : false ≡ true → ⊥
 no e = let z : ◌≡◌ {A = ℕ} 0 1 = cc in absurd (omega arith)
 
-module _ {q n : ℕ} {o : Observer} (i : Ready q n o) {ls : List ℕ} (times : Timed o ls) (t k : ℕ) (h : k < n) where
+module _ {q n : ℕ} {o : Observer} (i : Ready q n o) (t k : ℕ) (h : k < n) where
   abbrev row : Row
   row = row_at k (rows o)
 
@@ -131,36 +115,27 @@ module _ {q n : ℕ} {o : Observer} (i : Ready q n o) {ls : List ℕ} (times : T
   abbrev next : Observer
   next =
       with_rows (set (rows o) (place_of row.sequence (rows o)) (returned t (row_of row.sequence (rows o))))
-      (with_counts (counts_after o row.sequence t) o)
+      (with_counts (out_of_order_if (ltb row.sequence (highest_marked (rows o))) o.counts) o)
 
   next_rows : rows next ≡ set (rows o) k (marked t row)
   next_rows = rows_with _ _ ∙ ap (λ (j : ℕ). set (rows o) j (returned t (row_at j (rows o)))) found.1
 
-  -- the latencies then
-  abbrev more : List ℕ
-  more = ls ++ (marked t row).latency ∷ []
-
-  next_is : eqb row.mark 1 ≡ false → read_off next more ≡ counted (read_off o ls) k t row
+  next_is : eqb row.mark 1 ≡ false → read_off next ≡ counted (read_off o) k t row
   next_is e =
       let c : ObserverCounts = o.counts in
-      read_off_with _ _ o more
-      ∙ out_of_order o row.sequence t _ more
-      ∙ ap₂ (λ (rs : List Row) (b : Bool). tallied rs c.duplicate_packets (one_more_if b c.out_of_order_packets) c.gtpu_error_indications more)
+      read_off_with _ _ o
+      ∙ out_of_order (ltb row.sequence (highest_marked (rows o))) _ c
+      ∙ ap₂ (λ (rs : List Row) (b : Bool). tallied rs c.duplicate_packets (one_more_if b c.out_of_order_packets) c.gtpu_error_indications)
       (ap (λ (j : ℕ). set (rows o) j (returned t (row_at j (rows o)))) found.1) (higher_is row.sequence (rows o))
-      ∙ counted_first (read_off o ls) k t row e
-
-  next_timed : Timed next more
-  next_timed =
-      subst (λ (l : ℕ). Timed next (ls ++ l ∷ [])) (ap (λ (r : Row). t - r.send_timestamp_ns) row_is)
-      (timed_marked times row.sequence t (place_of row.sequence (rows o)) (returned t (row_of row.sequence (rows o))) (omega (arith, found.1, within)) refl)
+      ∙ counted_first (read_off o) k t row e
 
   ready_duplicate : well_formed (with_counts (one_duplicate o.counts) o) ≡ true → Ready q n (with_counts (one_duplicate o.counts) o)
   unfolding rows
   ready_duplicate w = record { well = w; number = i.number; consecutive = i.consecutive }
 
-  duplicate_is : eqb row.mark 1 ≡ true → read_off (with_counts (one_duplicate o.counts) o) ls ≡ counted (read_off o ls) k t row
+  duplicate_is : eqb row.mark 1 ≡ true → read_off (with_counts (one_duplicate o.counts) o) ≡ counted (read_off o) k t row
   unfolding rows
-  duplicate_is e = counted_duplicate (read_off o ls) k t row e
+  duplicate_is e = counted_duplicate (read_off o) k t row e
 
   ready_first : well_formed next ≡ true → Ready q n next
   ready_first w = record {
@@ -172,28 +147,20 @@ module _ {q n : ℕ} {o : Observer} (i : Ready q n o) {ls : List ℕ} (times : T
   kept : {x : Step} → x ≡ call → well_formed x.observer ≡ true
   kept e = subst (λ (s : Step). well_formed s.observer ≡ true) (sym e) still_well
 
-  -- an observer that holds what the tally becomes, whose latencies are these
-  holding : {next : Observer} {ms : List ℕ} {a : Tally} → Ready q n next → Timed next ms → read_off next ms ≡ a → Holds q n next a
-  holding {next} {ms} r v e = subst (λ (b : Tally). Holds q n next b) e (record { ready = r; timed = v; is = refl })
-
-  pub return_answers : Answers q n (read_off o ls) (of_step call) (elim (ltb t row.send_timestamp_ns) [ true ↦ read_off o ls | false ↦ counted (read_off o ls) k t row ])
+  pub return_answers : Answers q n o (of_step call) (elim (ltb t row.send_timestamp_ns) [ true ↦ read_off o | false ↦ counted (read_off o) k t row ])
   return_answers = go (ltb t row.send_timestamp_ns) (eqb row.mark 1) refl refl
     where
       go : (early again : Bool) → ltb t row.send_timestamp_ns ≡ early → eqb row.mark 1 ≡ again
-          → Answers q n (read_off o ls) (of_step call) (elim early [ true ↦ read_off o ls | false ↦ counted (read_off o ls) k t row ])
+          → Answers q n o (of_step call) (elim early [ true ↦ read_off o | false ↦ counted (read_off o) k t row ])
       go true again e f =
           taken_as_lem (return_early o i.well row.sequence t found.0 (omega (arith, sent_is, ltb-true t row.send_timestamp_ns e)))
-          (record { holds = record { ready = i; timed = times; is = refl }; unchanged = λ u. refl })
+          (record { ready = i; is = refl; unchanged = λ u. refl })
       go false true e f =
           let law = return_duplicate o i.well row.sequence t found.0 (omega (arith, sent_is, ltb-false t row.send_timestamp_ns e)) (mark_is ∙ eqb-true row.mark 1 f) in
-          taken_as_lem law
-          (record {
-            holds = holding (ready_duplicate (kept law)) (timed_counted times (one_duplicate o.counts) refl refl) (duplicate_is f);
-            unchanged = λ u. absurd (no u);
-          })
+          taken_as_lem law (record { ready = ready_duplicate (kept law); is = duplicate_is f; unchanged = λ u. absurd (no u) })
       go false false e f =
           let law = return_first o i.well row.sequence t found.0 (omega (arith, sent_is, ltb-false t row.send_timestamp_ns e)) (λ m. eqb-false row.mark 1 f (sym mark_is ∙ m)) in
-          taken_as_lem law (record { holds = holding (ready_first (kept law)) next_timed (next_is f); unchanged = λ u. absurd (no u) })
+          taken_as_lem law (record { ready = ready_first (kept law); is = next_is f; unchanged = λ u. absurd (no u) })
 
 -- ---- the two calls, with what was read
 
@@ -226,8 +193,8 @@ module _ (a : Tally) (r : Fed) where
   unfolding tally_return
   tally_given d e = rw (e, tally_return)
 
-tallied_as : {q n : ℕ} {b : Tally} {x : Taken} {a c : Tally} → a ≡ c → Answers q n b x a → Answers q n b x c
-tallied_as {q = q} {n = n} {b = b} {x = x} e h = subst (λ (d : Tally). Answers q n b x d) e h
+tallied_as : {q n : ℕ} {o : Observer} {x : Taken} {a b : Tally} → a ≡ b → Answers q n o x a → Answers q n o x b
+tallied_as {q = q} {n = n} {o = o} {x = x} e h = subst (λ (c : Tally). Answers q n o x c) e h
 
 as_refused : {A : Type 0} (x : Outcome (Unit {0})) (y : A) → is_refused x ≡ is_refused {A = A} (elim x [ refused n ↦ refused n | gives u ↦ gives y ])
 as_refused (refused m) y = refl
@@ -239,31 +206,25 @@ unfolding record_return_message message_kind
 message_is o t b =
     ap (λ (x : Bool). record { refuses = x; observer = (record_received_tpdu o t b).observer }) (as_refused (record_received_tpdu o t b).outcome MeasurementTpdu)
 
-module _ {q n : ℕ} {o : Observer} {a : Tally} (i : Holds q n o a) (t k : ℕ) (h : k < n) (b : List ℕ) where
+module _ {q n : ℕ} {o : Observer} (i : Ready q n o) (t k : ℕ) (h : k < n) (b : List ℕ) where
   abbrev input : Fed
   input = record { packet = k; time = t; arrived = b }
 
-  abbrev off : Tally
-  off = read_off o a.latencies
-
-  tpdu_answers : Reads (q + k) (read_of b) → Answers q n off (taken_by tpdu_call o t b) (tally_return off input)
+  tpdu_answers : Reads (q + k) (read_of b) → Answers q n o (taken_by tpdu_call o t b) (tally_return (read_off o) input)
   tpdu_answers reads = go (read_of b) refl reads
     where
-      go : (x : Outcome DecodedTpdu) → read_of b ≡ x → Reads (q + k) x → Answers q n off (taken_by tpdu_call o t b) (tally_return off input)
+      go : (x : Outcome DecodedTpdu) → read_of b ≡ x → Reads (q + k) x → Answers q n o (taken_by tpdu_call o t b) (tally_return (read_off o) input)
       go (refused m) e u =
-          taken_as_lem (refusing_well o m i.ready.well ∙ received_refused o t b m e)
-          (tallied_as (tally_refused off input m e) (record { holds = record { ready = i.ready; timed = i.timed; is = refl }; unchanged = λ v. refl }))
+          taken_as_lem (refusing_well o m i.well ∙ received_refused o t b m e)
+          (tallied_as (tally_refused (read_off o) input m e) (record { ready = i; is = refl; unchanged = λ v. refl }))
       go (gives d) e u =
-          let s : (row_at k (rows o)).sequence ≡ d.measurement.sequence = sequence_is (rows o) q k i.ready.consecutive (omega (arith, i.ready.number)) ∙ sym u in
+          let s : (row_at k (rows o)).sequence ≡ d.measurement.sequence = sequence_is (rows o) q k i.consecutive (omega (arith, i.number)) ∙ sym u in
           taken_as_lem (ap (record_return o t) s ∙ received_given o t b d e)
-          (tallied_as (tally_given off input d e) (return_answers i.ready i.timed t k h))
+          (tallied_as (tally_given (read_off o) input d e) (return_answers i t k h))
 
-  pub call_answers : (call : Call) → Reads (q + k) (read_of b) → Answers q n a (taken_by call o t b) (tally_return a input)
-  call_answers call reads = subst (λ (c : Tally). Answers q n c (taken_by call o t b) (tally_return c input)) i.is (go call)
-    where
-      go : (call : Call) → Answers q n off (taken_by call o t b) (tally_return off input)
-      go tpdu_call = tpdu_answers reads
-      go message_call = subst (λ (x : Taken). Answers q n off x (tally_return off input)) (message_is o t b) (tpdu_answers reads)
+  pub call_answers : (call : Call) → Reads (q + k) (read_of b) → Answers q n o (taken_by call o t b) (tally_return (read_off o) input)
+  call_answers tpdu_call reads = tpdu_answers reads
+  call_answers message_call reads = subst (λ (x : Taken). Answers q n o x (tally_return (read_off o) input)) (message_is o t b) (tpdu_answers reads)
 
 -- ---- what the reader refuses, the calls refuse
 

@@ -1,27 +1,24 @@
 -- The tally ("tally" is document 01's word): what a run must show, from the plan's packets and the list of returns.
 -- Defined from the section "The tally" alone, in its words. It has no search and no call of the observer: the row of a
 -- return is the row of its packet, by its place in the plan, and the reader is asked only whether it refuses.
-use Rattle.std.specs.Prelude.{ℕ, ◌-◌, List, [], ◌∷◌, ◌++◌, map, Bool, true, false, ◌&&◌, ◌||◌, eqb, ltb, length, get_or, set}
+use Rattle.std.specs.Prelude.{ℕ, ◌-◌, List, [], ◌∷◌, map, Bool, true, false, ◌&&◌, ◌||◌, eqb, ltb, length, get_or, set}
 use Rattle.error.specs.Outcome.{Outcome, refused, gives}
 use Rattle.evidence.specs.declared.PacketContinuityBudget.{PacketContinuityBudget}
 use Rattle.evidence.specs.declared.PacketContinuityReport.{PacketContinuityReport}
 use Rattle.measurement.specs.declared.MeasurementHeader.{MeasurementHeader}
 use Rattle.measurement_reading.specs.Read.{read_of}
 use Rattle.counter.specs.Counter.{one_more}
-use Rattle.jitter.specs.Jitter.{jitter_of}
 use Rattle.rows.specs.Columns.{Columns, columns_of}
 use Rattle.observer.specs.Observer.{Row, row_of_fields}
 use Rattle.observer.specs.declared.ObserverCounts.{ObserverCounts}
 use Rattle.report.specs.Report.{report_of}
 
--- Its rows, the observer's three counters, and the latencies of "the returns that mark its rows, in their order"
--- (document 02, job 2).
+-- Its rows, and the observer's three counters.
 pub record Tally : Type 0 where
   pub rows : List Row
   pub duplicates : ℕ
   pub out_of_order : ℕ
   pub error_indications : ℕ
-  pub latencies : List ℕ
 
 -- "a row for each packet, with its sequence and send time, latency 0, mark 0". "The tally's rows have the column too:
 -- 0, then the time of the return that marks the row" (document 02, job 8).
@@ -30,13 +27,7 @@ row_for packet = row_of_fields packet.sequence packet.send_timestamp_ns 0 0 0
 
 -- "It has, in plan order, a row for each packet .., and the sheet's counters at 0."
 abbrev pub tally_of : List MeasurementHeader → Tally
-tally_of packets = record {
-  rows = map row_for packets;
-  duplicates = 0;
-  out_of_order = 0;
-  error_indications = 0;
-  latencies = [];
-}
+tally_of packets = record { rows = map row_for packets; duplicates = 0; out_of_order = 0; error_indications = 0 }
 
 -- It is fed "each return's packet, time and arrived bytes": which packet it is, counted from 0 in plan order.
 pub record Fed : Type 0 where
@@ -71,7 +62,6 @@ counted a k time r =
         duplicates = one_more a.duplicates;
         out_of_order = a.out_of_order;
         error_indications = a.error_indications;
-        latencies = a.latencies;
       }
       | false ↦ record {
         rows = set a.rows k (marked time r);
@@ -81,7 +71,6 @@ counted a k time r =
           | false ↦ a.out_of_order
         ];
         error_indications = a.error_indications;
-        latencies = a.latencies ++ (marked time r).latency ∷ [];
       }
     ]
 
@@ -98,14 +87,12 @@ abbrev pub tally_returns : Tally → List Fed → Tally
 tally_returns a [] = a
 tally_returns a (r ∷ rs) = tally_returns (tally_return a r) rs
 
--- Its counts as an observer has them: all rows are used. "The tally keeps this state too, by the same rule, over the
--- returns that mark its rows" (document 02, job 2): over its list of their latencies.
+-- Its counts as an observer has them: all rows are used.
 abbrev pub counts_of : Tally → ObserverCounts
 counts_of a = record {
   used = length a.rows;
   duplicate_packets = a.duplicates;
   out_of_order_packets = a.out_of_order;
-  jitter = jitter_of a.latencies;
   gtpu_error_indications = a.error_indications;
 }
 

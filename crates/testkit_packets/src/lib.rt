@@ -25,7 +25,7 @@ use plan::TrafficPlan;
 
 // The version of the interface. The major version rises if a program may have to be changed, otherwise the minor if
 // something was added, otherwise the patch (include/testkit.h).
-pub const VERSION_MAJOR: u32 = 6;
+pub const VERSION_MAJOR: u32 = 5;
 
 pub const VERSION_MINOR: u32 = 0;
 
@@ -34,7 +34,7 @@ pub const VERSION_PATCH: u32 = 0;
 // The version in one number.
 #[unsafe(no_mangle)]
 pub extern "C" fn testkit_version() -> u32
-    ensures { result ≡ version_of 6 0 0 }
+    ensures { result ≡ version_of 5 0 0 }
 {
     VERSION_MAJOR * 65536 + VERSION_MINOR * 256 + VERSION_PATCH
 }

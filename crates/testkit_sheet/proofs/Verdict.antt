@@ -53,7 +53,6 @@ with_latency r l = record {
   max_consecutive_lost_packets = r.max_consecutive_lost_packets;
   max_gap_duration_ns = r.max_gap_duration_ns;
   latency = l;
-  jitter_ns = r.jitter_ns;
   budget = r.budget;
   forwarding_proven = r.forwarding_proven;
   packet_continuity_proven = r.packet_continuity_proven;

@@ -33,7 +33,6 @@ held_to r budget = record {
   latency =
       latency_given r.has_latency
       (record { min_ns = r.min_ns; max_ns = r.max_ns; avg_ns = r.avg_ns });
-  jitter_ns = r.jitter_ns;
   budget = budget;
   forwarding_proven = ltb 0 r.received_packets;
   packet_continuity_proven =

@@ -224,9 +224,7 @@ slice-write-numbers-2 c =
     omega (arith, room at, (in-loop read).loop-test.true, at.loop.inv.11)
 
 add-i-2 : tie.Need-overflow-add-i-2 invariant-loop decreases-loop
-add-i-2 c =
-    let read = c.before.before.before.before.before.before.before.before.before.before.before.before.before.before.before.before in
-    omega (arith, room (looping read), (in-loop read).loop-test.true)
+add-i-2 c = omega arith
 
 loop-less-2 : tie.Need-loop-smaller-2 invariant-loop decreases-loop
 loop-less-2 c = omega arith

@@ -44,23 +44,20 @@ longest-runs-requires c κs = let r = (well-at c.before).room in (omega arith, o
 
 summary-requires : tie.Need-summary-requires
 summary-requires c κs =
-    let g = c.before.before in
+    let g = c.before in
     (omega (arith, few g, (well-at g.before).room.most), g.gather.ensures.bounded)
-
-shown-ns-requires : tie.Need-shown-ns-requires
-shown-ns-requires c κs = search rules
 
 within-budget-requires : tie.Need-within-budget-requires
 within-budget-requires c κs = search rules
 
 returns-2 : tie.Need-returns-2
 returns-2 c =
-    let summed = c.before.before in
-    let worst = summed.before.before.longest-runs in
-    let g = summed.before.before.before in
+    let summed = c.before in
+    let worst = summed.before.longest-runs in
+    let g = summed.before.before in
     let w = well-at g.before in
     let a = (start g.before.before).args in
-    rw (c.within-budget.ensures, c.before.shown-ns.ensures)
+    rw c.within-budget.ensures
     (reported w a.window-start-ns a.window-end-ns a.budget g.gather.result.count worst.result.packets worst.result.duration
     summed.summary.result g.gather.ensures.count worst.ensures.0 worst.ensures.1
     (summed.summary.ensures ∙ summary_of_lem _ g.gather.result g.gather.ensures))
@@ -75,6 +72,5 @@ report-spec =
     sub-lost
     longest-runs-requires
     summary-requires
-    shown-ns-requires
     within-budget-requires
     returns-2)
