@@ -1,6 +1,8 @@
 // The Internet checksum of RFC 1071 (leaf 2; `checksum` of the Rust's measurement.rs), for slices of every length. A
 // message that `verify` accepts was not damaged within one span of 16 bits: the law that the probe rests on
 // (specs/Claims.antt).
+#![tactic(auto)]
+
 ghost use Rattle.std.specs.Prelude.{◌≡◌, ℕ, ◌+◌, ◌^◌, ◌<◌, ◌≤◌, true, eqb, length};
 ghost use Rattle.checksum.specs.Sum.{sum_of, fold_of, checksum_of};
 ghost use Rattle.checksum.specs.Claims.{FoldedSum, SumInParts, PlacedVerifies, DamageFound, Undamaged, Clipped};

@@ -1,4 +1,6 @@
 // Counts that saturate, as with the Rust's `saturating_add(1)`: the run sheet's (leaf 6) and the reflector's (leaf 9).
+#![tactic(auto)]
+
 ghost use Rattle.std.specs.Prelude.{◌≡◌};
 ghost use Rattle.counter.specs.Counter.{one_more};
 

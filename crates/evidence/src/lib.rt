@@ -1,11 +1,13 @@
 // What a run is held to, and how late its packets were (leaf 1; the Rust's evidence.rs without its schema, flow name,
 // serde and redaction).
+#![tactic(auto)]
+
 ghost use Rattle.std.specs.Prelude.{◌≡◌};
 ghost use Rattle.evidence.specs.Budget.{zero_loss};
 
 // The most that a run may lose.
 #[repr(C)]
-#[derive(Drop)]
+#[derive(Clone, Copy)]
 pub struct PacketContinuityBudget {
     // Lost packets in the measurement window.
     pub max_lost_packets: u64,
@@ -29,7 +31,7 @@ impl PacketContinuityBudget {
 }
 
 // The latencies of the packets that returned, in nanoseconds: the least, the greatest, and the mean rounded down.
-#[derive(Drop)]
+#[derive(Clone, Copy)]
 pub struct LatencySummary {
     pub min_ns: u64,
     pub max_ns: u64,
@@ -37,14 +39,14 @@ pub struct LatencySummary {
 }
 
 // The latencies, or none where no packet returned.
-#[derive(Drop)]
+#[derive(Clone, Copy)]
 pub enum Latency {
     Absent,
     Summary(LatencySummary),
 }
 
 // The report on a run: its numbers and two verdicts (leaf 7 says how each is reached).
-#[derive(Drop)]
+#[derive(Clone, Copy)]
 pub struct PacketContinuityReport {
     // The measurement window.
     pub window_start_ns: u64,

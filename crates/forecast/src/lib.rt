@@ -11,14 +11,14 @@ use measurement::{IpVersion, MeasurementHeader};
 use plan::{Interval, TrafficPlan};
 
 // All packets of a plan: how many bytes they have together, and what the last of them carries.
-#[derive(Drop)]
+#[derive(Clone, Copy)]
 pub struct PlannedPackets {
     pub bytes: usize,
     pub last: MeasurementHeader,
 }
 
 // What a plan will be: packets, none (count 0), or refused.
-#[derive(Drop)]
+#[derive(Clone, Copy)]
 pub enum PlanForecast {
     Packets(PlannedPackets),
     Empty,

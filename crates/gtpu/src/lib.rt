@@ -29,14 +29,14 @@ pub const GTPU_MSG_END_MARKER: u8 = 254;
 pub const GTPU_MSG_GPDU: u8 = 255;
 
 // A sequence number that a message may lack.
-#[derive(Drop)]
+#[derive(Clone, Copy)]
 pub enum SequenceNumber {
     Present(u16),
     Absent,
 }
 
 // A parsed GTP-U message, without its payload: what the observer and the reflector are handed.
-#[derive(Drop)]
+#[derive(Clone, Copy)]
 pub struct GtpuMessage {
     pub message_type: u8,
     pub teid: u32,
@@ -93,7 +93,7 @@ const PEER_ADDRESS_PLACE: usize = 2;
 
 // One element, judged: refused by this number, or of which type it is, and how many bytes long, its type and length
 // included. A TEID Data I always has TEID_DATA_I_SIZE.
-#[derive(Drop)]
+#[derive(Clone, Copy)]
 enum JudgedElement {
     Refused(u8),
     TeidData,
@@ -235,7 +235,7 @@ fn walk_elements(
 }
 
 // Whether the elements of an Error Indication are accepted, or by which number they are refused.
-#[derive(Drop)]
+#[derive(Clone, Copy)]
 pub enum ElementsChecked {
     Accepted,
     Refused(u8),
@@ -243,7 +243,7 @@ pub enum ElementsChecked {
 
 // The tunnel that an Error Indication is about: the TEID in its first TEID Data I, and the address in its first GTP-U
 // Peer Address. Of an IPv4 address the first 4 bytes count, and the rest is 0.
-#[derive(Drop)]
+#[derive(Clone, Copy)]
 pub struct RefusedTunnel {
     pub teid: u32,
     pub version: IpVersion,
@@ -252,7 +252,7 @@ pub struct RefusedTunnel {
 
 // The answer about the elements of an Error Indication. The address is an array, so the tunnel stands beside the enum;
 // beside a refusal it is no tunnel.
-#[derive(Drop)]
+#[derive(Clone, Copy)]
 pub struct ElementsResult {
     pub checked: ElementsChecked,
     pub tunnel: RefusedTunnel,

@@ -1,6 +1,8 @@
 // Interarrival jitter (document 02, job 2): RFC 3550, section 6.4.1, in the integer form of its appendix A.8, in
 // nanoseconds. The Rust has none. What stands beside the counts of a run sheet changes here; which return comes first
 // is the sheet's to say.
+#![tactic(auto)]
+
 ghost use Rattle.std.specs.Prelude.{◌≡◌, ◌≤◌};
 ghost use Rattle.jitter.specs.Integer.{size};
 ghost use Rattle.jitter.specs.Jitter.{difference, largest_size, size_taken, stepped, after_first, after_later};
@@ -12,7 +14,7 @@ pub const LARGEST_SIZE: u64 = 576_460_752_303_423_488;
 
 // The state beside a run sheet. Fresh: both 0. Every value is taken.
 #[repr(C)]
-#[derive(Drop)]
+#[derive(Clone, Copy)]
 pub struct JitterState {
     // 16 times the jitter.
     pub scaled_jitter_ns: u64,

@@ -1,6 +1,8 @@
 // Measurement T-PDUs (leaves 3 and 4; the Rust's measurement.rs): the types, and what building and reading share.
 // What they give is defined in measurement_packet and measurement_reading; that the two fit together is proved in
 // measurement_damage. The calls are in measurement_build, measurement_decode and measurement_echo.
+#![tactic(auto)]
+
 ghost use Rattle.std.specs.Prelude.{◌≡◌, ℕ, ◌+◌, ◌^◌, ◌<◌};
 ghost use Rattle.field.specs.Field.{value_of};
 ghost use Rattle.checksum.specs.Sum.{sum_of, fold_of};
@@ -24,7 +26,7 @@ pub const UDP_PROTOCOL: u8 = 17;
 
 pub const MEASUREMENT_MAGIC: u64 = 0x4f50_4344_5054_4b31;
 
-#[derive(Drop)]
+#[derive(Clone, Copy)]
 pub enum IpVersion {
     V4,
     V6,
@@ -52,7 +54,7 @@ pub fn version_number(version: IpVersion) -> u8
 }
 
 // An inner IP/UDP flow. Of an IPv4 address only the first 4 bytes count.
-#[derive(Drop)]
+#[derive(Clone, Copy)]
 pub struct InnerIpFlow {
     pub version: IpVersion,
     pub src: [u8; ADDRESS_BYTES],
@@ -80,7 +82,7 @@ impl InnerIpFlow {
 }
 
 // What a probe carries.
-#[derive(Drop)]
+#[derive(Clone, Copy)]
 pub struct MeasurementHeader {
     pub sequence: u64,
     pub send_timestamp_ns: u64,
@@ -123,28 +125,28 @@ impl MeasurementHeader {
 }
 
 // What reading a T-PDU gives.
-#[derive(Drop)]
+#[derive(Clone, Copy)]
 pub struct DecodedTpdu {
     pub flow: InnerIpFlow,
     pub measurement: MeasurementHeader,
 }
 
 // Whether a T-PDU was read.
-#[derive(Drop)]
+#[derive(Clone, Copy)]
 pub enum Decoding {
     Accepted,
     Refused(u8),
 }
 
 // The reader's answer. The flow has arrays, so it stands beside the enum; beside a refusal it is version 4 and zeros.
-#[derive(Drop)]
+#[derive(Clone, Copy)]
 pub struct DecodeResult {
     pub decoding: Decoding,
     pub tpdu: DecodedTpdu,
 }
 
 // The answer of a call that writes a T-PDU into a lent buffer: how many bytes, or why none.
-#[derive(Drop)]
+#[derive(Clone, Copy)]
 pub enum Written {
     Bytes(usize),
     Refused(u8),

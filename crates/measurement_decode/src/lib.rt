@@ -24,7 +24,7 @@ const IPV6_UDP_BYTES: usize = layout::IPV6_HEADER_BYTES + layout::UDP_HEADER_BYT
 
 // What reading answers: 0 and the values, or a refusal's number and zeros beside version 4. No two neighbouring fields
 // have the same width: such a pair would be copied by one wide load, which waits for both stores.
-#[derive(Drop)]
+#[derive(Clone, Copy)]
 pub struct TpduNumbers {
     pub sequence: u64,
     pub number: u8,

@@ -20,7 +20,7 @@ use rows::{Arrival, Entry};
 // What stands beside the columns. Fresh: all 0. The used count is last, and the counts are first in each answer: copies
 // then go along the pairs of numbers that were stored, and no load waits for two stores.
 #[repr(C)]
-#[derive(Drop)]
+#[derive(Clone, Copy)]
 pub struct ObserverCounts {
     // Returns of a sequence that had returned before.
     pub duplicate_packets: u64,
@@ -115,14 +115,14 @@ impl ObserverCounts {
 }
 
 // Whether a call was taken.
-#[derive(Drop)]
+#[derive(Clone, Copy)]
 pub enum Recording {
     Accepted,
     Refused(u8),
 }
 
 // What a call answers, and the counts as it leaves them.
-#[derive(Drop)]
+#[derive(Clone, Copy)]
 pub struct Recorded {
     pub counts: ObserverCounts,
     pub answer: Recording,

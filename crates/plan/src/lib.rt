@@ -11,7 +11,7 @@ pub const MAXIMUM_PACKETS: u64 = 2048;
 
 // A plan of packets.
 #[repr(C)]
-#[derive(Drop)]
+#[derive(Clone, Copy)]
 pub struct TrafficPlan {
     pub packet_count: u64,
     pub target_rate_pps: u64,
@@ -19,7 +19,7 @@ pub struct TrafficPlan {
 }
 
 // The time from one packet to the next, or why there is none.
-#[derive(Drop)]
+#[derive(Clone, Copy)]
 pub enum Interval {
     Nanoseconds(u64),
     Refused(u8),
@@ -43,7 +43,7 @@ impl TrafficPlan {
 }
 
 // A plan's judgement: its interval, or why it has none; and the next sequence afterwards.
-#[derive(Drop)]
+#[derive(Clone, Copy)]
 pub struct JudgedPlan {
     pub interval: Interval,
     pub next_sequence: u64,

@@ -8,7 +8,7 @@ use return_calls::{GtpuReturnDatagramOutcome, MessageRecorded, ReturnRecording};
 use scenario::Scenario;
 
 // What changes from return to return, beside the columns.
-#[derive(Drop)]
+#[derive(Clone, Copy)]
 pub struct Progress {
     pub counts: ObserverCounts,
     pub state: ReflectorState,

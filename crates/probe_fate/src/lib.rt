@@ -1,4 +1,6 @@
 // What became of a probe in a rehearsal, as a number, from the best to the worst; and the first Error Indication.
+#![tactic(auto)]
+
 ghost use Rattle.std.specs.Prelude.{◌≡◌, ◌<◌};
 
 pub const RETURNED: u8 = 0;
@@ -49,7 +51,7 @@ pub fn note(fates: &mut [u8], refusals: &mut [u64], row: usize, fate: u8) {
 
 // The first Error Indication of a run that was accepted, in the order of arrival: the probe that it answers, and the
 // tunnel that it names, in numbers. `version` is 4 or 6. Probe 0, and no tunnel, where none has come.
-#[derive(Drop)]
+#[derive(Clone, Copy)]
 pub struct FirstIndication {
     pub probe: u64,
     pub teid: u32,

@@ -9,14 +9,14 @@ ghost use Rattle.received_tpdus.specs.Claims.{EndToEnd};
 use observer::ObserverCounts;
 
 // Whether a list of returns was taken, and how many returns it had.
-#[derive(Drop)]
+#[derive(Clone, Copy)]
 pub enum ReturnsRecording {
     Accepted(usize),
     Refused(u8),
 }
 
 // What a list of returns answers, and the counts as it leaves them.
-#[derive(Drop)]
+#[derive(Clone, Copy)]
 pub struct ReturnsRecorded {
     pub counts: ObserverCounts,
     pub answer: ReturnsRecording,

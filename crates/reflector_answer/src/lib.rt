@@ -19,14 +19,14 @@ use measurement::{IpVersion, Written};
 use reflector_sessions::{FoundSession, JudgedTable, ReflectorSession, SocketAddr};
 
 // Where the policy `Route` sends G-PDUs.
-#[derive(Drop)]
+#[derive(Clone, Copy)]
 pub struct RouteTarget {
     pub destination: SocketAddr,
     pub teid: u32,
 }
 
 // What is done with a G-PDU of a known session. The target of `Route` stands beside it, since an enum holds no arrays.
-#[derive(Drop)]
+#[derive(Clone, Copy)]
 pub enum ReflectorPolicy {
     Echo,
     SinkAndCount,
@@ -34,7 +34,7 @@ pub enum ReflectorPolicy {
 }
 
 // What a reflector is set up with. `target` counts under the policy `Route` alone.
-#[derive(Drop)]
+#[derive(Clone, Copy)]
 pub struct MultiSessionReflectorConfig {
     pub max_sessions: usize,
     pub recovery_counter: u8,
@@ -44,7 +44,7 @@ pub struct MultiSessionReflectorConfig {
 
 // The reflector's counts.
 #[repr(C)]
-#[derive(Drop)]
+#[derive(Clone, Copy)]
 pub struct ReflectorStats {
     pub gpdu_received: u64,
     pub gpdu_forwarded: u64,
@@ -55,7 +55,7 @@ pub struct ReflectorStats {
 }
 
 // One of the counts.
-#[derive(Drop)]
+#[derive(Clone, Copy)]
 pub enum ReflectorCounter {
     GpduReceived,
     GpduForwarded,
@@ -67,14 +67,14 @@ pub enum ReflectorCounter {
 
 // What changes from message to message: the counts, and the sequence number of the next Error Indication.
 #[repr(C)]
-#[derive(Drop)]
+#[derive(Clone, Copy)]
 pub struct ReflectorState {
     pub stats: ReflectorStats,
     pub next_error_sequence: u16,
 }
 
 // Why a message is sent.
-#[derive(Drop)]
+#[derive(Clone, Copy)]
 pub enum ReflectorSendReason {
     ReflectedGpdu,
     RoutedGpdu,
@@ -83,7 +83,7 @@ pub enum ReflectorSendReason {
 }
 
 // Why nothing is sent.
-#[derive(Drop)]
+#[derive(Clone, Copy)]
 pub enum ReflectorNoopReason {
     GpduSunk,
     EchoResponseObserved,
@@ -94,7 +94,7 @@ pub enum ReflectorNoopReason {
 
 // What is done with a message. `Send` tells how many bytes at the front of the output are the payload; a routed G-PDU
 // has none there, since its payload is the received one, uncopied.
-#[derive(Drop)]
+#[derive(Clone, Copy)]
 pub enum ReflectorAction {
     Refused(u8),
     Noop(ReflectorNoopReason),
@@ -102,7 +102,7 @@ pub enum ReflectorAction {
 }
 
 // The message to send: where to, and its header's values. Where nothing is sent: version 4, zeros and no sequence.
-#[derive(Drop)]
+#[derive(Clone, Copy)]
 pub struct OutboundMessage {
     pub destination: SocketAddr,
     pub teid: u32,
@@ -111,7 +111,7 @@ pub struct OutboundMessage {
 }
 
 // The answer to a message, and the state that it leaves.
-#[derive(Drop)]
+#[derive(Clone, Copy)]
 pub struct Handled {
     pub action: ReflectorAction,
     pub message: OutboundMessage,

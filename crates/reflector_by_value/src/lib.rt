@@ -17,14 +17,14 @@ use testkit_reflector::{
 };
 
 // What registering answers, and the rows that it leaves.
-#[derive(Drop)]
+#[derive(Clone, Copy)]
 pub struct RegisteredRows {
     pub registered: TestkitRegistered,
     pub rows: [ReflectorSession; 6],
 }
 
 // What removal answers, and the rows that it leaves.
-#[derive(Drop)]
+#[derive(Clone, Copy)]
 pub struct RemovedRows {
     pub removed: TestkitRemoved,
     pub rows: [ReflectorSession; 6],

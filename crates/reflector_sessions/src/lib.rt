@@ -17,7 +17,7 @@ use measurement::IpVersion;
 
 // A UDP socket address: the Rust's `SocketAddr`, where flow info and scope are 0. Of an IPv4 address only the first 4
 // bytes count.
-#[derive(Drop)]
+#[derive(Clone, Copy)]
 pub struct SocketAddr {
     pub version: IpVersion,
     pub address: [u8; 16],
@@ -27,7 +27,7 @@ pub struct SocketAddr {
 // A `SocketAddr` in lent memory, where any byte may stand: the version is a number, 4 for IPv4 and every other for
 // IPv6.
 #[repr(C)]
-#[derive(Drop)]
+#[derive(Clone, Copy)]
 pub struct LentSocketAddr {
     pub version: u8,
     pub address: [u8; 16],
@@ -36,7 +36,7 @@ pub struct LentSocketAddr {
 
 // A session: under the policy `Echo`, G-PDUs for the local TEID are echoed to the peer's TEID and address.
 #[repr(C)]
-#[derive(Drop)]
+#[derive(Clone, Copy)]
 pub struct ReflectorSession {
     pub local_teid: u32,
     pub peer_teid: u32,
@@ -58,21 +58,21 @@ impl LentSocketAddr {
 }
 
 // A table judged: how many rows are used, or why it is refused.
-#[derive(Drop)]
+#[derive(Clone, Copy)]
 pub enum JudgedTable {
     Used(usize),
     Refused(u8),
 }
 
 // A search's result: the first row of a TEID, and its place. Where there is none, the place is past the rows searched.
-#[derive(Drop)]
+#[derive(Clone, Copy)]
 pub struct FoundSession {
     pub place: usize,
     pub session: ReflectorSession,
 }
 
 // Whether a session was registered: appended, there already, or refused.
-#[derive(Drop)]
+#[derive(Clone, Copy)]
 pub enum Registration {
     Added,
     Unchanged,
@@ -80,14 +80,14 @@ pub enum Registration {
 }
 
 // What registering answers, and the used count that it leaves.
-#[derive(Drop)]
+#[derive(Clone, Copy)]
 pub struct Registered {
     pub registration: Registration,
     pub used: usize,
 }
 
 // Whether a session was removed.
-#[derive(Drop)]
+#[derive(Clone, Copy)]
 pub enum Removal {
     Removed,
     NotFound,
@@ -95,7 +95,7 @@ pub enum Removal {
 }
 
 // What removal answers, the used count that it leaves, and the session that was removed, or zeros.
-#[derive(Drop)]
+#[derive(Clone, Copy)]
 pub struct RemovedSession {
     pub removal: Removal,
     pub used: usize,

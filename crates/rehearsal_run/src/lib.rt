@@ -192,7 +192,7 @@ fn window_end(s: &Scenario, send_timestamps: &[u64]) -> u64 {
 }
 
 // What a rehearsal leaves beside the run sheet.
-#[derive(Drop)]
+#[derive(Clone, Copy)]
 pub struct Rehearsed {
     pub reported: Reported,
     pub state: ReflectorState,

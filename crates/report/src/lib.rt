@@ -15,14 +15,14 @@ use evidence::{Latency, LatencySummary, PacketContinuityBudget, PacketContinuity
 use observer::ObserverCounts;
 
 // The report, or why there is none.
-#[derive(Drop)]
+#[derive(Clone, Copy)]
 pub enum Reported {
     Given(PacketContinuityReport),
     Refused(u8),
 }
 
 // The latencies of the rows that returned: how many, the least, the greatest, and their sum in two words.
-#[derive(Drop)]
+#[derive(Clone, Copy)]
 struct Gathered {
     pub count: u64,
     pub low: u64,
@@ -32,7 +32,7 @@ struct Gathered {
 }
 
 // The longest run of rows that did not return, by count and by duration.
-#[derive(Drop)]
+#[derive(Clone, Copy)]
 pub struct LongestRuns {
     pub packets: u64,
     pub duration: u64,

@@ -20,7 +20,7 @@ use gtpu::{ElementsChecked, GtpuMessage, RefusedTunnel};
 use observer::{ObserverCounts, Recorded, Recording};
 
 // What a returned message was.
-#[derive(Drop)]
+#[derive(Clone, Copy)]
 pub enum GtpuReturnDatagramOutcome {
     MeasurementTpdu,
     ErrorIndication,
@@ -29,7 +29,7 @@ pub enum GtpuReturnDatagramOutcome {
 }
 
 // Whether a message was taken, and as what.
-#[derive(Drop)]
+#[derive(Clone, Copy)]
 pub enum ReturnRecording {
     Accepted(GtpuReturnDatagramOutcome),
     Refused(u8),
@@ -37,7 +37,7 @@ pub enum ReturnRecording {
 
 // What a call answers to a message, and the counts as it leaves them. The tunnel is the one that an accepted Error
 // Indication names; beside every other answer it is no tunnel.
-#[derive(Drop)]
+#[derive(Clone, Copy)]
 pub struct MessageRecorded {
     pub counts: ObserverCounts,
     pub answer: ReturnRecording,
@@ -45,7 +45,7 @@ pub struct MessageRecorded {
 }
 
 // What a T-PDU reads as: its sequence beside 0, or 0 beside the number of the reader's refusal.
-#[derive(Drop)]
+#[derive(Clone, Copy)]
 pub struct SequenceRead {
     pub sequence: u64,
     pub number: u8,
@@ -64,7 +64,7 @@ pub fn read_sequence(tpdu: &[u8]) -> SequenceRead
 }
 
 // What came back, as it was read: reading changes nothing, and 21 is judged after it.
-#[derive(Drop)]
+#[derive(Clone, Copy)]
 enum Returned {
     // A T-PDU of this sequence.
     Sequence(u64),
@@ -87,7 +87,7 @@ fn read_tpdu(tpdu: &[u8]) -> Returned
 }
 
 // A message as it was read: what came back, and the tunnel that it names.
-#[derive(Drop)]
+#[derive(Clone, Copy)]
 struct ReadMessage {
     returned: Returned,
     tunnel: RefusedTunnel,

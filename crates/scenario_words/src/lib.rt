@@ -58,7 +58,7 @@ pub const WINDOW_PAST_COUNT: u8 = 8;
 pub const NO_LOSS: u8 = 9;
 
 // What became of words: accepted, or the first reason and its row.
-#[derive(Drop)]
+#[derive(Clone, Copy)]
 pub struct Judged {
     pub reason: u8,
     pub word: usize,

@@ -29,7 +29,7 @@ use reflector_sessions::{
 // What registering answers: 0 and whether the session was added, or a refusal's number; and the used count that it
 // leaves.
 #[repr(C)]
-#[derive(Drop)]
+#[derive(Clone, Copy)]
 pub struct TestkitRegistered {
     pub number: u8,
     pub added: bool,
@@ -39,7 +39,7 @@ pub struct TestkitRegistered {
 // What removal answers: 0 and whether a session was removed, or a refusal's number; the used count that it leaves, and
 // the session, or zeros.
 #[repr(C)]
-#[derive(Drop)]
+#[derive(Clone, Copy)]
 pub struct TestkitRemoved {
     pub number: u8,
     pub removed: bool,
@@ -135,7 +135,7 @@ pub const POLICY_ROUTE: u8 = 2;
 
 // What a reflector is set up with. The target counts under the policy route alone.
 #[repr(C)]
-#[derive(Drop)]
+#[derive(Clone, Copy)]
 pub struct TestkitReflectorConfig {
     pub max_sessions: usize,
     pub recovery_counter: u8,
@@ -147,7 +147,7 @@ pub struct TestkitReflectorConfig {
 // A GTP-U message without its payload, as it came or as it is to be sent. It has no sequence if `has_sequence` is 0; in
 // a message to be sent that is 0 or 1.
 #[repr(C)]
-#[derive(Drop)]
+#[derive(Clone, Copy)]
 pub struct TestkitGtpuMessage {
     pub message_type: u8,
     pub teid: u32,
@@ -186,7 +186,7 @@ pub const SEND_ERROR_INDICATION: u8 = 4;
 // or 0. `bytes` says how much of the payload to send is in the output: nothing of a routed one, which is the received
 // payload. Where nothing is sent the destination is version 4 and zeros, and the message zeros.
 #[repr(C)]
-#[derive(Drop)]
+#[derive(Clone, Copy)]
 pub struct TestkitHandled {
     pub number: u8,
     pub action: u8,
@@ -199,7 +199,7 @@ pub struct TestkitHandled {
 }
 
 // An action in numbers.
-#[derive(Drop)]
+#[derive(Clone, Copy)]
 struct ActionNumbers {
     number: u8,
     action: u8,
@@ -209,7 +209,7 @@ struct ActionNumbers {
 }
 
 // A sequence number: 1 and its value, or 0 and 0 if there is none.
-#[derive(Drop)]
+#[derive(Clone, Copy)]
 struct SequenceNumbers {
     present: u8,
     value: u16,

@@ -29,7 +29,7 @@ use verdict::Verdict;
 
 // What an observer's call answers: 0 or a refusal's number, and the counts as it leaves them.
 #[repr(C)]
-#[derive(Drop)]
+#[derive(Clone, Copy)]
 pub struct TestkitRecorded {
     pub counts: ObserverCounts,
     pub number: u8,
@@ -130,7 +130,7 @@ pub extern "C" fn testkit_record_sent_plan(
 // What a list of returns answers: 0 and how many returns it had, or the number of a refusal of the whole list and 0;
 // and the counts afterwards.
 #[repr(C)]
-#[derive(Drop)]
+#[derive(Clone, Copy)]
 pub struct TestkitReturnsRecorded {
     pub counts: ObserverCounts,
     pub number: u8,
@@ -215,7 +215,7 @@ pub const OUTCOME_IGNORED: u8 = 4;
 // What is answered to a datagram: 0 or a refusal's number; what it was; the type of an ignored message, else 0; the
 // counts; and the tunnel that an accepted Error Indication names, else zeros beside version 4.
 #[repr(C)]
-#[derive(Drop)]
+#[derive(Clone, Copy)]
 pub struct TestkitDatagramRecorded {
     pub counts: ObserverCounts,
     pub number: u8,
@@ -318,7 +318,7 @@ pub extern "C" fn testkit_record_return_gtpu_datagram(
 
 // The report in numbers: 0 and the report, or a refusal's number and zeros.
 #[repr(C)]
-#[derive(Drop)]
+#[derive(Clone, Copy)]
 pub struct TestkitContinuityReport {
     pub number: u8,
     pub window_start_ns: u64,
@@ -341,7 +341,7 @@ pub struct TestkitContinuityReport {
 }
 
 // The latencies of a report: whether there are any, and the three numbers.
-#[derive(Drop)]
+#[derive(Clone, Copy)]
 struct LatencyNumbers {
     present: bool,
     summary: LatencySummary,
@@ -471,7 +471,7 @@ pub const VERDICT_NO_REPORT: u8 = 6;
 
 // The verdict in numbers: the reason, the report's number that it is about and the budget's, 0 where it has none.
 #[repr(C)]
-#[derive(Drop)]
+#[derive(Clone, Copy)]
 pub struct TestkitVerdict {
     pub reason: u8,
     pub measured: u64,

@@ -46,7 +46,7 @@ fn write_packets(
 }
 
 // How many bytes were written, or why none; and the next sequence.
-#[derive(Drop)]
+#[derive(Clone, Copy)]
 struct Generated {
     written: Written,
     next_sequence: u64,
@@ -103,7 +103,7 @@ pub fn generate_from(
 }
 
 // The generator's own record: the sequence of the next packet.
-#[derive(Drop)]
+#[derive(Clone, Copy)]
 pub struct TrafficEngine {
     pub next_sequence: u64,
 }

@@ -7,7 +7,7 @@ use measurement::{ADDRESS_BYTES, IpVersion};
 const GROUPS: usize = 8;
 
 // Groups that follow each other: the first, and the one after the last.
-#[derive(Drop)]
+#[derive(Clone, Copy)]
 struct Run {
     start: usize,
     end: usize,

@@ -7,7 +7,7 @@ ghost use Rattle.verdict.specs.Claims.{PassesIfKept, ReasonsAreTrue};
 use evidence::PacketContinuityReport;
 
 // The verdict on a report. Beside a reason stand the number that was too large and the budget's, in this order.
-#[derive(Drop)]
+#[derive(Clone, Copy)]
 pub enum Verdict {
     Pass,
     NothingReturned,

@@ -1,0 +1,17 @@
+-- `checksum::sum_blocks` meets its contract. The loop's invariant: the sum so far and the words that are left fold to what all fold to.
+use Prim.Native.Nat.{ℕ, ◌+◌, ◌-◌, ◌<◌, ◌≤◌}
+use mathlib.Core.Path.{◌≡◌, refl, ap, ◌∙◌}
+use borrow.Author.Rules.{rules}
+use native.Mathlib.Omega.{arith}
+use mathlib.Core.List.{List}
+use lib.ListN.{length, drop, length-drop}
+use lib.Seq.{take_all}
+use Rattle.checksum.specs.Sum.{sum_of, fold_of}
+use Rattle.checksum.proofs.Sums.{block_added, block_turn}
+use Rattle.checksum.proofs.sum_blocks.Given as goal
+
+abbrev pub invariant-loop-i : goal.invariant-loop-i
+invariant-loop-i l = (l.i ≤ length l.bytes) × (l.sum < 65536) × (fold_of (l.sum + sum_of (drop l.i l.bytes)) ≡ fold_of (l.start + sum_of l.bytes))
+
+abbrev pub decreases-loop-i : goal.decreases-loop-i
+decreases-loop-i l = length l.bytes - l.i
