@@ -1,6 +1,5 @@
 -- `measurement::pseudo_header_words` meets its contract.
 use native.Mathlib.Omega.{arith}
-use borrow.Author.Rules.{rules}
 use Rattle.measurement.proofs.Pseudo.{pseudo_folds}
 use Rattle.measurement.proofs.pseudo_header_words.Goals as goal
 

@@ -2,7 +2,6 @@
 use Prim.Native.Nat.{ℕ}
 use mathlib.Core.Path.{ap₂}
 use mathlib.Core.List.{List, ◌++◌}
-use borrow.Author.Rules.{rules}
 use Rattle.field.proofs.Fields.{shifted_bytes}
 use Rattle.measurement.specs.Probe.{probe, measurement_magic}
 use Rattle.measurement.proofs.MeasurementHeader.encode.Goals as goal
