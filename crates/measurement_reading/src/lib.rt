@@ -1,6 +1,8 @@
 // Reading a T-PDU (leaf 4): the definition is in specs/, and the call that reads one is in measurement_decode. What is
 // proved of it (specs/Claims.antt, specs/Fragments.antt, specs/Padding.antt) is on the contracts of functions that do
 // nothing.
+#![tactic(auto)]
+
 ghost use Rattle.measurement_reading.specs.Claims.{ReadingNumbers, CutIsNot4, CutExamples};
 ghost use Rattle.measurement_reading.specs.Fragments.{FragmentsNotRead, RefusedAsFragment};
 ghost use Rattle.measurement_reading.specs.Padding.{JudgedByRfcs, PaddingIgnored, PaddingExamples};
