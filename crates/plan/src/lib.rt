@@ -1,5 +1,7 @@
 // Traffic plans and how they are judged (leaf 5; `TrafficPlan` of the Rust's traffic.rs). One judge serves every call
 // that is handed a plan. specs/Plan.antt defines why a plan is refused and which packets it asks for.
+#![tactic(auto)]
+
 ghost use Rattle.std.specs.Prelude.{◌≡◌, ◌<◌};
 ghost use Rattle.plan.specs.Plan.{interval_of, interval_means, judge_packets, judge_plan};
 ghost use Rattle.plan.specs.Claims.{AcceptedIfAcceptable, AcceptableIfAccepted, SequenceDecides, TimeDecides};
