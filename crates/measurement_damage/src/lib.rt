@@ -1,6 +1,8 @@
 // What is proved of building, reading and echoing together (specs/Claims.antt, specs/Fragments.antt,
 // specs/Padding.antt), on the contracts of functions that do nothing. The echo is defined here; the call that echoes is
 // in measurement_echo.
+#![tactic(auto)]
+
 ghost use Rattle.measurement_damage.specs.Claims.{ReadsBack, EchoIsReversed, EchoOfEcho};
 ghost use Rattle.measurement_damage.specs.Claims.{DamageFound, SentIsRead, LegsChained};
 ghost use Rattle.measurement_damage.specs.Fragments.{BuiltWithFlags, FragmentsNotEchoed};
