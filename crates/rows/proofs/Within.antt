@@ -1,5 +1,5 @@
 -- How many rows there is room for.
-use Prim.Native.Nat.{ℕ, ◌≤◌, ◌<◌}
+use Prim.Native.Nat.{ℕ, ◌+◌, ◌≤◌, ◌<◌}
 use mathlib.Core.Path.{◌≡◌, refl}
 use mathlib.Core.Bool.{true}
 use mathlib.Core.List.{List, [], ◌∷◌}
@@ -32,6 +32,10 @@ within n c h =
 -- a row that has the sequence is in use
 pub held_used : (q k n : ℕ) (column : List ℕ) → holds q k (take n column) ≡ true → k < n
 held_used q k n column e = omega (arith, held_within q k (take n column) e, length-take n column)
+
+-- where the used rows fit, each column has the row of a sequence
+pub reached : (q k n room : ℕ) (c : Columns) → room ≡ capacity_of (column_lengths c) → n ≤ room → holds q k (take n c.sequences) ≡ true → Within (k + 1) c
+reached q k n room c e fits has = within _ _ (omega (arith, held_used q k n c.sequences has))
 
 -- columns of 2,048 entries or more hold 2,048 rows
 pub holds_2048 : (lengths : List ℕ) → EachHas 2048 lengths → capacity_of lengths ≡ 2048

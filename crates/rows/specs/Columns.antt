@@ -2,7 +2,7 @@
 -- them as one record.
 use Rattle.std.specs.Prelude.{ℕ, ◌≤◌, min, ◌≡◌, List, [], ◌∷◌, length}
 use denote.Triple.Both.{Both}
-use Rattle.std.specs.Borrow.{Bor}
+use Rattle.std.specs.Borrow.{Bor, MutBor}
 
 -- "Lent columns: sequence, send time, latency .., mark" (document 01, leaf 6), and "a fifth column, the return time of
 -- the first accepted return" (document 02, job 8).
@@ -48,16 +48,35 @@ pub record Left (Answer : Type 0) : Type 0 where
 
 -- ---- in contracts
 
--- A column that a call is lent: what it refers to when the call begins (entry), and when it returns (exit).
+-- A column that a call is lent to read: what it refers to when the call begins (entry), and when it returns (exit).
 abbrev pub Column : Type 0
 Column = Both (Bor (List ℕ)) (Bor (List ℕ))
+
+-- The same of a column that the call may write.
+abbrev pub WrittenColumn : Type 0
+WrittenColumn = Both (MutBor (List ℕ)) (MutBor (List ℕ))
 
 -- All columns, when the call begins and when it returns.
 abbrev pub Sheet : Type 0
 Sheet = Both Columns Columns
 
+-- All columns of a call that only reads them.
 abbrev pub sheet : Column → Column → Column → Column → Column → Sheet
 sheet qs ts ls ms rs = record {
+  entry = columns_of qs.entry.now ts.entry.now ls.entry.now ms.entry.now rs.entry.now;
+  exit = columns_of qs.exit.now ts.exit.now ls.exit.now ms.exit.now rs.exit.now;
+}
+
+-- All columns of a call that may write each of them.
+abbrev pub written_sheet : WrittenColumn → WrittenColumn → WrittenColumn → WrittenColumn → WrittenColumn → Sheet
+written_sheet qs ts ls ms rs = record {
+  entry = columns_of qs.entry.now ts.entry.now ls.entry.now ms.entry.now rs.entry.now;
+  exit = columns_of qs.exit.now ts.exit.now ls.exit.now ms.exit.now rs.exit.now;
+}
+
+-- All columns of a call that marks rows: it only reads sequences and send times.
+abbrev pub marked_sheet : Column → Column → WrittenColumn → WrittenColumn → WrittenColumn → Sheet
+marked_sheet qs ts ls ms rs = record {
   entry = columns_of qs.entry.now ts.entry.now ls.entry.now ms.entry.now rs.entry.now;
   exit = columns_of qs.exit.now ts.exit.now ls.exit.now ms.exit.now rs.exit.now;
 }
