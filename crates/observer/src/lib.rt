@@ -3,9 +3,11 @@
 // beside the answer. Each call judges the columns first (21); the crate `rows` then changes the row. specs/ defines
 // what a call answers and leaves, and its contract is that one equation (`records`): answer, counts and every column at
 // exit, on refusals too. The crates above have the calls for returns and for whole plans.
+#![tactic(auto)]
+
 ghost use Rattle.std.specs.Prelude.{◌≡◌};
 ghost use Rattle.error.specs.Outcome.{outcome_number};
-ghost use Rattle.rows.specs.Columns.{sheet};
+ghost use Rattle.rows.specs.Columns.{sheet, written_sheet};
 ghost use Rattle.observer.specs.Counts.{one_duplicate, one_out_of_order, one_error_indication, with_used};
 ghost use Rattle.observer.specs.Judge.{well_formed};
 ghost use Rattle.observer.specs.Sending.{record_sent};
@@ -178,7 +180,7 @@ pub fn record_sent(
     sequence: u64,
     send_timestamp_ns: u64,
 ) -> Recorded
-    ensures { records (sheet sequences send_timestamps latencies marks arrival_timestamps) counts result
+    ensures { records (written_sheet sequences send_timestamps latencies marks arrival_timestamps) counts result
         (λ o. record_sent o sequence send_timestamp_ns) }
 {
     if !well_formed(
