@@ -1,5 +1,5 @@
 -- A number of two words divided by n, in digits of 32 bits.
-use Prim.Native.Nat.{ℕ, ◌+◌, ◌-◌, ◌*◌, ◌/◌, ◌%◌, ◌≤◌, ◌<◌}
+use Prim.Native.Nat.{ℕ, ◌+◌, ◌*◌, ◌/◌, ◌%◌, ◌≤◌, ◌<◌}
 use mathlib.Core.Path.{◌≡◌, refl, sym, ap, ◌∙◌}
 use mathlib.Core.Bool.{Bool, true, false}
 use native.Mathlib.Nat.{mul_right_comm, mul-le-mul_right, mul-add, div-add-mod', mod-lt, div-lt_iff_lt-mul, mul-add-div_right}

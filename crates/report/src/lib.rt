@@ -1,6 +1,8 @@
 // The report on a run: document 01's leaf 7 (`ContinuityObserver::report` of the Rust's traffic.rs). One pass over the
 // rows gathers the latencies, whose sum takes two words, and one the runs of lost packets. What the report says is
 // defined in specs/Report.antt.
+#![tactic(auto)]
+
 ghost use Rattle.std.specs.Prelude.{◌≡◌, ◌≤◌, ◌<◌, ◌+◌, ◌/◌, max, length, take};
 ghost use Rattle.evidence.specs.Latency.{latency_means};
 ghost use Rattle.rows.specs.Columns.{sheet};
