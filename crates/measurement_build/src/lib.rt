@@ -1,4 +1,6 @@
 // Building a measurement T-PDU into a lent buffer (leaf 3; `build_measurement_tpdu` of the Rust's measurement.rs).
+#![tactic(auto)]
+
 ghost use Rattle.std.specs.Prelude.{◌≡◌, ℕ, ◌+◌, ◌-◌, ◌/◌, ◌%◌, ◌^◌, ◌<◌, ◌≤◌, ◌++◌, length, take, drop};
 ghost use Rattle.field.specs.Field.{bytes_at};
 ghost use Rattle.checksum.specs.Sum.{sum_of, fold_of};
@@ -62,7 +64,7 @@ fn put(out: &mut [u8], at: usize, bytes: &[u8])
         ≡ take at out.old
         ++ (bytes.now ++ drop (at + length bytes.now) out.old) }
 {
-    bytes::copy(bytes, &mut out[at..]);
+    out[at..at + bytes.len()].copy_from_slice(bytes);
 }
 
 // The IPv6 header.
