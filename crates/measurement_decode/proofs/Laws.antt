@@ -102,14 +102,11 @@ ipv4_made l at =
     ap₂ (λ (b c : ℕ). four (get_or l at 0) b c (get_or l (at + 3) 0)) (place l (at + 1) (suc at) (omega arith)) (place l (at + 2) (suc (suc at)) (omega arith))
     ∙ ap (λ (d : ℕ). four (get_or l at 0) (get_or l (suc at) 0) (get_or l (suc (suc at)) 0) d) (place l (at + 3) (suc (suc (suc at))) (omega arith))
 
-pub ipv6_copied : (l part : List ℕ) (at : ℕ) → at + 16 ≤ length l → part ≡ take (at + 16 - at) (drop at l)
-    → take (length part) part ++ drop (length part) (replicate 16 0) ≡ bytes_at 16 at l
-ipv6_copied l part at h e =
+pub ipv6_copied : (l : List ℕ) (at : ℕ) → at + 16 ≤ length l → take (at + 16 - at) (drop at l) ≡ bytes_at 16 at l
+ipv6_copied l at h =
     let k : at + 16 - at ≡ 16 = omega arith in
-    let p : part ≡ bytes_at 16 at l =
-    e ∙ ap (λ (n : ℕ). take n (drop at l)) k ∙ front_bytes 16 (drop at l) (simp length-drop (omega arith))
-    ∙ sym (bytes_at_drop 16 at 0 l) ∙ ap (λ (n : ℕ). bytes_at 16 n l) (add-zero at) in
-    ap (λ (x : List ℕ). take (length x) x ++ drop (length x) (replicate 16 0)) p
+    ap (λ (n : ℕ). take n (drop at l)) k ∙ front_bytes 16 (drop at l) (simp length-drop (omega arith))
+    ∙ sym (bytes_at_drop 16 at 0 l) ∙ ap (λ (n : ℕ). bytes_at 16 n l) (add-zero at)
 
 -- the two addresses of a packet, which stand one behind the other
 pub addresses : (v : IpVersion) (p : List ℕ) (a b c x y : ℕ) → a + address_length v ≤ b → b + address_length v ≤ c

@@ -2,6 +2,8 @@
 // first, which gives one number; its values are read only if it is accepted. A struct handed up through several
 // functions would be copied each time. The tests stand in the order of the rows in specs/Read.antt of
 // measurement_reading. A slice is sliced again where it is passed on, as in `checksum::sum`.
+#![tactic(auto)]
+
 ghost use Rattle.std.specs.Prelude.{◌≡◌, ℕ, ◌+◌, ◌*◌, ◌%◌, ◌^◌, ◌<◌, ◌≤◌, false, List, length};
 ghost use Rattle.error.specs.Outcome.{refused, gives, outcome_number};
 ghost use Rattle.field.specs.Field.{bytes_at, field};
@@ -263,7 +265,7 @@ fn ipv6_address(tpdu: &[u8], at: usize) -> [u8; 16]
 {
     let mut address = [0; 16];
     let end = at + 16;
-    bytes::copy(&tpdu[at..end], &mut address);
+    address.copy_from_slice(&tpdu[at..end]);
     address
 }
 
