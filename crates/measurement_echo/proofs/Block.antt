@@ -1,10 +1,10 @@
 -- What the block holds after building, and what the echo answers.
-use Prim.Native.Nat.{ℕ, ◌+◌, ◌<◌, ◌≤◌}
+use Prim.Native.Nat.{ℕ, ◌<◌, ◌≤◌}
 use native.Mathlib.Omega.{arith}
 use mathlib.Core.Path.{◌≡◌, refl, sym, ap, ap₂, ◌∙◌}
 use mathlib.Core.List.{List, ◌++◌}
 use lib.ListN.{length, take, drop, replicate}
-use lib.Seq.{take_at, take_all}
+use lib.Seq.{take_at}
 use borrow.Author.Tests.{lt-ltb}
 use Rattle.error.specs.Outcome.{Outcome, refused, gives}
 use Rattle.error.proofs.Causes.{refused_gives}
@@ -52,13 +52,12 @@ module _ (f : InnerIpFlow) (s t : ℕ) where
       unfolding writing
       out_short out h = rw (lt-ltb (length out) (length (build_of f s t)) (omega (arith, count_is)), writing)
 
-      pub out_copied : (out x : List ℕ) → n ≤ length out → x ≡ take (length (take n block)) (take n block) ++ drop (length (take n block)) out
-          → wrote (written.Bytes n) x ≡ writing (build_of f s t) out
+      pub out_copied : (out x : List ℕ) → n ≤ length out → x ≡ take n block
+          → wrote (written.Bytes n) (x ++ drop n out) ≡ writing (build_of f s t) out
       out_copied out x h ex =
           let b = build_of f s t in
-          let p : x ≡ b ++ drop (length b) out =
-          ex ∙ ap (λ (y : List ℕ). take (length y) y ++ drop (length y) out) front_is
-          ∙ ap (λ (y : List ℕ). y ++ drop (length b) out) (take_all (length b) b (omega arith)) in
+          let p : x ++ drop n out ≡ b ++ drop (length b) out =
+          ap (λ (y : List ℕ). y ++ drop n out) (ex ∙ front_is) ∙ ap (λ (m : ℕ). b ++ drop m out) count_is in
           ap₂ (λ (m : ℕ) (y : List ℕ). wrote (written.Bytes m) y) count_is p ∙ writing_fits b out (omega (arith, count_is))
 
 -- the echo's answer to what was read

@@ -1,4 +1,6 @@
 // The echo of a measurement T-PDU (leaf 4; `echo_tpdu` of the Rust's measurement.rs).
+#![tactic(auto)]
+
 ghost use Rattle.std.specs.Prelude.{◌≡◌, ℕ, replicate};
 ghost use Rattle.measurement.specs.Answer.{wrote, writing, writing_of};
 ghost use Rattle.measurement.specs.declared.InnerIpFlow.{InnerIpFlow};
@@ -22,7 +24,7 @@ fn copy_out(built: Written, block: &[u8], out: &mut [u8]) -> Written
             if out.len() < n {
                 return Written::Refused(error::OUTPUT_TOO_SHORT);
             }
-            bytes::copy(&block[..n], out);
+            out[..n].copy_from_slice(&block[..n]);
             Written::Bytes(n)
         }
     }
