@@ -2,8 +2,8 @@
 use Prim.Native.Nat.{ℕ, ◌+◌, ◌≤◌}
 use native.Mathlib.Omega.{arith}
 use mathlib.Core.Path.{◌≡◌, refl, sym, ap, ap₂, ◌∙◌}
-use mathlib.Core.Logic.{◌⊎◌, ⊎_elim}
-use mathlib.Core.List.{List, ◌∷◌, ◌++◌}
+use mathlib.Core.Logic.{⊎_elim}
+use mathlib.Core.List.{List, ◌∷◌}
 use mathlib.Core.Bool.{Bool, true, false}
 use lib.Dec.{eqb}
 use lib.ListN.{length, take, drop, get_or, replicate, length-drop}
@@ -30,11 +30,10 @@ module _ (l : List ℕ) (n : ℕ) (en : n ≡ value_length l) where
   pub is_16 : PeerAddress l → (n ≡ 4 → ⊥) → value_length l ≡ 16
   is_16 is other = ⊎_elim (λ four. absurd (other (en ∙ four))) (λ sixteen. sixteen) is.octets
 
-pub copied_16 : (l part : List ℕ) → value_length l ≡ 16 → 3 + 16 ≤ length l → part ≡ take 16 (drop 3 l)
-    → take (length part) part ++ drop (length part) (replicate 16 0) ≡ address_in l
+pub copied_16 : (l part : List ℕ) → value_length l ≡ 16 → 3 + 16 ≤ length l → part ≡ take 16 (drop 3 l) → part ≡ address_in l
 unfolding padded
 copied_16 l part is fits e =
-    ap (λ (x : List ℕ). take (length x) x ++ drop (length x) (replicate 16 0)) (e ∙ front_bytes 16 (drop 3 l) (omega (arith, length-drop 3 l)) ∙ sym (bytes_at_drop 16 3 0 l))
+    e ∙ front_bytes 16 (drop 3 l) (omega (arith, length-drop 3 l)) ∙ sym (bytes_at_drop 16 3 0 l)
     ∙ ap (λ (k : ℕ). padded (bytes_at k 3 l)) (sym is)
 
 -- the element is the front of the rest, and has the same values

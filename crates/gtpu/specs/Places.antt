@@ -82,8 +82,8 @@ pub record PeerAddress (list : List ℕ) : Type 0 where
   pub fits : 3 + value_length list ≤ length list
 
 -- The two stand at these places.
-pub record Placed (payload : List ℕ) (teid_data peer_address : ℕ) : Type 0 where
-  pub teid_within : teid_data ≤ length payload
-  pub teid_data : TeidData (from_place payload teid_data)
-  pub peer_within : peer_address ≤ length payload
-  pub peer_address : PeerAddress (from_place payload peer_address)
+pub record Placed (payload : List ℕ) (teid_data_at peer_address_at : ℕ) : Type 0 where
+  pub teid_within : teid_data_at ≤ length payload
+  pub teid_data : TeidData (from_place payload teid_data_at)
+  pub peer_within : peer_address_at ≤ length payload
+  pub peer_address : PeerAddress (from_place payload peer_address_at)

@@ -1,6 +1,8 @@
 // GTP-U (the Rust's gtpu.rs, without its codec): the message types, a parsed message, and the information elements of
 // an Error Indication, document 01's leaf 8. How a list of elements is judged is defined in specs/Element.antt, and
 // which tunnel an accepted list names in specs/Indication.antt (document 02, job 7).
+#![tactic(auto)]
+
 ghost use Rattle.std.specs.Prelude.{◌≡◌, ◌<◌, ◌≤◌, length, get_or};
 ghost use Rattle.error.specs.Outcome.{refused, gives, outcome_number};
 ghost use Rattle.gtpu.specs.Message.{message_types_of};
@@ -309,7 +311,7 @@ fn address_in(list: &[u8]) -> [u8; ADDRESS_BYTES]
         ];
     }
     let mut address = [0; 16];
-    bytes::copy(&list[VALUE_START..VALUE_START + 16], &mut address);
+    address.copy_from_slice(&list[VALUE_START..VALUE_START + 16]);
     address
 }
 
