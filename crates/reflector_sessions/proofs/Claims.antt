@@ -272,7 +272,7 @@ register_unique t u session = go (register_session t session).outcome refl
 -- a removal that gave a record: the used rows, one more than are left, and the hole among them
 pub record Taken (t : Table) (teid : ℕ) : Type 0 where
   pub left : ℕ
-  pub one_more_lem : t.used ≡ left + 1
+  pub one_more : t.used ≡ left + 1
   pub within : left + 1 ≤ length t.sessions
   pub hole : place_of teid (used_rows t) < left + 1
   pub there : teid_at (place_of teid (used_rows t)) t.sessions ≡ teid
@@ -298,7 +298,7 @@ module _ (t : Table) (teid : ℕ) where
           let l = there.0 in
           record {
             left = t.used - 1;
-            one_more_lem = omega arith;
+            one_more = omega arith;
             within = omega arith;
             hole = omega arith;
             there = sym (teid_is t.sessions t.used within (place_of teid (used_rows t)) (omega arith)) ∙ there.1;

@@ -1,5 +1,5 @@
 -- What a search of the session table finds: row by row, as the code goes; what that is by the definitions; and of a table.
-use Prim.Native.Nat.{ℕ, suc, ◌+◌, ◌<◌, ◌≤◌}
+use Prim.Native.Nat.{ℕ, suc, ◌+◌, ◌-◌, ◌<◌, ◌≤◌}
 use mathlib.Core.Path.{◌≡◌, refl, sym, ap, ◌∙◌}
 use mathlib.Core.List.{List, [], ◌∷◌}
 use mathlib.Core.Bool.{Bool, true, false}
@@ -8,7 +8,7 @@ use native.Mathlib.Omega.{arith}
 use lib.Dec.{eqb, leb-suc-suc}
 use lib.ListN.{length, take, drop, get_or}
 use lib.Seq.{drop-cons, length-take-le}
-use borrow.Author.Tests.{lt-ltb}
+use borrow.Author.Tests.{eq-eqb, ne_eqb, lt-ltb}
 use Rattle.error.specs.Outcome.{gives}
 use Rattle.error.proofs.Causes.{refuses}
 use Rattle.reflector_sessions.specs.Judge.{table_outcome, session_found}
@@ -47,6 +47,38 @@ module _ (teid : ℕ) (missing : ReflectorSession) where
 -- the rows from i on: row i, then the rest
 pub rows_from : (ys : List ReflectorSession) (i left : ℕ) (beyond : ReflectorSession) → i < length ys → take (suc left) (drop i ys) ≡ get_or ys i beyond ∷ take left (drop (suc i) ys)
 rows_from ys i left beyond h = ap (take (suc left)) (drop-cons ys i beyond h)
+
+-- the rows from i on, of the first `rows`
+left_from : (ys : List ReflectorSession) (rows i : ℕ) (beyond : ReflectorSession) → i < rows → rows ≤ length ys
+    → take (rows - i) (drop i ys) ≡ get_or ys i beyond ∷ take (rows - (i + 1)) (drop (suc i) ys)
+left_from ys rows i beyond l within =
+    ap (λ (n : ℕ). take n (drop i ys)) (let e : rows - i ≡ suc (rows - (i + 1)) = omega arith in e) ∙ rows_from ys i (rows - (i + 1)) beyond (omega arith)
+
+-- What the code answers: with i rows passed, what row i and the rows after it decide.
+module _ (ys : List ReflectorSession) (rows teid : ℕ) (missing : ReflectorSession) where
+  pub none_passed : found_in (take rows ys) teid missing ≡ found_after 0 (take (rows - 0) ys) teid missing
+  none_passed =
+      found_first teid missing (take rows ys)
+      ∙ ap (λ (n : ℕ). found_after 0 (take n ys) teid missing) (let e : rows ≡ rows - 0 = omega arith in e)
+
+  module _ (i : ℕ) (beyond : ReflectorSession) (l : i < rows) (within : rows ≤ length ys) where
+    pub row_found : (get_or ys i beyond).local_teid ≡ teid
+        → found_after i (take (rows - i) (drop i ys)) teid missing ≡ record { place = i; session = get_or ys i beyond }
+    row_found e =
+        ap (λ (zs : List ReflectorSession). found_after i zs teid missing) (left_from ys rows i beyond l within)
+        ∙ found_here teid missing i (get_or ys i beyond) _ (eq-eqb _ teid e)
+
+    pub row_passed : ((get_or ys i beyond).local_teid ≡ teid → ⊥)
+        → found_after i (take (rows - i) (drop i ys)) teid missing ≡ found_after (i + 1) (take (rows - (i + 1)) (drop (i + 1) ys)) teid missing
+    row_passed ne =
+        ap (λ (zs : List ReflectorSession). found_after i zs teid missing) (left_from ys rows i beyond l within)
+        ∙ found_later teid missing i (get_or ys i beyond) _ (ne_eqb _ teid ne)
+        ∙ ap (λ (k : ℕ). found_after k (take (rows - (i + 1)) (drop k ys)) teid missing) (let e : suc i ≡ i + 1 = omega arith in e)
+
+  pub all_passed : (i : ℕ) → i ≤ rows → rows ≤ i → found_after i (take (rows - i) (drop i ys)) teid missing ≡ record { place = rows; session = missing }
+  all_passed i l m =
+      ap (λ (n : ℕ). found_after i (take n (drop i ys)) teid missing) (let e : rows - i ≡ 0 = omega arith in e)
+      ∙ found_none teid missing i ∙ at_place missing (omega arith)
 
 -- ---- what it found
 -- A search's place is a row of its own where the TEID has one, and then its session is that row.

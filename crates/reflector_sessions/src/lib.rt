@@ -2,6 +2,8 @@
 // and the calls that register a session and remove one. The functions over the slice are thin: they look for a row,
 // append one, or move one, and what is answered is decided by value. Each call's contract is one definition of specs/:
 // the answer and the whole table, on refusals too.
+#![tactic(auto)]
+
 ghost use Rattle.std.specs.Prelude.{◌≡◌, ◌<◌, ◌≤◌, ltb, length, take, get_or};
 ghost use Rattle.field.specs.Field.{same_bytes, bytes_at};
 ghost use Rattle.reflector_sessions.specs.Session.{value_of, no_session, same_version, same_address, same_session};
