@@ -1,7 +1,7 @@
 -- The code's answers mean the forecast.
 use Prim.Native.Nat.{ℕ, ◌+◌, ◌-◌, ◌*◌, ◌^◌, ◌<◌, ◌≤◌}
 use native.Mathlib.Omega.{arith}
-use mathlib.Core.Path.{◌≡◌, ap, ap₂, ◌∙◌}
+use mathlib.Core.Path.{◌≡◌, ap₂, ◌∙◌}
 use mathlib.Core.Option.{some}
 use Rattle.error.specs.Outcome.{gives}
 use Rattle.measurement.specs.declared.IpVersion.{IpVersion}

@@ -1,6 +1,8 @@
 // How big a plan will be: its bytes, its last sequence and its last send time, without building a packet (document 02,
 // job 12). The Rust has no such call. The judge is the generator's, and nothing is lent, so nothing can change.
 // specs/Forecast.antt defines the outcome; that it is the generator's is proved in the crate tally.
+#![tactic(auto)]
+
 ghost use Rattle.std.specs.Prelude.{◌≡◌};
 ghost use Rattle.forecast.specs.Forecast.{forecast_of};
 ghost use Rattle.forecast.specs.Answer.{forecast_means};

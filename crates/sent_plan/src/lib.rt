@@ -1,11 +1,13 @@
 // The packets of a plan recorded as sent, in one call. 21 is judged once, for all of them. The Rust has no such call:
 // a plan is entered whole or not at all, and if it is entered, the result is that of the single calls of leaf 6, one
 // after the other (specs/SendingPlan.antt).
+#![tactic(auto)]
+
 ghost use Rattle.std.specs.Prelude.{◌≡◌, true, ◌+◌, ◌≤◌, length, take};
 ghost use Rattle.plan.specs.Plan.{top};
 ghost use Rattle.columns.specs.Columns.{rising};
 ghost use Rattle.columns.specs.Place.{place};
-ghost use Rattle.rows.specs.Columns.{sheet};
+ghost use Rattle.rows.specs.Columns.{written_sheet};
 ghost use Rattle.observer.specs.Answer.{records};
 ghost use Rattle.sent_plan.specs.SendingPlan.{record_sent_plan};
 ghost use Rattle.sent_plan.specs.PlanClaims.{AllOrNothing, PlanBeforeRoom};
@@ -38,7 +40,7 @@ pub fn record_sent_plan(
     plan: TrafficPlan,
     next_sequence: u64,
 ) -> Recorded
-    ensures { records (sheet sequences send_timestamps latencies marks arrival_timestamps) counts result
+    ensures { records (written_sheet sequences send_timestamps latencies marks arrival_timestamps) counts result
         (λ o. record_sent_plan o plan next_sequence) }
 {
     if !observer::well_formed(

@@ -13,7 +13,7 @@ use Rattle.measurement.specs.declared.IpVersion.{IpVersion}
 use Rattle.measurement.specs.declared.IpVersion.TheVariants.{V4, V6}
 use Rattle.measurement.specs.declared.Written.TheVariants as written
 use Rattle.measurement_packet.specs.Packet.{ip_header_length}
-use Rattle.plan.specs.Plan.{top, interval, Judged, packets_of, judge_plan}
+use Rattle.plan.specs.Plan.{top, Judged, packets_of, judge_plan}
 use Rattle.plan.specs.Judge.{Judges}
 use Rattle.plan.specs.Claims.{accepted}
 use Rattle.plan.specs.declared.Interval.TheVariants as answer

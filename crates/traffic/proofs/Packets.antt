@@ -13,9 +13,9 @@ use Rattle.measurement.specs.declared.MeasurementHeader.{MeasurementHeader}
 use Rattle.measurement.specs.declared.Written.{Written}
 use Rattle.measurement_packet.specs.Packet.{ip_header_length, build_of}
 use Rattle.measurement_build.proofs.Whole.{build_length, writing_fits}
-use Rattle.plan.specs.Plan.{top, time_at, packet_at, packets_from, packets_of}
+use Rattle.plan.specs.Plan.{time_at, packet_at, packets_from, packets_of}
 use Rattle.plan.specs.declared.TrafficPlan.{TrafficPlan}
-use Rattle.plan.proofs.Answers.{planned_time, planned_fits}
+use Rattle.plan.proofs.Answers.{planned_time}
 use Rattle.traffic.specs.Generate.{end_to_end}
 use Rattle.traffic.specs.Fits.{Fits}
 
@@ -63,10 +63,7 @@ module _ (plan : TrafficPlan) (next : ℕ) where
     pub room : (count k : ℕ) → k < count → k * size flow + size flow ≤ count * size flow
     room count k h = let a : suc k * size flow ≤ count * size flow = mul-le-mul_right (size flow) (omega arith) in omega (arith, suc-mul k (size flow))
 
-    -- the time of packet k, and its place
-    pub time_fits : (i k : ℕ) (out : List ℕ) → Fits flow plan i next out → k < plan.packet_count → plan.first_send_timestamp_ns + k * i ≤ top
-    time_fits i k out f h = planned_fits f.planned k h
-
+    -- the place of packet k, and its time
     pub part_fits : (i k at s : ℕ) (out : List ℕ) → Fits flow plan i next out → s ≡ size flow → at ≡ k * s → k < plan.packet_count → at + s ≤ length out
     part_fits i k at s out f es ea h = omega (arith, room plan.packet_count k h, f.room, ap (λ (x : ℕ). k * x) es)
 

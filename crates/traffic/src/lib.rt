@@ -1,5 +1,7 @@
 // The packets that a traffic plan asks for (leaf 5; `TrafficEngine` of the Rust's traffic.rs). How a plan is judged is
 // defined in the crate `plan`, what the generator leaves in specs/Generate.antt.
+#![tactic(auto)]
+
 ghost use Rattle.std.specs.Prelude.{◌≡◌, ◌+◌, ◌*◌, ◌++◌, drop};
 ghost use Rattle.measurement_packet.specs.Packet.{ip_header_length};
 ghost use Rattle.plan.specs.Plan.{packets_of};
