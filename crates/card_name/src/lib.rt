@@ -1,5 +1,7 @@
 // The names of the card's numbers (docs/CARD.md), printed. `.ci/card` checks them against the list of the crate
 // `error`.
+#![tactic(auto)]
+
 use std::io;
 use std::io::Write;
 
