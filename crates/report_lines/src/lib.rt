@@ -1,8 +1,10 @@
 // A report in lines of at most 80 columns: the budget, the figures, and the verdict.
+#![tactic(auto)]
+
 use evidence::{Latency, LatencySummary, PacketContinuityBudget, PacketContinuityReport};
-use verdict::Verdict;
 use std::io;
 use std::io::Write;
+use verdict::Verdict;
 
 pub fn print_budget<W: Write>(out: &mut W, budget: PacketContinuityBudget) -> io::Result<()> {
     text::print_count(out, b"budget:    at most ", budget.max_lost_packets)?;
@@ -39,7 +41,11 @@ pub fn print_report<W: Write>(out: &mut W, r: PacketContinuityReport) -> io::Res
     text::print_count(out, b", error indications ", r.gtpu_error_indications)?;
     text::print(out, b"\noutage:    longest ")?;
     text::print_milliseconds(out, r.max_gap_duration_ns)?;
-    text::print_count(out, b", most lost in a row ", r.max_consecutive_lost_packets)?;
+    text::print_count(
+        out,
+        b", most lost in a row ",
+        r.max_consecutive_lost_packets,
+    )?;
     text::print(out, b"\n")?;
     print_latency(out, latency)
 }
