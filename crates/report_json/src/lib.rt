@@ -1,9 +1,11 @@
 // A report as parts of a JSON object (RFC 8259): the budget, the figures, and the verdict with its reason and the two
 // numbers of the reason.
+#![tactic(auto)]
+
 use evidence::{Latency, LatencySummary, PacketContinuityBudget, PacketContinuityReport};
-use verdict::Verdict;
 use std::io;
 use std::io::Write;
+use verdict::Verdict;
 
 pub fn print_budget<W: Write>(out: &mut W, budget: PacketContinuityBudget) -> io::Result<()> {
     text::print_count(
@@ -46,7 +48,11 @@ fn print_flag<W: Write>(out: &mut W, name: &[u8], flag: bool) -> io::Result<()> 
 // Every figure of the report but its budget.
 pub fn print_report<W: Write>(out: &mut W, r: PacketContinuityReport) -> io::Result<()> {
     let latency = r.latency;
-    text::print_count(out, b"\"report\": {\"window_start_ns\": ", r.window_start_ns)?;
+    text::print_count(
+        out,
+        b"\"report\": {\"window_start_ns\": ",
+        r.window_start_ns,
+    )?;
     text::print_count(out, b",\n  \"window_end_ns\": ", r.window_end_ns)?;
     text::print_count(out, b",\n  \"sent_packets\": ", r.sent_packets)?;
     text::print_count(out, b", \"received_packets\": ", r.received_packets)?;
@@ -63,7 +69,11 @@ pub fn print_report<W: Write>(out: &mut W, r: PacketContinuityReport) -> io::Res
         b",\n  \"max_consecutive_lost_packets\": ",
         r.max_consecutive_lost_packets,
     )?;
-    text::print_count(out, b",\n  \"max_gap_duration_ns\": ", r.max_gap_duration_ns)?;
+    text::print_count(
+        out,
+        b",\n  \"max_gap_duration_ns\": ",
+        r.max_gap_duration_ns,
+    )?;
     print_latency(out, latency)?;
     print_flag(out, b",\n  \"forwarding_proven\": ", r.forwarding_proven)?;
     print_flag(
