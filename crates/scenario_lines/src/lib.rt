@@ -1,4 +1,6 @@
 // The one line printed for words that are not accepted: at most 80 columns.
+#![tactic(auto)]
+
 use scenario::Scenario;
 use scenario_words::Judged;
 use std::io;
@@ -62,7 +64,11 @@ fn print_past_count<W: Write>(out: &mut W, s: &Scenario, word: usize) -> io::Res
     word_names::print_name(out, word)?;
     text::print(out, b"=")?;
     print_window(out, scenario::first(s, word), scenario::last(s, word))?;
-    text::print_count(out, b" goes past count=", scenario::first(s, scenario::COUNT))
+    text::print_count(
+        out,
+        b" goes past count=",
+        scenario::first(s, scenario::COUNT),
+    )
 }
 
 // Why words are not accepted.
@@ -82,7 +88,12 @@ fn print_reason<W: Write>(out: &mut W, s: &Scenario, j: Judged, word: &[u8]) -> 
 }
 
 // The line.
-pub fn print_not_accepted<W: Write>(out: &mut W, s: &Scenario, j: Judged, words: &[u8]) -> io::Result<()> {
+pub fn print_not_accepted<W: Write>(
+    out: &mut W,
+    s: &Scenario,
+    j: Judged,
+    words: &[u8],
+) -> io::Result<()> {
     text::print(out, b"rehearse: ")?;
     print_reason(out, s, j, text::part(words, j.at, j.length))?;
     text::print(out, b" (see --help)\n")
