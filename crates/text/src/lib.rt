@@ -1,12 +1,12 @@
-// Text: words that are read, and numbers that are printed, to any writer. What prints answers the writer's error, and
-// stops at the first.
+// Text: words that are read, and numbers that are printed, from any reader and to any writer. What reads or prints
+// answers the first error of either, and stops there.
 #![tactic(auto)]
 
-ghost use Rattle.std.specs.Prelude.{◌≤◌, length, OnOk};
+ghost use Rattle.std.specs.Prelude.{◌≤◌, length, OnOk, IfOk};
 ghost use Rattle.std.specs.Io.KnownBytes.{Appends};
 
 use std::io;
-use std::io::Write;
+use std::io::{Read, Write};
 
 // What stands for a number where a word has none: every limit is below it.
 pub const NO_NUMBER: u64 = 18_446_744_073_709_551_615;
@@ -96,6 +96,21 @@ pub fn number(s: &[u8]) -> u64 {
         i += 1;
     }
     n
+}
+
+// Reads until the room is full or the input ends, and answers how many bytes it has put at the front.
+pub fn read_full<R: Read>(input: &mut R, room: &mut [u8]) -> io::Result<usize>
+    ensures { IfOk result (λ n. n ≤ length room.new) }
+{
+    let mut n = 0;
+    while n < room.len() {
+        let more = input.read(&mut room[n..])?;
+        if more == 0 {
+            break;
+        }
+        n += more;
+    }
+    Ok(n)
 }
 
 pub fn print<W: Write>(out: &mut W, s: &[u8]) -> io::Result<()>
