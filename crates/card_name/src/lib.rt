@@ -1,5 +1,9 @@
 // The names of the card's numbers (docs/CARD.md), printed. `.ci/card` checks them against the list of the crate
 // `error`.
+#![tactic(auto)]
+
+use std::io;
+use std::io::Write;
 
 // The names, in the order of the numbers, from 0; a space ends each.
 const NAMES: [u8; 926] =
@@ -14,6 +18,6 @@ const NAMES: [u8; 926] =
     REFLECTOR_SESSION_CAPACITY_EXCEEDED ECHO_REQUEST_TEID_NOT_ZERO ECHO_REQUEST_MISSING_SEQUENCE \
     UNSUPPORTED_MESSAGE_TYPE IPV4_FRAGMENT TRUNCATED_IPV4_UDP_PACKET ";
 
-pub fn print_name(number: u8) {
-    text::print(text::item(&NAMES, number as usize));
+pub fn print_name<W: Write>(out: &mut W, number: u8) -> io::Result<()> {
+    text::print(out, text::item(&NAMES, number as usize))
 }

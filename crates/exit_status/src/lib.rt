@@ -1,4 +1,6 @@
 // The exit status of the command `rehearse`. A script acts on it, so the status of a verdict has a contract.
+#![tactic(auto)]
+
 ghost use Rattle.std.specs.Prelude.{◌≡◌};
 ghost use Rattle.exit_status.specs.Status.{status_of, ZeroSaysPass};
 

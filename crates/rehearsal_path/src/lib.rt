@@ -1,5 +1,7 @@
 // When each probe comes back, as the scenario says: no clock and no chance in it. A probe that is not lost comes back
 // once, or twice if it is duplicated.
+#![tactic(auto)]
+
 use scenario::Scenario;
 
 // How long it takes there and back: up to the end of the loss the old path, then the new one.

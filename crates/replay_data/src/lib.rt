@@ -1,4 +1,6 @@
 // The data's bytes. Past the end of a slice stands 0, so that no record, however damaged, is read out of bounds.
+#![tactic(auto)]
+
 ghost use Rattle.std.specs.Prelude.{◌≡◌, ◌<◌, ◌≤◌, length};
 
 // The byte at a place.

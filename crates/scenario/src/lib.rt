@@ -1,5 +1,6 @@
 // A plan, a budget and what the path does to the probes: a table that has for each word of the rehearsal its number, or
 // the first and the last probe of its window.
+#![tactic(auto)]
 
 // The words, as rows of the table. First those with a number.
 pub const IP: usize = 0;

@@ -1,5 +1,7 @@
 // A scenario read from words, each `name=value`: every word is taken, or the first that is not accepted is told with
 // the reason.
+#![tactic(auto)]
+
 use scenario::Scenario;
 
 fn format_named(value: &[u8]) -> u64 {

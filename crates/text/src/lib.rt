@@ -1,5 +1,12 @@
-// Text: words that are read, and numbers that are printed, on standard output.
-ghost use Rattle.std.specs.Prelude.{◌≤◌, length};
+// Text: words that are read, and numbers that are printed, from any reader and to any writer. What reads or prints
+// answers the first error of either, and stops there.
+#![tactic(auto)]
+
+ghost use Rattle.std.specs.Prelude.{◌≤◌, length, OnOk, IfOk};
+ghost use Rattle.std.specs.Io.KnownBytes.{Appends};
+
+use std::io;
+use std::io::{Read, Write};
 
 // What stands for a number where a word has none: every limit is below it.
 pub const NO_NUMBER: u64 = 18_446_744_073_709_551_615;
@@ -91,68 +98,89 @@ pub fn number(s: &[u8]) -> u64 {
     n
 }
 
-pub fn print(s: &[u8]) {
-    io::write_all(1, s);
+// Reads until the room is full or the input ends, and answers how many bytes it has put at the front.
+pub fn read_full<R: Read>(input: &mut R, room: &mut [u8]) -> io::Result<usize>
+    ensures { IfOk result (λ n. n ≤ length room.new) }
+{
+    let mut n = 0;
+    while n < room.len() {
+        let more = input.read(&mut room[n..])?;
+        if more == 0 {
+            break;
+        }
+        n += more;
+    }
+    Ok(n)
 }
 
-pub fn print_number(n: u64) {
-    io::print_decimal(1, n);
+pub fn print<W: Write>(out: &mut W, s: &[u8]) -> io::Result<()>
+    ensures { OnOk result (Appends (W.contents out.old) (W.contents out.new) s.now) }
+{
+    out.write_all(s)
+}
+
+pub fn print_number<W: Write>(out: &mut W, n: u64) -> io::Result<()> {
+    write!(out, "{n}")
+}
+
+// In lower case, with zeros in front up to the width.
+pub fn print_hex<W: Write>(out: &mut W, n: u64, width: usize) -> io::Result<()> {
+    write!(out, "{n:0width$x}")
 }
 
 // A name and its number.
-pub fn print_count(name: &[u8], n: u64) {
-    print(name);
-    print_number(n);
+pub fn print_count<W: Write>(out: &mut W, name: &[u8], n: u64) -> io::Result<()> {
+    print(out, name)?;
+    print_number(out, n)
 }
 
 // A number of at most four digits, with spaces in front of it so that it takes four places.
-pub fn print_in_four(n: u64) {
+pub fn print_in_four<W: Write>(out: &mut W, n: u64) -> io::Result<()> {
     if n < 1000 {
-        print(b" ");
+        print(out, b" ")?;
     }
     if n < 100 {
-        print(b" ");
+        print(out, b" ")?;
     }
     if n < 10 {
-        print(b" ");
+        print(out, b" ")?;
     }
-    print_number(n);
+    print_number(out, n)
 }
 
 // A word as it was given, with ? for what does not print, so that it stays on its line.
-fn print_plainly(s: &[u8]) {
+fn print_plainly<W: Write>(out: &mut W, s: &[u8]) -> io::Result<()> {
     let mut i = 0;
     while i < s.len() {
         if s[i] < b' ' || b'~' < s[i] {
-            print(b"?");
+            print(out, b"?")?;
         } else {
-            print(part(s, i, 1));
+            print(out, part(s, i, 1))?;
         }
         i += 1;
     }
+    Ok(())
 }
 
 // A word as it was given, up to `most` bytes.
-pub fn print_word(s: &[u8], most: usize) {
+pub fn print_word<W: Write>(out: &mut W, s: &[u8], most: usize) -> io::Result<()> {
     if s.len() <= most {
-        print_plainly(s);
-        return;
+        return print_plainly(out, s);
     }
-    print_plainly(part(s, 0, most));
-    print(b"...");
+    print_plainly(out, part(s, 0, most))?;
+    print(out, b"...")
 }
 
 // The last six of seven digits.
-fn print_six(digits: &[u8; 20]) {
-    print(part(digits, 1, 6));
+fn print_six<W: Write>(out: &mut W, digits: u64) -> io::Result<()> {
+    let last = digits % 1_000_000;
+    write!(out, "{last:06}")
 }
 
 // Nanoseconds as milliseconds, every digit.
-pub fn print_milliseconds(ns: u64) {
-    let mut digits = [0u8; 20];
-    io::decimal(1_000_000 + ns % 1_000_000, &mut digits);
-    print_number(ns / 1_000_000);
-    print(b".");
-    print_six(&digits);
-    print(b" ms");
+pub fn print_milliseconds<W: Write>(out: &mut W, ns: u64) -> io::Result<()> {
+    print_number(out, ns / 1_000_000)?;
+    print(out, b".")?;
+    print_six(out, 1_000_000 + ns % 1_000_000)?;
+    print(out, b" ms")
 }

@@ -1,7 +1,11 @@
 // A tunnel as text: its TEID in hexadecimal, and the address of its peer. IPv4 is written in dotted decimal, IPv6 as
 // section 4 of RFC 5952 recommends. Section 5, dotted decimal within IPv6, is left out: a peer has an address of one
 // version.
+#![tactic(auto)]
+
 use measurement::{ADDRESS_BYTES, IpVersion};
+use std::io;
+use std::io::Write;
 
 // An IPv6 address is 8 groups of 2 bytes.
 const GROUPS: usize = 8;
@@ -13,16 +17,16 @@ struct Run {
     end: usize,
 }
 
-pub fn print_teid(teid: u32) {
-    text::print(b"0x");
-    io::print_hex(1, teid as u64, 8);
+pub fn print_teid<W: Write>(out: &mut W, teid: u32) -> io::Result<()> {
+    text::print(out, b"0x")?;
+    text::print_hex(out, teid as u64, 8)
 }
 
-fn print_ipv4(address: &[u8; ADDRESS_BYTES]) {
-    text::print_number(field::wide(address[0]));
-    text::print_count(b".", field::wide(address[1]));
-    text::print_count(b".", field::wide(address[2]));
-    text::print_count(b".", field::wide(address[3]));
+fn print_ipv4<W: Write>(out: &mut W, address: &[u8; ADDRESS_BYTES]) -> io::Result<()> {
+    text::print_number(out, field::wide(address[0]))?;
+    text::print_count(out, b".", field::wide(address[1]))?;
+    text::print_count(out, b".", field::wide(address[2]))?;
+    text::print_count(out, b".", field::wide(address[3]))
 }
 
 // A group by its place, from 0; past the last one 0.
@@ -34,15 +38,21 @@ fn group(address: &[u8; ADDRESS_BYTES], place: usize) -> u64 {
 }
 
 // Groups with a colon between two: without zeros in front (section 4.1), and in lower case (4.3).
-fn print_groups(address: &[u8; ADDRESS_BYTES], start: usize, end: usize) {
+fn print_groups<W: Write>(
+    out: &mut W,
+    address: &[u8; ADDRESS_BYTES],
+    start: usize,
+    end: usize,
+) -> io::Result<()> {
     let mut place = start;
     while place < end {
         if start < place {
-            text::print(b":");
+            text::print(out, b":")?;
         }
-        io::print_hex(1, group(address, place), 1);
+        text::print_hex(out, group(address, place), 1)?;
         place += 1;
     }
+    Ok(())
 }
 
 // Where the zero groups end that begin here: here, if this one is not zero.
@@ -82,19 +92,23 @@ fn longest_zeros(address: &[u8; ADDRESS_BYTES]) -> Run {
 }
 
 // Two colons stand for the longest run of zero groups, but not for a single group (section 4.2.2).
-fn print_ipv6(address: &[u8; ADDRESS_BYTES]) {
+fn print_ipv6<W: Write>(out: &mut W, address: &[u8; ADDRESS_BYTES]) -> io::Result<()> {
     let zeros = longest_zeros(address);
     if length(zeros) < 2 {
-        return print_groups(address, 0, GROUPS);
+        return print_groups(out, address, 0, GROUPS);
     }
-    print_groups(address, 0, zeros.start);
-    text::print(b"::");
-    print_groups(address, zeros.end, GROUPS)
+    print_groups(out, address, 0, zeros.start)?;
+    text::print(out, b"::")?;
+    print_groups(out, address, zeros.end, GROUPS)
 }
 
-pub fn print_address(version: IpVersion, address: &[u8; ADDRESS_BYTES]) {
+pub fn print_address<W: Write>(
+    out: &mut W,
+    version: IpVersion,
+    address: &[u8; ADDRESS_BYTES],
+) -> io::Result<()> {
     match version {
-        IpVersion::V4 => print_ipv4(address),
-        IpVersion::V6 => print_ipv6(address),
+        IpVersion::V4 => print_ipv4(out, address),
+        IpVersion::V6 => print_ipv6(out, address),
     }
 }

@@ -1,6 +1,10 @@
 // Addresses and TEIDs as `tunnel_text` prints them. In front of each address stand its bytes in hexadecimal, so that
 // another program can say what it should be.
+#![tactic(auto)]
+
 use measurement::IpVersion;
+use std::io;
+use std::io::Write;
 
 // The 16 bytes of two numbers, the highest first.
 fn bytes_of(high: u64, low: u64) -> [u8; 16] {
@@ -24,78 +28,80 @@ fn bytes_of(high: u64, low: u64) -> [u8; 16] {
     ]
 }
 
-fn print_address(version: IpVersion, address: [u8; 16]) {
-    text::print(b" ");
-    tunnel_text::print_address(version, &address);
-    text::print(b"\n");
+fn print_address<W: Write>(out: &mut W, version: IpVersion, address: [u8; 16]) -> io::Result<()> {
+    text::print(out, b" ")?;
+    tunnel_text::print_address(out, version, &address)?;
+    text::print(out, b"\n")
 }
 
-fn print_ipv6(high: u64, low: u64) {
-    io::print_hex(1, high, 16);
-    io::print_hex(1, low, 16);
-    print_address(IpVersion::V6, bytes_of(high, low));
+fn print_ipv6<W: Write>(out: &mut W, high: u64, low: u64) -> io::Result<()> {
+    text::print_hex(out, high, 16)?;
+    text::print_hex(out, low, 16)?;
+    print_address(out, IpVersion::V6, bytes_of(high, low))
 }
 
 // The first 4 of the 16 bytes count, and the others are not printed.
-fn print_ipv4(address: u64) {
-    io::print_hex(1, address, 8);
+fn print_ipv4<W: Write>(out: &mut W, address: u64) -> io::Result<()> {
+    text::print_hex(out, address, 8)?;
     print_address(
+        out,
         IpVersion::V4,
         bytes_of((address << 32) + 0xffff_ffff, 0xffff_ffff_ffff_ffff),
-    );
+    )
 }
 
-fn print_teid(teid: u32) {
-    tunnel_text::print_teid(teid);
-    text::print(b"\n");
+fn print_teid<W: Write>(out: &mut W, teid: u32) -> io::Result<()> {
+    tunnel_text::print_teid(out, teid)?;
+    text::print(out, b"\n")
 }
 
 // Section 4.1 of RFC 5952: no zeros in front of a group, and one 0 for a zero group. 4.3: lower case.
-fn print_single_groups() {
-    print_ipv6(0x2001_0db8_0000_0000, 0x0000_0000_0000_0001);
-    print_ipv6(0x0001_0010_0100_1000, 0x000a_00ab_0abc_abcd);
-    print_ipv6(0x2001_0db8_aaaa_bbbb, 0xcccc_dddd_eeee_0001);
-    print_ipv6(0xabcd_efab_cdef_abcd, 0xefab_cdef_abcd_efab);
-    print_ipv6(0xffff_ffff_ffff_ffff, 0xffff_ffff_ffff_ffff);
+fn print_single_groups<W: Write>(out: &mut W) -> io::Result<()> {
+    print_ipv6(out, 0x2001_0db8_0000_0000, 0x0000_0000_0000_0001)?;
+    print_ipv6(out, 0x0001_0010_0100_1000, 0x000a_00ab_0abc_abcd)?;
+    print_ipv6(out, 0x2001_0db8_aaaa_bbbb, 0xcccc_dddd_eeee_0001)?;
+    print_ipv6(out, 0xabcd_efab_cdef_abcd, 0xefab_cdef_abcd_efab)?;
+    print_ipv6(out, 0xffff_ffff_ffff_ffff, 0xffff_ffff_ffff_ffff)
 }
 
 // Section 4.2.1: two colons stand for as many groups as they can. 4.2.2: they do not stand for one group.
-fn print_one_run() {
-    print_ipv6(0x2001_0db8_0000_0000, 0x0000_0000_0002_0001);
-    print_ipv6(0x2001_0db8_0000_0001, 0x0001_0001_0001_0001);
-    print_ipv6(0x0000_0001_0002_0003, 0x0004_0005_0006_0007);
-    print_ipv6(0x0001_0002_0003_0004, 0x0005_0006_0007_0000);
-    print_ipv6(0x0000_0001_0000_0002, 0x0000_0003_0000_0004);
-    print_ipv6(0x0000_0000_0001_0002, 0x0003_0004_0005_0006);
-    print_ipv6(0x0001_0002_0003_0000, 0x0000_0004_0005_0006);
-    print_ipv6(0x0001_0002_0003_0004, 0x0005_0006_0000_0000);
-    print_ipv6(0x0000_0000_0000_0000, 0x0000_0000_0000_0000);
-    print_ipv6(0x0000_0000_0000_0000, 0x0000_0000_0000_0001);
-    print_ipv6(0x0001_0000_0000_0000, 0x0000_0000_0000_0000);
-    print_ipv6(0x2001_0db8_0000_0000, 0x0000_0000_0000_0003);
+fn print_one_run<W: Write>(out: &mut W) -> io::Result<()> {
+    print_ipv6(out, 0x2001_0db8_0000_0000, 0x0000_0000_0002_0001)?;
+    print_ipv6(out, 0x2001_0db8_0000_0001, 0x0001_0001_0001_0001)?;
+    print_ipv6(out, 0x0000_0001_0002_0003, 0x0004_0005_0006_0007)?;
+    print_ipv6(out, 0x0001_0002_0003_0004, 0x0005_0006_0007_0000)?;
+    print_ipv6(out, 0x0000_0001_0000_0002, 0x0000_0003_0000_0004)?;
+    print_ipv6(out, 0x0000_0000_0001_0002, 0x0003_0004_0005_0006)?;
+    print_ipv6(out, 0x0001_0002_0003_0000, 0x0000_0004_0005_0006)?;
+    print_ipv6(out, 0x0001_0002_0003_0004, 0x0005_0006_0000_0000)?;
+    print_ipv6(out, 0x0000_0000_0000_0000, 0x0000_0000_0000_0000)?;
+    print_ipv6(out, 0x0000_0000_0000_0000, 0x0000_0000_0000_0001)?;
+    print_ipv6(out, 0x0001_0000_0000_0000, 0x0000_0000_0000_0000)?;
+    print_ipv6(out, 0x2001_0db8_0000_0000, 0x0000_0000_0000_0003)
 }
 
 // Section 4.2.3: of several runs the longest, and of equal ones the first.
-fn print_several_runs() {
-    print_ipv6(0x2001_0000_0000_0001, 0x0000_0000_0000_0001);
-    print_ipv6(0x2001_0db8_0000_0000, 0x0001_0000_0000_0001);
-    print_ipv6(0x2001_0000_0000_0000, 0x0001_0000_0000_0001);
-    print_ipv6(0x0000_0000_0001_0002, 0x0003_0004_0000_0000);
-    print_ipv6(0x0000_0000_0001_0000, 0x0000_0000_0002_0003);
-    print_ipv6(0x0000_0001_0000_0000, 0x0002_0000_0000_0000);
-    print_ipv6(0x0000_0000_0001_0000, 0x0000_0001_0000_0000);
-    print_ipv6(0x0000_0001_0002_0000, 0x0000_0003_0004_0000);
+fn print_several_runs<W: Write>(out: &mut W) -> io::Result<()> {
+    print_ipv6(out, 0x2001_0000_0000_0001, 0x0000_0000_0000_0001)?;
+    print_ipv6(out, 0x2001_0db8_0000_0000, 0x0001_0000_0000_0001)?;
+    print_ipv6(out, 0x2001_0000_0000_0000, 0x0001_0000_0000_0001)?;
+    print_ipv6(out, 0x0000_0000_0001_0002, 0x0003_0004_0000_0000)?;
+    print_ipv6(out, 0x0000_0000_0001_0000, 0x0000_0000_0002_0003)?;
+    print_ipv6(out, 0x0000_0001_0000_0000, 0x0002_0000_0000_0000)?;
+    print_ipv6(out, 0x0000_0000_0001_0000, 0x0000_0001_0000_0000)?;
+    print_ipv6(out, 0x0000_0001_0002_0000, 0x0000_0003_0004_0000)
 }
 
-fn main() {
-    print_single_groups();
-    print_one_run();
-    print_several_runs();
-    print_ipv4(0x00_00_00_00);
-    print_ipv4(0xc0_00_02_03);
-    print_ipv4(0x01_0a_64_ff);
-    print_ipv4(0xff_ff_ff_ff);
-    print_teid(0);
-    print_teid(0x1002);
-    print_teid(0xffff_ffff);
+fn main(rt: HostRuntime) -> io::Result<()> {
+    let mut out = io::writer(&rt);
+    print_single_groups(&mut out)?;
+    print_one_run(&mut out)?;
+    print_several_runs(&mut out)?;
+    print_ipv4(&mut out, 0x00_00_00_00)?;
+    print_ipv4(&mut out, 0xc0_00_02_03)?;
+    print_ipv4(&mut out, 0x01_0a_64_ff)?;
+    print_ipv4(&mut out, 0xff_ff_ff_ff)?;
+    print_teid(&mut out, 0)?;
+    print_teid(&mut out, 0x1002)?;
+    print_teid(&mut out, 0xffff_ffff)
 }

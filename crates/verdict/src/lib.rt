@@ -1,5 +1,7 @@
 // The verdict on a run, from its report, with the numbers that say why. A crew acts on it, so it has a contract
 // (specs/Verdict.antt); printing it is left to its callers.
+#![tactic(auto)]
+
 ghost use Rattle.std.specs.Prelude.{◌≡◌};
 ghost use Rattle.verdict.specs.Verdict.{verdict_of};
 ghost use Rattle.verdict.specs.Claims.{PassesIfKept, ReasonsAreTrue};

@@ -1,9 +1,13 @@
 // The names of the words: which word a name is, and the name of a word printed.
+#![tactic(auto)]
+
+use std::io;
+use std::io::Write;
 
 // The names, in the order of the rows; a space ends each.
 const NAMES: [u8; 231] =
     *b"ip count rate max-lost max-run max-outage-ms latency-us latency-after-us format \
-    lose duplicate reorder damage cut-short empty bad-version bad-protocol bad_length no_checksum bad-magic not_sent \
+    lose duplicate reorder damage cut-short empty bad-version bad-protocol bad-length no-checksum bad-magic not-sent \
     early error-indication cut-indication ";
 
 fn is_named(word: usize, name: &[u8]) -> bool {
@@ -22,14 +26,15 @@ pub fn named(name: &[u8]) -> usize {
     word
 }
 
-pub fn print_name(word: usize) {
-    text::print(text::item(&NAMES, word))
+pub fn print_name<W: Write>(out: &mut W, word: usize) -> io::Result<()> {
+    text::print(out, text::item(&NAMES, word))
 }
 
 // The probes of a window: `A`, or `A..B`.
-pub fn print_probes(first: u64, last: u64) {
-    text::print_number(first);
+pub fn print_probes<W: Write>(out: &mut W, first: u64, last: u64) -> io::Result<()> {
+    text::print_number(out, first)?;
     if first < last {
-        text::print_count(b"..", last);
+        text::print_count(out, b"..", last)?;
     }
+    Ok(())
 }

@@ -5,8 +5,7 @@ use mathlib.Core.Path.{◌≡◌, refl, ap}
 use Rattle.verdict.specs.declared.Verdict.{Verdict}
 use Rattle.verdict.specs.declared.Verdict.TheVariants.{Pass, NothingReturned, TooManyLost, TooManyInARow, OutageTooLong, ErrorIndicated}
 use Rattle.exit_status.specs.Status.{status_of, ZeroSaysPass}
-use Rattle.exit_status.proofs.zero_says_pass.Statement.{statement}
-use Rattle.exit_status.proofs.zero_says_pass.Tie as tie
+use Rattle.exit_status.proofs.zero_says_pass.Goals as goal
 
 only_passed : (v : Verdict) → status_of v ≡ 0 → v ≡ Pass
 only_passed Pass e = refl
@@ -27,8 +26,5 @@ a_verdict (ErrorIndicated n) = omega arith
 zero-says-pass : ZeroSaysPass
 zero-says-pass = record { passed = λ v e. ap status_of e; only_passed = only_passed; a_verdict = a_verdict }
 
-returns : tie.Need-returns
+pub returns : goal.returns
 returns c = zero-says-pass
-
-pub zero-says-pass-spec : {M : Type 1} → statement M
-zero-says-pass-spec = tie.close (tie.spec returns)
