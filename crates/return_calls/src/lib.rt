@@ -2,11 +2,13 @@
 // specs/Returns.antt defines what each answers and leaves, and its contract is that one equation: answer, counts and
 // every column at exit, on refusals too. The message's call also promises which tunnel it hands on: specs/Tunnel.antt.
 // What came back is read first; then `record_returned` judges 21 and records it.
+#![tactic(auto)]
+
 ghost use Rattle.std.specs.Prelude.{◌≡◌};
 ghost use Rattle.gtpu.specs.Answer.{no_tunnel, tunnel_named};
 ghost use Rattle.gtpu.specs.Element.{elements_of};
 ghost use Rattle.gtpu.specs.Indication.{indication_of};
-ghost use Rattle.rows.specs.Columns.{sheet};
+ghost use Rattle.rows.specs.Columns.{marked_sheet};
 ghost use Rattle.observer.specs.Answer.{recording_means, records};
 ghost use Rattle.return_calls.specs.Kinds.{message_kind};
 ghost use Rattle.return_calls.specs.Returns.{sequence_read, record_received_tpdu, record_return_message};
@@ -165,7 +167,7 @@ fn record_returned(
     return_timestamp_ns: u64,
     returned: Returned,
 ) -> Recorded
-    ensures { records (sheet sequences send_timestamps latencies marks arrival_timestamps) counts result
+    ensures { records (marked_sheet sequences send_timestamps latencies marks arrival_timestamps) counts result
         (λ o. record_returned o return_timestamp_ns returned) }
 {
     if !observer::well_formed(
@@ -216,7 +218,7 @@ pub fn record_received_tpdu(
     return_timestamp_ns: u64,
     tpdu: &[u8],
 ) -> Recorded
-    ensures { records (sheet sequences send_timestamps latencies marks arrival_timestamps) counts result
+    ensures { records (marked_sheet sequences send_timestamps latencies marks arrival_timestamps) counts result
         (λ o. record_received_tpdu o return_timestamp_ns tpdu.now) }
 {
     let returned = read_tpdu(tpdu);
@@ -270,7 +272,7 @@ pub fn record_return_gtpu_datagram(
     payload: &[u8],
 ) -> MessageRecorded
     ensures recorded { records_message
-        (sheet sequences send_timestamps latencies marks arrival_timestamps) counts result
+        (marked_sheet sequences send_timestamps latencies marks arrival_timestamps) counts result
         (λ o. record_return_message o return_timestamp_ns message.message_type payload.now) }
     ensures tunnel { result.tunnel ≡ tunnel_handed_on (message_means result.answer) payload.now }
 {
