@@ -5,7 +5,7 @@ use Rattle.error.specs.Outcome.{Outcome, refused, gives}
 use Rattle.observer.specs.Observer.{Observer}
 use Rattle.observer.specs.Judge.{judged, Step}
 use Rattle.observer.specs.InTurn.{Steps, in_turn}
-use Rattle.rows.specs.Columns.{Columns, Column, Sheet}
+use Rattle.rows.specs.Columns.{Columns, WrittenColumn, Sheet}
 use Rattle.observer.specs.Answer.{observer_of, lent}
 use Rattle.observer.specs.declared.ObserverCounts.{ObserverCounts}
 use Rattle.return_calls.specs.Returns.{sequence_read, record_received_tpdu}
@@ -88,7 +88,7 @@ returns_recorded r returned numbers columns = record {
 }
 
 -- In a contract: `records` of the observer's calls, for a list of returns and its two columns.
-abbrev pub records_returns : Sheet → ObserverCounts → ReturnsRecorded → Column → Column
+abbrev pub records_returns : Sheet → ObserverCounts → ReturnsRecorded → WrittenColumn → WrittenColumn
     → (Observer → List ℕ → List ℕ → ReturnsTaken) → Type 0
 records_returns s c r returned numbers definition =
     returns_recorded r returned.exit.now numbers.exit.now s.exit

@@ -1,8 +1,10 @@
 // A list of T-PDUs that came back, taken in one call: 21 is judged, and then each is read and recorded. The Rust has no
 // such call: after 21 it is the single calls in turn (specs/Received.antt). The call reads each T-PDU itself: no caller
 // can pass in a number or a sequence in the reader's place.
+#![tactic(auto)]
+
 ghost use Rattle.std.specs.Prelude.{◌≡◌, ◌+◌, ◌≤◌, min};
-ghost use Rattle.rows.specs.Columns.{sheet};
+ghost use Rattle.rows.specs.Columns.{marked_sheet};
 ghost use Rattle.received_tpdus.specs.Received.{record_received_tpdus, records_returns};
 ghost use Rattle.received_tpdus.specs.Claims.{EndToEnd};
 
@@ -51,7 +53,7 @@ pub fn record_received_tpdus(
     returned: &mut [u64],
     numbers: &mut [u8],
 ) -> ReturnsRecorded
-    ensures { records_returns (sheet sequences send_timestamps latencies marks arrival_timestamps) counts result
+    ensures { records_returns (marked_sheet sequences send_timestamps latencies marks arrival_timestamps) counts result
         returned numbers
         (λ o. record_received_tpdus o return_timestamps.now lengths.now tpdus.now) }
 {
