@@ -1,6 +1,8 @@
 // The C interface to packets: each call under the prefix `testkit_`, on numbers and lent buffers, with the call's own
 // contract. A slice passes as a pointer and a length, an address as a pointer to its bytes, the generator's next
 // sequence as a pointer to it. A refusal is its number, and 0 is none.
+#![tactic(auto)]
+
 ghost use Rattle.std.specs.Prelude.{◌≡◌, ◌+◌, true, eqb};
 ghost use Rattle.checksum.specs.Sum.{sum_of, fold_of, checksum_of};
 ghost use Rattle.checksum.specs.Claims.{Undamaged};
