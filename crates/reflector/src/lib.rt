@@ -1,6 +1,8 @@
 // The reflector (leaf 9; `handle_datagram` of the Rust's reflector.rs after its decode): a message, whose TEID is
 // looked for in the session table, and what is answered to it. Its contract is one definition of specs/: the answer,
 // the counts, the error sequence and every byte of the output, on refusals too.
+#![tactic(auto)]
+
 ghost use Rattle.reflector_answer.specs.Handle.{HandledAs};
 ghost use Rattle.reflector.specs.Handle.{handle_datagram};
 

@@ -1,5 +1,5 @@
 -- The payload of an Error Indication, and the error sequence.
-use Rattle.std.proofs.Common.{◌≡◌, ℕ, ◌+◌, ◌%◌, ◌^◌, ◌<◌, ◌≤◌, Bool, true, false, eqb, List, ◌++◌, length, take, drop, refl, ap, ◌∙◌, ap₂, arith, length-take, take_all, eq-eqb, eqb-true}
+use Rattle.std.proofs.Common.{◌≡◌, ℕ, ◌+◌, ◌%◌, ◌^◌, ◌<◌, ◌≤◌, Bool, true, false, eqb, List, ◌++◌, length, take, drop, refl, ap, ◌∙◌, ap₂, arith, length-take, eq-eqb, eqb-true}
 use borrow.Author.Tests.{eqb-false}
 use Rattle.measurement.specs.Flow.{address_length, address}
 use Rattle.measurement.specs.declared.IpVersion.{IpVersion}
@@ -59,8 +59,5 @@ module _ (teid : ℕ) (peer : SocketAddr) where
     pub payload_length_lem : 8 + n ≡ length payload
     payload_length_lem = size_is ∙ ap length front_is
 
-    pub copied : (out after : List ℕ) → after ≡ take (length (take (8 + n) block)) (take (8 + n) block) ++ drop (length (take (8 + n) block)) out
-        → after ≡ payload ++ drop (length payload) out
-    copied out after e =
-        e ∙ ap (λ (y : List ℕ). take (length y) y ++ drop (length y) out) front_is
-        ∙ ap (λ (y : List ℕ). y ++ drop (length payload) out) (take_all (length payload) payload (omega arith))
+    pub copied : (out front : List ℕ) → front ≡ take (8 + n) block → front ++ drop (8 + n) out ≡ payload ++ drop (length payload) out
+    copied out front e = ap₂ (λ (y : List ℕ) (k : ℕ). y ++ drop k out) (e ∙ front_is) payload_length_lem

@@ -2,6 +2,8 @@
 // the answer to a message whose TEID means a given session or none. Everything here is by value or on lent bytes; the
 // session table is in the crate reflector_sessions. specs/Answer.antt defines the answers, and each contract is that
 // definition: the answer, the counts, the error sequence and every byte of the output, on refusals too.
+#![tactic(auto)]
+
 ghost use Rattle.std.specs.Prelude.{◌≡◌, ◌≤◌, ◌++◌, length, drop};
 ghost use Rattle.error.specs.Outcome.{refused};
 ghost use Rattle.measurement.specs.Flow.{address_length};
@@ -267,7 +269,7 @@ fn write_error_indication(teid: u32, peer: SocketAddr, out: &mut [u8]) -> usize
     let n = address_length(version);
     let payload = error_indication(teid, n, address);
     let size = 8 + (n as usize);
-    bytes::copy(&payload[..size], out);
+    out[..size].copy_from_slice(&payload[..size]);
     size
 }
 

@@ -1,6 +1,7 @@
 // The reflector's calls for C on a table of six rows that the caller holds by value. Registering and removal hand the
-// rows back with the answer. The prover does not by itself follow a function that lends rows: these three are proved by
-// hand, so that callers such as the replay need no such proof.
+// rows back with the answer, so that callers such as the replay lend no rows themselves.
+#![tactic(auto)]
+
 ghost use Rattle.std.specs.Prelude.{◌≡◌};
 ghost use Rattle.reflector_sessions.specs.Session.{value_of};
 ghost use Rattle.reflector_sessions.specs.Table.{table_of};

@@ -4,8 +4,8 @@ use mathlib.Core.Path.{◌≡◌, sym, ap, ◌∙◌, subst}
 use mathlib.Core.List.{List}
 use mathlib.Core.Option.{Option}
 use Rattle.gtpu.specs.declared.GtpuMessage.{GtpuMessage}
-use Rattle.reflector_sessions.specs.Register.{Registering, Registers, registration_means}
-use Rattle.reflector_sessions.specs.Remove.{Removing, Removes, removal_means}
+use Rattle.reflector_sessions.specs.Register.{registration_means}
+use Rattle.reflector_sessions.specs.Remove.{removal_means}
 use Rattle.reflector_sessions.specs.declared.ReflectorSession.{ReflectorSession}
 use Rattle.reflector_sessions.specs.declared.Registered.{Registered}
 use Rattle.reflector_sessions.specs.declared.Registration.{Registration}
@@ -21,10 +21,8 @@ use Rattle.reflector_answer.specs.declared.ReflectorAction.{ReflectorAction}
 use Rattle.reflector_answer.specs.declared.ReflectorAction.TheVariants.{Noop, Send}
 use Rattle.reflector_answer.specs.declared.ReflectorNoopReason.{ReflectorNoopReason}
 use Rattle.reflector_answer.specs.declared.ReflectorSendReason.{ReflectorSendReason}
-use Rattle.testkit_reflector.specs.Interface.{noop_number, send_number, action_numbers, handled_numbers, AnswersNumbers, registered_numbers, RegistersNumbers, removed_numbers, RemovesNumbers}
+use Rattle.testkit_reflector.specs.Interface.{noop_number, send_number, action_numbers, handled_numbers, AnswersNumbers, registered_numbers, removed_numbers}
 use Rattle.testkit_reflector.specs.declared.TestkitHandled.{TestkitHandled}
-use Rattle.testkit_reflector.specs.declared.TestkitRegistered.{TestkitRegistered}
-use Rattle.testkit_reflector.specs.declared.TestkitRemoved.{TestkitRemoved}
 
 pub registered_as : (r : Registered) {x : Registration} → r.registration ≡ x
     → registered_numbers (registration_means x) r.used ≡ registered_numbers (registration_means r.registration) r.used
@@ -42,15 +40,7 @@ pub acted_send : {n bytes : ℕ} {reason : ReflectorSendReason} {action : Reflec
     → record { number = 0; action = 2; noop_reason = 0; send_reason = n; bytes = bytes } ≡ action_numbers action
 acted_send {bytes = bytes} e told = ap (λ (n : ℕ). record { number = 0; action = 2; noop_reason = 0; send_reason = n; bytes = bytes }) e ∙ ap action_numbers (sym told)
 
--- what each call promises, in numbers
-pub registers_numbers : (r : TestkitRegistered) (x : Registered) (rows : List ReflectorSession) (to : Registering)
-    → r ≡ registered_numbers (registration_means x.registration) x.used → Registers x rows to → RegistersNumbers r rows to
-registers_numbers r x rows to e p = (e ∙ (λ i. registered_numbers (p.outcome i) (p.used i)), p.sessions)
-
-pub removes_numbers : (r : TestkitRemoved) (x : RemovedSession) (rows : List ReflectorSession) (to : Removing)
-    → r ≡ removed_numbers (removal_means x.removal x.session) x.used x.session → Removes x rows to → RemovesNumbers r rows to
-removes_numbers r x rows to e p = (e ∙ (λ i. removed_numbers (p.outcome i) (p.used i) (p.session i)), p.sessions)
-
+-- what handling promises, in numbers
 pub answers_numbers : (r : TestkitHandled) (x : Handled) (after : List ℕ) (a : Answer) (before : List ℕ) → r ≡ handled_numbers x → Answers x after a before → AnswersNumbers r after a before
 answers_numbers r x after a before e p = (e ∙ ap handled_numbers p.0, p.1)
 

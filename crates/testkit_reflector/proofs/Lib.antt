@@ -1,4 +1,3 @@
--- The laws of the reflector's calls, the walk of those that lend their table on, and what reads back.
+-- The laws of the reflector's calls, and what reads back.
 pub mod Calls
-pub mod LentOn
 pub mod Claims

@@ -1,6 +1,8 @@
 // The C interface to the reflector: each call under the prefix `testkit_`, with the call's own contract. The session
 // table is a lent slice of records, which hold numbers only; what else a call takes and answers goes by value. A
 // version is 4 for IPv4 and every other number for IPv6. A refusal is its number, and 0 is none.
+#![tactic(auto)]
+
 ghost use Rattle.std.specs.Prelude.{◌≡◌};
 ghost use Rattle.reflector_sessions.specs.Table.{table_of};
 ghost use Rattle.reflector_sessions.specs.Register.{register_session, registration_means};
