@@ -2,6 +2,9 @@
 // how many records, how many agree, and for each number how many records have it.
 ghost use Rattle.std.specs.Prelude.{◌≡◌, length};
 
+use std::io;
+use std::io::Write;
+
 // The row of all records: no kind reaches it.
 pub const ALL: u8 = 15;
 
@@ -72,9 +75,9 @@ fn refusals(counts: &[u64], row: u8) -> u64 {
 }
 
 // A row as text, without the end of the line.
-pub fn print_row(counts: &[u64], row: u8, name: &[u8]) {
-    text::print(name);
-    text::print_count(b": ", cell(counts, place(row, RECORDS)));
-    text::print_count(b" records, ", cell(counts, place(row, AGREED)));
-    text::print_count(b" agree, refusal numbers: ", refusals(counts, row));
+pub fn print_row<W: Write>(out: &mut W, counts: &[u64], row: u8, name: &[u8]) -> io::Result<()> {
+    text::print(out, name)?;
+    text::print_count(out, b": ", cell(counts, place(row, RECORDS)))?;
+    text::print_count(out, b" records, ", cell(counts, place(row, AGREED)))?;
+    text::print_count(out, b" agree, refusal numbers: ", refusals(counts, row))
 }
