@@ -24,7 +24,8 @@ PlacedVerifies = (before after : List ℕ) → length before % 2 ≡ 0
 
 -- The damage law: bytes that differ from those sent within one span only, and have the same sum, do not differ at all.
 abbrev pub DamageFound : Type 0
-DamageFound = (sent arrived : List ℕ) → Bytes sent → Turned sent arrived → fold_of (sum_of sent) ≡ fold_of (sum_of arrived)
+DamageFound = (sent arrived : List ℕ) → Bytes sent → Turned sent arrived
+    → fold_of (sum_of sent) ≡ fold_of (sum_of arrived)
     → arrived ≡ sent
 
 -- The damage law for a receiver: a message that verifies is the one that was sent.

@@ -66,4 +66,5 @@ named (some teid_data) (some peer_address) = gives (tunnel_of teid_data peer_add
 -- The payload of an Error Indication: by which number it is refused, or the tunnel that it names.
 unfoldable pub indication_of : List ℕ → Outcome RefusedTunnel
 indication_of payload =
-    and_then (elements_in payload) (λ elements. named (first_of teid_data_i elements) (first_of gtpu_peer_address elements))
+    and_then (elements_in payload)
+    (λ elements. named (first_of teid_data_i elements) (first_of gtpu_peer_address elements))

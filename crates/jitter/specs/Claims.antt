@@ -18,7 +18,8 @@ pub record Exact (earlier later : ℕ) : Type 0 where
   pub up : earlier ≤ later → earlier + size (difference earlier later) ≡ later
   pub down : later ≤ earlier → later + size (difference earlier later) ≡ earlier
   -- "Its size is taken as at most 2^59."
-  pub small : size (difference earlier later) ≤ largest_size → size_taken earlier later ≡ size (difference earlier later)
+  pub small : size (difference earlier later) ≤ largest_size
+      → size_taken earlier later ≡ size (difference earlier later)
   pub large : largest_size ≤ size (difference earlier later) → size_taken earlier later ≡ largest_size
 
 -- The two ends of the range, and the limit.

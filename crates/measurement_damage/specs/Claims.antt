@@ -49,7 +49,8 @@ reversed_tpdu tpdu = record { flow = reversed_of tpdu.flow; measurement = tpdu.m
 pub data Sent : DecodedTpdu → List ℕ → Type 0 where
   built : (flow : InnerIpFlow) (sequence time : ℕ) → InRange flow sequence time
       → Sent (tpdu_built flow sequence time) (build_of flow sequence time)
-  echoed : (tpdu echo : List ℕ) (read : DecodedTpdu) → Bytes tpdu → read_of tpdu ≡ gives read → echo_of tpdu ≡ gives echo
+  echoed : (tpdu echo : List ℕ) (read : DecodedTpdu)
+      → Bytes tpdu → read_of tpdu ≡ gives read → echo_of tpdu ≡ gives echo
       → Sent (reversed_tpdu read) echo
 
 -- An outcome refuses, or is the one expected.

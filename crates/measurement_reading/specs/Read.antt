@@ -85,7 +85,8 @@ tpdu_of v source destination part =
     (field 8 probe_sequence (payload part)) (field 8 probe_send_time (payload part))
 
 unfoldable pub read_probe : IpVersion → List ℕ → List ℕ → List ℕ → Outcome DecodedTpdu
-read_probe v source destination part = first_cause (probe_causes (payload part)) (gives (tpdu_of v source destination part))
+read_probe v source destination part =
+    first_cause (probe_causes (payload part)) (gives (tpdu_of v source destination part))
 
 -- The part that stands behind the IP header, for both versions.
 unfoldable pub read_udp : IpVersion → List ℕ → List ℕ → List ℕ → Outcome DecodedTpdu

@@ -19,11 +19,13 @@ accepted plan next = record { outcome = gives (packets_of plan next); next = nex
 
 -- A plan is accepted if and only if it is acceptable: sequence 18,446,744,073,709,551,615 "is never sent".
 abbrev pub AcceptedIfAcceptable : Type 0
-AcceptedIfAcceptable = (plan : TrafficPlan) (next : ℕ) → Acceptable plan next → judge_plan plan next ≡ accepted plan next
+AcceptedIfAcceptable = (plan : TrafficPlan) (next : ℕ)
+    → Acceptable plan next → judge_plan plan next ≡ accepted plan next
 
 abbrev pub AcceptableIfAccepted : Type 0
 AcceptableIfAccepted = (plan : TrafficPlan) (next : ℕ) (packets : List MeasurementHeader)
-    → (judge_plan plan next).outcome ≡ gives packets → Acceptable plan next × (judge_plan plan next ≡ accepted plan next)
+    → (judge_plan plan next).outcome ≡ gives packets
+    → Acceptable plan next × (judge_plan plan next ≡ accepted plan next)
 
 -- "19 before 20 at the lowest failing k": every packet before k is right.
 pub record FirstAt (plan : TrafficPlan) (next k : ℕ) : Type 0 where

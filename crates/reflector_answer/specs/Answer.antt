@@ -176,14 +176,18 @@ other_message state message_type =
           | true ↦ ignored state EndMarkerIgnored
           | false ↦ elim (message_type == gtpu_msg_supported_extension_headers_notification) [
             | true ↦ ignored state SupportedExtensionHeadersNotificationIgnored
-            | false ↦ record { outcome = refused unsupported_message_type; state = state_counted MalformedRejected state }
+            | false ↦ record {
+              outcome = refused unsupported_message_type;
+              state = state_counted MalformedRejected state;
+            }
           ]
         ]
       ]
     ]
 
 -- A G-PDU: its TEID means a session, or none.
-abbrev pub gpdu_answer : MultiSessionReflectorConfig → ReflectorState → Option ReflectorSession → SocketAddr → ℕ → List ℕ
+abbrev pub gpdu_answer : MultiSessionReflectorConfig → ReflectorState → Option ReflectorSession → SocketAddr → ℕ
+    → List ℕ
     → Answer
 gpdu_answer config state (some session) source teid payload = gpdu_known config state session payload
 gpdu_answer config state none source teid payload = gpdu_unknown state source teid

@@ -109,8 +109,8 @@ abbrev pub reflector_bytes : ℕ
 reflector_bytes = 72
 
 -- "It is judged 30, 31, 15 (output under 72 bytes), then by type." A refusal by these leaves all.
-unfoldable pub handle_found : ℕ → ℕ → MultiSessionReflectorConfig → ReflectorState → Option ReflectorSession → SocketAddr
-    → GtpuMessage → List ℕ → List ℕ → Answer
+unfoldable pub handle_found : ℕ → ℕ → MultiSessionReflectorConfig → ReflectorState → Option ReflectorSession
+    → SocketAddr → GtpuMessage → List ℕ → List ℕ → Answer
 handle_found rows used config state session source message payload buffer =
     elim (first_cause
     (table_causes rows used config.max_sessions ++ (nat_lt (length buffer) reflector_bytes ⇒ output_too_short) ∷ [])

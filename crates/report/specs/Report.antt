@@ -111,4 +111,5 @@ report_of rs counts window_start window_end budget =
 
 -- The call: "Every call, the report too, judges 21 first".
 unfoldable pub reporting : Observer → ℕ → ℕ → PacketContinuityBudget → Outcome PacketContinuityReport
-reporting o window_start window_end budget = judged o (gives (report_of (rows o) o.counts window_start window_end budget))
+reporting o window_start window_end budget =
+    judged o (gives (report_of (rows o) o.counts window_start window_end budget))

@@ -19,7 +19,8 @@ use Rattle.return_calls.specs.declared.GtpuReturnDatagramOutcome.TheVariants.{Er
 -- The kind has this type, and it is one of the five.
 pub record OfType (message_type : ℕ) (kind : GtpuReturnDatagramOutcome) : Type 0 where
   pub type : message_type_of kind ≡ message_type
-  pub ignored : (t : ℕ) → kind ≡ Ignored t → (t ≡ gtpu_msg_end_marker) ⊎ (t ≡ gtpu_msg_supported_extension_headers_notification)
+  pub ignored : (t : ℕ) → kind ≡ Ignored t
+      → (t ≡ gtpu_msg_end_marker) ⊎ (t ≡ gtpu_msg_supported_extension_headers_notification)
 
 -- A message that is accepted is of a kind that has its type.
 abbrev pub KindIsOfType : Type 0

@@ -49,4 +49,7 @@ record_kind o time payload (Ignored message_type) = unchanged o (gives (Ignored 
 -- A message of this type and payload returns at this time; 37 leaves all as it was.
 unfoldable pub record_return_message : Observer → ℕ → ℕ → List ℕ → MessageStep
 record_return_message o time message_type payload =
-    elim (message_kind message_type) [ refused n ↦ unchanged o (refused n) | gives kind ↦ record_kind o time payload kind ]
+    elim (message_kind message_type) [
+      | refused n ↦ unchanged o (refused n)
+      | gives kind ↦ record_kind o time payload kind
+    ]

@@ -75,7 +75,8 @@ packets_in_buffer (Ok packets) next buffer = record {
   next = next;
   buffer = vecs packets ++ drop (length (vecs packets)) buffer;
 }
-packets_in_buffer (Err error) next buffer = record { outcome = refused (error_number error); next = next; buffer = buffer }
+packets_in_buffer (Err error) next buffer =
+    record { outcome = refused (error_number error); next = next; buffer = buffer }
 
 -- What our generator leaves, in the numbers that are compared.
 abbrev pub told_generating : Generating → Generating

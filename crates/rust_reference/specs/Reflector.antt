@@ -122,7 +122,8 @@ position local_teid (session ∷ sessions) =
 -- What a `Vec` has at an index. The Rust panics past the end; each index here is a `position`, or the last one.
 abbrev pub at : List ReflectorSession → ℕ → ReflectorSession
 at sessions index =
-    slice_index_or sessions index (record { local_teid = 0; peer_teid = 0; peer_addr = record { ip = V4 []; port = 0 } })
+    slice_index_or sessions index
+    (record { local_teid = 0; peer_teid = 0; peer_addr = record { ip = V4 []; port = 0 } })
 
 -- What `Vec::swap_remove` leaves: the last element stands in the hole, and the `Vec` is one shorter.
 abbrev pub swap_remove : List ReflectorSession → ℕ → List ReflectorSession

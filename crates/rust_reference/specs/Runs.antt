@@ -46,7 +46,8 @@ answer_to o (sending sequence time) = answering (λ u. done) (record_sent o sequ
 answer_to o (receiving time tpdu) = answering (λ u. done) (record_received_tpdu o time tpdu).outcome
 answer_to o (returning time message_type payload) =
     answering message (record_return_message o time message_type payload).outcome
-answer_to o (reporting_on window_start window_end budget) = answering reported (reporting o window_start window_end budget)
+answer_to o (reporting_on window_start window_end budget) =
+    answering reported (reporting o window_start window_end budget)
 
 abbrev pub after_call : Observer → Call → Observer
 after_call o (sending sequence time) = (record_sent o sequence time).observer

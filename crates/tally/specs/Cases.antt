@@ -94,7 +94,8 @@ abbrev pub table : ℕ → ℕ → List Case
 table window_start window_end =
     record {
       case = 1;
-      computed = gives (ipv4_header_checksum (build_of ipv4_flow 1 0) ∷ ipv4_udp_checksum (build_of ipv4_flow 1 0) ∷ []);
+      computed = gives (ipv4_header_checksum (build_of ipv4_flow 1 0)
+          ∷ ipv4_udp_checksum (build_of ipv4_flow 1 0) ∷ []);
       expected = gives (number 0x66b7 ∷ number 0xb1d8 ∷ []);
     }
     ∷ record {

@@ -17,4 +17,5 @@ PacketsReadBack = (flow : InnerIpFlow) (plan : TrafficPlan) (next : ℕ) (buffer
     → (n : ℕ) → (generate_of flow plan next buffer).outcome ≡ gives n
     → (k : ℕ) → k < plan.packet_count
     → (let place : ℕ = k * (ip_header_length flow.version + 32) in
-    read_of (drop place (generate_of flow plan next buffer).buffer) ≡ gives (tpdu_built flow (next + k) (time_at plan k)))
+    read_of (drop place (generate_of flow plan next buffer).buffer)
+    ≡ gives (tpdu_built flow (next + k) (time_at plan k)))

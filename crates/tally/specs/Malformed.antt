@@ -25,7 +25,8 @@ pub record Refuses21 (o : Observer) : Type 0 where
       → record_received_tpdus o times lengths bytes returned numbers
       ≡ record { outcome = refused malformed_observer; returned = returned; numbers = numbers; observer = o }
   pub returning : (time message_type : ℕ) (payload : List ℕ)
-      → record_return_message o time message_type payload ≡ record { outcome = refused malformed_observer; observer = o }
+      → record_return_message o time message_type payload
+      ≡ record { outcome = refused malformed_observer; observer = o }
   pub report : (window_start window_end : ℕ) (budget : PacketContinuityBudget)
       → reporting o window_start window_end budget ≡ refused malformed_observer
 
