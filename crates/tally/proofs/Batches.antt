@@ -36,6 +36,7 @@ sends o (p ∷ packets) = sends (record_sent o p.sequence p.send_timestamp_ns).o
 
 -- no number is 22 where none is refused
 none_full : (o : Observer) (packets : List MeasurementHeader) → NoneRefused o packets → Memᴰ observer_full (send_in_turn o packets).numbers → ⊥
+none_full o [] h m = elim m [ ]
 none_full o (p ∷ packets) h (Memᴰ.head e) =
     let z : observer_full ≡ 0 = e ∙ ap (λ (x : Outcome (Unit {0})). outcome_number x) h.0 in
     omega arith

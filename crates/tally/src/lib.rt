@@ -1,5 +1,7 @@
 // What is proved of whole runs, on the contracts of functions that do nothing: document 01's tally and the claims are
 // in specs/, the proofs in proofs/.
+#![tactic(auto)]
+
 ghost use Rattle.tally.specs.Demand.{Demand3};
 ghost use Rattle.tally.specs.Attained.{Attained};
 ghost use Rattle.tally.specs.Cases.{EightCases};
