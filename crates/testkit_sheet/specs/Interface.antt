@@ -12,7 +12,7 @@ use Rattle.measurement.specs.Flow.{version_number}
 use Rattle.return_calls.specs.Returns.{MessageStep}
 use Rattle.return_calls.specs.Tunnel.{tunnel_handed_on}
 use Rattle.received_tpdus.specs.Received.{ReturnsTaken}
-use Rattle.rows.specs.Columns.{Columns, Column, Sheet}
+use Rattle.rows.specs.Columns.{Columns, WrittenColumn, Sheet}
 use Rattle.return_calls.specs.declared.GtpuReturnDatagramOutcome.{GtpuReturnDatagramOutcome}
 use Rattle.return_calls.specs.declared.GtpuReturnDatagramOutcome.TheVariants.{MeasurementTpdu, ErrorIndication}
 use Rattle.return_calls.specs.declared.GtpuReturnDatagramOutcome.TheVariants.{EchoResponse, Ignored}
@@ -56,7 +56,7 @@ pub record ReturnsStep (r : TestkitReturnsRecorded) (returned numbers : List ℕ
   pub returns_answered : numbers ≡ s.numbers
   pub same_columns : columns ≡ s.observer.columns
 
-abbrev pub RecordsReturns : Sheet → ObserverCounts → TestkitReturnsRecorded → Column → Column
+abbrev pub RecordsReturns : Sheet → ObserverCounts → TestkitReturnsRecorded → WrittenColumn → WrittenColumn
     → (Observer → List ℕ → List ℕ → ReturnsTaken) → Type 0
 RecordsReturns s c r returned numbers definition =
     ReturnsStep r returned.exit.now numbers.exit.now s.exit

@@ -1,9 +1,11 @@
 // The C interface to the run sheet, its report and the verdict on it: each call under the prefix `testkit_`, on numbers
 // and lent columns, with the call's own contract. A slice passes as a pointer and a length; counts, plans and budgets
 // go by value, as the crates below have them. A refusal is its number, and 0 is none.
+#![tactic(auto)]
+
 ghost use Rattle.std.specs.Prelude.{◌≡◌};
 ghost use Rattle.error.specs.Outcome.{refused, gives, outcome_number};
-ghost use Rattle.rows.specs.Columns.{sheet};
+ghost use Rattle.rows.specs.Columns.{sheet, marked_sheet, written_sheet};
 ghost use Rattle.observer.specs.Sending.{record_sent};
 ghost use Rattle.observer.specs.Answer.{recording_means, lent};
 ghost use Rattle.sent_plan.specs.SendingPlan.{record_sent_plan};
@@ -58,7 +60,7 @@ pub extern "C" fn testkit_record_sent(
     sequence: u64,
     send_timestamp_ns: u64,
 ) -> TestkitRecorded
-    ensures { Records (sheet sequences send_timestamps latencies marks arrival_timestamps) counts result
+    ensures { Records (written_sheet sequences send_timestamps latencies marks arrival_timestamps) counts result
         (λ o. record_sent o sequence send_timestamp_ns) }
 {
     recorded_numbers(observer::record_sent(
@@ -85,7 +87,7 @@ pub extern "C" fn testkit_record_received_tpdu(
     return_timestamp_ns: u64,
     tpdu: &[u8],
 ) -> TestkitRecorded
-    ensures { Records (sheet sequences send_timestamps latencies marks arrival_timestamps) counts result
+    ensures { Records (marked_sheet sequences send_timestamps latencies marks arrival_timestamps) counts result
         (λ o. record_received_tpdu o return_timestamp_ns tpdu.now) }
 {
     recorded_numbers(return_calls::record_received_tpdu(
@@ -112,7 +114,7 @@ pub extern "C" fn testkit_record_sent_plan(
     plan: TrafficPlan,
     next_sequence: u64,
 ) -> TestkitRecorded
-    ensures { Records (sheet sequences send_timestamps latencies marks arrival_timestamps) counts result
+    ensures { Records (written_sheet sequences send_timestamps latencies marks arrival_timestamps) counts result
         (λ o. record_sent_plan o plan next_sequence) }
 {
     recorded_numbers(sent_plan::record_sent_plan(
@@ -182,7 +184,7 @@ pub extern "C" fn testkit_record_received_tpdus(
     returned: &mut [u64],
     numbers: &mut [u8],
 ) -> TestkitReturnsRecorded
-    ensures { RecordsReturns (sheet sequences send_timestamps latencies marks arrival_timestamps) counts result
+    ensures { RecordsReturns (marked_sheet sequences send_timestamps latencies marks arrival_timestamps) counts result
         returned numbers
         (λ o. record_received_tpdus o return_timestamps.now lengths.now tpdus.now) }
 {
@@ -295,7 +297,7 @@ pub extern "C" fn testkit_record_return_gtpu_datagram(
     message_type: u8,
     payload: &[u8],
 ) -> TestkitDatagramRecorded
-    ensures { RecordsDatagram (sheet sequences send_timestamps latencies marks arrival_timestamps) counts result
+    ensures { RecordsDatagram (marked_sheet sequences send_timestamps latencies marks arrival_timestamps) counts result
         payload.now
         (λ o. record_return_message o return_timestamp_ns message_type payload.now) }
 {
