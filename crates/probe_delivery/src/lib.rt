@@ -1,5 +1,7 @@
 // One probe through the reflector and back: what it sends is damaged as the scenario says, recorded on the run sheet by
 // the proved call, and noted.
+#![tactic(auto)]
+
 use gtpu::{GtpuMessage, RefusedTunnel};
 use observer::ObserverCounts;
 use probe_fate::FirstIndication;

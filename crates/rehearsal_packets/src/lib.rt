@@ -1,4 +1,6 @@
 // The packets of a rehearsal, by an engine (leaf 5), and how big they will be.
+#![tactic(auto)]
+
 ghost use Rattle.std.specs.Prelude.{◌≡◌};
 ghost use Rattle.measurement.specs.Answer.{written_means};
 ghost use Rattle.traffic.specs.Generate.{generate_of};

@@ -1,4 +1,6 @@
 // The reflector of a rehearsal: the proved one, with one session.
+#![tactic(auto)]
+
 use gtpu::{GtpuMessage, SequenceNumber};
 use measurement::InnerIpFlow;
 use reflector_answer::{

@@ -1,6 +1,8 @@
 // A rehearsal of a cutover in memory: a plan's probes go through the reflector and back over a path that does what the
 // scenario says, and what came back is recorded in the order of arrival. Packets, echoes, the run sheet and the report
 // come from the proved calls; this crate itself is proved only to be safe and to end.
+#![tactic(auto)]
+
 ghost use Rattle.std.specs.Prelude.{◌≡◌, length};
 
 use evidence::PacketContinuityBudget;

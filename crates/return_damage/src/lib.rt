@@ -1,4 +1,6 @@
 // What the way back does to the bytes of a return, as the scenario says.
+#![tactic(auto)]
+
 use measurement::layout;
 use scenario::Scenario;
 
