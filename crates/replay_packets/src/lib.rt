@@ -1,5 +1,7 @@
 // The calls on packets, each on a record of the data: whether it answers what the Rust answered, and leaves every byte
 // of the output as the record has it.
+#![tactic(auto)]
+
 use plan::TrafficPlan;
 use testkit_packets::{TestkitElements, TestkitPlanForecast, TestkitTpdu, TestkitWritten};
 

@@ -1,6 +1,8 @@
 // The reflector's calls, each on a record of the data. A record begins with the table before the call: the used count
 // (1 byte), the maximum (2) and 6 rows of 27 bytes, each both TEIDs and the peer's address; an address is version, 16
 // bytes and port. Every row is compared afterwards, used or not.
+#![tactic(auto)]
+
 use reflector_answer::{ReflectorState, ReflectorStats};
 use reflector_by_value::{RegisteredRows, RemovedRows};
 use reflector_sessions::{LentSocketAddr, ReflectorSession};

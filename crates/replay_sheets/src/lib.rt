@@ -2,6 +2,8 @@
 // the sheet before the call: the counts (25 bytes) and the columns, of 6 rows (198). A call that may change it then has
 // the counts and the columns after the call; what the datagram was and its message's type (2 bytes, else 0); two
 // numbers (16); and a payload. Every cell is compared, lent or not.
+#![tactic(auto)]
+
 ghost use Rattle.std.specs.Prelude.{◌≤◌, ◌≡◌, length};
 
 use evidence::PacketContinuityBudget;
