@@ -79,7 +79,8 @@ function finish(    head, result, parameters) {
 }
 
 { sub(/^ *\/\/.*$/, "") }
-/^#\[(repr\(C\)|no_mangle)\]$/ { open = 1; item = ""; next }
+/^#\[(repr\(C\)|(unsafe\()?no_mangle\)?)\]$/ { open = 1; item = ""; next }
+/^#\[/ { next }
 open && item ~ /^pub extern/ && /^ +(ensures|requires)/ { open = 0; finish(); next }
 open { item = item " " $0; sub(/^ +/, "", item) }
 open && item ~ /^pub struct/ && /^}$/ { open = 0; finish() }
