@@ -35,7 +35,8 @@ use Rattle.rust_reference.specs.Sheet.{sent_of, received_of, highest_key, Same}
 use Rattle.rust_reference.specs.Answers.{tpdu_of}
 use Rattle.rust_reference.specs.Gtpu.{validate_error_indication_ies}
 use Rattle.rust_reference.specs.Measurement as measurement
-use Rattle.rust_reference.specs.Traffic.{ContinuityObserver, Recorded, tried, ok_or, checked_sub, record_sent, duplicate, first_return, record_received_tpdu, error_indication, record_return_gtpu_datagram}
+use Rattle.rust_reference.specs.Traffic as traffic
+use Rattle.rust_reference.specs.Traffic.{ContinuityObserver, Recorded, tried, ok_or, checked_sub, duplicate, first_return, error_indication, record_return_gtpu_datagram}
 use Rattle.rust_reference.proofs.Decoding.{decoded}
 use Rattle.rust_reference.proofs.Elements.{validate}
 use Rattle.rust_reference.proofs.Maps.{Located, found, absent, locate, get_found, insert_found, received_resent, contains_found, insert_received, sent_returned, get_absent, insert_absent, received_entered, row_found, set_found, put_absent, late_is, insert_fits, highest_insert}
@@ -76,11 +77,11 @@ module _ (rust : ContinuityObserver) (o : Observer) (same : Same rust o) (q t : 
   -- the rows X are put back, and hold what the map then holds
   sent_with : (X : List Row) → length X ≤ capacity o → step o (gives (with_rows X o)) ≡ record_sent o q t → insert q t (sent_of (rows o)) ≡ sent_of X
       → received_of X ≡ received_of (rows o)
-      → (gives tt ≡ (record_sent o q t).outcome) × Same (record_sent rust q t) (record_sent o q t).observer × (capacity (record_sent o q t).observer ≡ capacity o)
-  unfolding record_sent with_rows
+      → (gives tt ≡ (record_sent o q t).outcome) × Same (traffic.record_sent rust q t) (record_sent o q t).observer × (capacity (record_sent o q t).observer ≡ capacity o)
+  unfolding traffic.record_sent with_rows
   sent_with X room e s r = (
     ap (λ (x : Step). x.outcome) e,
-    subst (λ (x : Step). Same (record_sent rust q t) x.observer) e (record {
+    subst (λ (x : Step). Same (traffic.record_sent rust q t) x.observer) e (record {
       well = ap (λ (x : Step). well_formed x.observer) e ∙ calls_keep_well o (sending q t ∷ []) same.well;
       sent = ap (insert q t) same.sent ∙ s ∙ ap sent_of (sym (rows_with X o));
       received = same.received ∙ sym r ∙ ap received_of (sym (rows_with X o));
@@ -97,7 +98,7 @@ module _ (rust : ContinuityObserver) (o : Observer) (same : Same rust o) (q t : 
   used_fits = let w = well o same.well in omega (arith, w.fronts.count, w.fits)
 
   sending_located : (was_sent q (rows o) ≡ false → o.counts.used ≡ capacity o → ⊥) → Located q (rows o)
-      → (gives tt ≡ (record_sent o q t).outcome) × Same (record_sent rust q t) (record_sent o q t).observer × (capacity (record_sent o q t).observer ≡ capacity o)
+      → (gives tt ≡ (record_sent o q t).outcome) × Same (traffic.record_sent rust q t) (record_sent o q t).observer × (capacity (record_sent o q t).observer ≡ capacity o)
   sending_located free (found before r after e b s a p w) =
       let X = before ++ resent t r ∷ after in
       let put : set (rows o) (place_of q (rows o)) (resent t (row_of q (rows o))) ≡ X =
@@ -117,7 +118,7 @@ module _ (rust : ContinuityObserver) (o : Observer) (same : Same rust o) (q t : 
       (received_entered q before after b a t ∙ ap received_of (sym e))
 
 pub sending_kept : (rust : ContinuityObserver) (o : Observer) → Same rust o → (q t : ℕ) → (was_sent q (rows o) ≡ false → o.counts.used ≡ capacity o → ⊥)
-    → (gives tt ≡ (record_sent o q t).outcome) × Same (record_sent rust q t) (record_sent o q t).observer × (capacity (record_sent o q t).observer ≡ capacity o)
+    → (gives tt ≡ (record_sent o q t).outcome) × Same (traffic.record_sent rust q t) (record_sent o q t).observer × (capacity (record_sent o q t).observer ≡ capacity o)
 sending_kept rust o same q t free = sending_located rust o same q t free (locate q (rows o) (well_rows o same.well).rises)
 
 -- where 22 is not due, a row is free for a new sequence
@@ -298,8 +299,8 @@ module _ (rust : ContinuityObserver) (o : Observer) (same : Same rust o) (t : �
       arrives rust o same t fits d.measurement.sequence (locate d.measurement.sequence (rows o) (well_rows o same.well).rises)
   received_as (Err x) read (both_refuse {n = n} e) = refused_as rust o same t fits 0 x n e (refusing o n) (refusing_well o n same.well)
 
-  pub received_step : (tpdu : List ℕ) → Compared tpdu → AsStep o (record_received_tpdu rust t tpdu) (record_received_tpdu o t tpdu)
-  unfolding record_received_tpdu record_received_tpdu
+  pub received_step : (tpdu : List ℕ) → Compared tpdu → AsStep o (traffic.record_received_tpdu rust t tpdu) (record_received_tpdu o t tpdu)
+  unfolding traffic.record_received_tpdu record_received_tpdu
   received_step tpdu c = received_as (measurement.decode_measurement_tpdu tpdu) (sequence_read tpdu) (sequence_read_lem tpdu c)
 
 pub received_same : RecordReceivedTpdu
@@ -383,7 +384,7 @@ module _ (rust : ContinuityObserver) (o : Observer) (same : Same rust o) where
       (λ is.
       let a = received_step rust o same t fits payload (c (eqb-true ty 255 is)) in
       said (message_255 ty o t payload (eqb-true ty 255 is))
-      (as_kind o MeasurementTpdu (record_received_tpdu rust t payload).result (record_received_tpdu rust t payload).observer (record_received_tpdu o t payload) a.answer a.same a.room))
+      (as_kind o MeasurementTpdu (traffic.record_received_tpdu rust t payload).result (traffic.record_received_tpdu rust t payload).observer (record_received_tpdu o t payload) a.answer a.same a.room))
       (λ no. branch o (eqb ty 26) _ _ _
       (λ is. said (message_26 ty o t payload (eqb-true ty 26 is)) (indicated (validate_error_indication_ies payload) (elements_of payload) (alike (λ u. u) (validate_error_indication_ies payload) (elements_of payload) (validate payload))))
       (λ nor. said (message_other ty o t payload (eqb-false ty 255 no) (eqb-false ty 26 nor))

@@ -55,11 +55,11 @@ place teid (row ∷ rows) = by (eqb row.local_teid teid) refl (place teid rows)
 -- ---- removal
 
 module _ (r : Reflector) (teid : ℕ) (s : SoundIn r) where
-  abbrev used_rows : List ReflectorSession
-  used_rows = used_rows (table_in r)
+  abbrev used : List ReflectorSession
+  used = used_rows (table_in r)
 
   abbrev hole : ℕ
-  hole = place_of teid used_rows
+  hole = place_of teid used
 
   abbrev pub Comes : rust.Called (map.Option rust.ReflectorSession) → Outcome (Option ReflectorSession) → Type 0
   Comes after o =
@@ -67,33 +67,33 @@ module _ (r : Reflector) (teid : ℕ) (s : SoundIn r) where
       × (after.reflector ≡ rust_reflector (with_table (removed_table o hole (table_in r)) r))
       × SoundIn (with_table (removed_table o hole (table_in r)) r)
 
-  count : length used_rows ≡ r.used
+  count : length used ≡ r.used
   count = length-take-le r.used r.sessions (used_within (length r.sessions) r.used r.config.max_sessions s)
 
   abbrev last : ReflectorSession
   last = get_or r.sessions (r.used - 1) no_session
 
   -- the `Vec`'s last element is the last used row
-  last_is : hole < length used_rows → rust.at (rust_reflector r).sessions (length (rust_reflector r).sessions - 1) ≡ rust_session last
+  last_is : hole < length used → rust.at (rust_reflector r).sessions (length (rust_reflector r).sessions - 1) ≡ rust_session last
   last_is h =
       ap (λ (n : ℕ). rust.at (rust_reflector r).sessions (n - 1)) (vec_length r s)
-      ∙ get_d_map rust_session used_rows (r.used - 1) no_session _ (omega (arith, count))
+      ∙ get_d_map rust_session used (r.used - 1) no_session _ (omega (arith, count))
       ∙ ap rust_session (get_or-take r.used r.sessions (r.used - 1) no_session (omega (arith, count)))
 
-  swapped : hole < length used_rows → rust.swap_remove (rust_reflector r).sessions hole ≡ map rust_session (take (r.used - 1) (set r.sessions hole last))
+  swapped : hole < length used → rust.swap_remove (rust_reflector r).sessions hole ≡ map rust_session (take (r.used - 1) (set r.sessions hole last))
   swapped h =
       ap (λ (x : rust.ReflectorSession). take (length (rust_reflector r).sessions - 1) (set (rust_reflector r).sessions hole x)) (last_is h)
       ∙ ap (λ (n : ℕ). take (n - 1) (set (rust_reflector r).sessions hole (rust_session last))) (vec_length r s)
-      ∙ ap (take (r.used - 1)) (set_map rust_session used_rows hole last)
-      ∙ take_map rust_session (r.used - 1) (set used_rows hole last)
+      ∙ ap (take (r.used - 1)) (set_map rust_session used hole last)
+      ∙ take_map rust_session (r.used - 1) (set used hole last)
       ∙ ap (λ (l : List ReflectorSession). map rust_session (take (r.used - 1) l)) (sym (take-set-lt r.used r.sessions hole last (omega (arith, count))))
       ∙ ap (map rust_session) (take-take (r.used - 1) r.used (set r.sessions hole last) (omega arith))
 
-  taken : Placed teid used_rows → Comes (rust.remove_session (rust_reflector r) teid) (gives (find teid used_rows))
+  taken : Placed teid used → Comes (rust.remove_session (rust_reflector r) teid) (gives (find teid used))
   unfolding rust.remove_session
   taken (placed session f p l g) =
       rw (p, f, rust.remove_session) (
-        ap (λ (x : rust.ReflectorSession). gives (map.Some x)) (get_d_map rust_session used_rows hole no_session _ l ∙ ap rust_session g),
+        ap (λ (x : rust.ReflectorSession). gives (map.Some x)) (get_d_map rust_session used hole no_session _ l ∙ ap rust_session g),
         ap (λ (v : List rust.ReflectorSession). rust.with_sessions v (rust_reflector r)) (swapped l),
         record {
           above = s.above;
@@ -107,8 +107,8 @@ module _ (r : Reflector) (teid : ℕ) (s : SoundIn r) where
   pub removed_in : Comes (rust.remove_session (rust_reflector r) teid) (remove_session (table_in r) teid).outcome
   unfolding remove_session remove_outcome
   removed_in =
-      subst (Comes (rust.remove_session (rust_reflector r) teid)) (passes (gives (find teid used_rows)) (is_sound (length r.sessions) r.used r.config.max_sessions s))
-      (taken (place teid used_rows))
+      subst (Comes (rust.remove_session (rust_reflector r) teid)) (passes (gives (find teid used)) (is_sound (length r.sessions) r.used r.config.max_sessions s))
+      (taken (place teid used))
 
 pub remove_sound : (r : Reflector) → Fits r.config.max_sessions → (teid : ℕ) → NoneAdded (remove_session (table_in r) teid).outcome → SoundIn r
 unfolding remove_session remove_outcome

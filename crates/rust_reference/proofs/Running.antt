@@ -23,7 +23,8 @@ use Rattle.rust_reference.specs.Map.{Option, None, Some, Entry, get, contains_ke
 use Rattle.rust_reference.specs.Gtpu.{validate_error_indication_ies}
 use Rattle.rust_reference.specs.Measurement as measurement
 use Rattle.rust_reference.specs.Runs.{Call, sending, receiving, returning, reporting_on, Typed, Answer, done, message, reported, answering, answer_to, after_call, answers_to, after, rust_answer_to, rust_after_call, rust_answers_to, rust_after}
-use Rattle.rust_reference.specs.Traffic.{ContinuityObserver, new, Recorded, tried, ok_or, checked_sub, record_sent, duplicate, first_return, record_received_tpdu, error_indication, record_return_gtpu_datagram}
+use Rattle.rust_reference.specs.Traffic as traffic
+use Rattle.rust_reference.specs.Traffic.{ContinuityObserver, new, Recorded, tried, ok_or, checked_sub, duplicate, first_return, error_indication, record_return_gtpu_datagram}
 use Rattle.rust_reference.proofs.Observing.{new_same, sending_kept, sending_same, arriving, received_step, received_same, message_step, message_same}
 use Rattle.rust_reference.proofs.Maps.{Located, found, absent, locate, insert_absent}
 use Rattle.rust_reference.proofs.Reporting.{sent_length, report_same}
@@ -102,8 +103,8 @@ module _ (rust : ContinuityObserver) (t : ℕ) where
       by None = refl
       by (Some s) = second (checked_sub t s)
 
-  received_keeps : (tpdu : List ℕ) → (record_received_tpdu rust t tpdu).observer.sent ≡ rust.sent
-  unfolding record_received_tpdu
+  received_keeps : (tpdu : List ℕ) → (traffic.record_received_tpdu rust t tpdu).observer.sent ≡ rust.sent
+  unfolding traffic.record_received_tpdu
   received_keeps tpdu = by (measurement.decode_measurement_tpdu tpdu)
     where
       by : (x : Result measurement.DecodedTpdu) → (tried x rust (λ d. arriving rust t d.measurement.sequence)).observer.sent ≡ rust.sent
@@ -115,7 +116,7 @@ module _ (rust : ContinuityObserver) (t : ℕ) where
   message_keeps ty payload = by (eqb ty 255) (eqb ty 26) (eqb ty 2) (eqb ty 254 || eqb ty 31)
     where
       received : Recorded (Unit {0})
-      received = record_received_tpdu rust t payload
+      received = traffic.record_received_tpdu rust t payload
 
       as_return : (r : Result (Unit {0})) → (tried r received.observer (λ u. record { result = Ok MeasurementTpdu; observer = received.observer })).observer.sent ≡ rust.sent
       as_return (Ok u) = received_keeps payload
@@ -149,7 +150,7 @@ module _ (rust : ContinuityObserver) (t : ℕ) where
       by false false false false = refl
 
 call_grows : (rust : ContinuityObserver) (call : Call) → length rust.sent ≤ length (rust_after_call rust call).sent
-unfolding record_sent
+unfolding traffic.record_sent
 call_grows rust (sending q t) = insert_grows q t rust.sent
 call_grows rust (receiving t tpdu) = omega (arith, ap length (received_keeps rust t tpdu))
 call_grows rust (returning t ty payload) = omega (arith, ap length (message_keeps rust t ty payload))
@@ -183,7 +184,7 @@ free_row rust o same room q t h w full = by (locate q (rows o) (well_rows o same
 
 call_free : (rust : ContinuityObserver) (o : Observer) → Same rust o → capacity o ≡ 2048 → (call : Call) → Typed call → length (rust_after_call rust call).sent ≤ 2048
     → (rust_answer_to rust call ≡ told (answer_to o call)) × Same (rust_after_call rust call) (after_call o call) × (capacity (after_call o call) ≡ capacity o)
-unfolding record_sent
+unfolding traffic.record_sent
 call_free rust o same room (sending q t) typed h =
     let s = sending_kept rust o same q t (free_row rust o same room q t h) in (ap (λ (x : Outcome (Unit {0})). told (answering (λ u. done) x)) s.0, s.1, s.2)
 call_free rust o same room (receiving t tpdu) typed h =

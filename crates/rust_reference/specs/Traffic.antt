@@ -62,26 +62,26 @@ checked number e = elim (leb number u64_max) [ true ↦ Ok number | false ↦ Er
 -- lines 89 to 112: `for offset in 0..plan.packet_count`, the turns that are left from this offset on, with the engine's
 -- next sequence and the packets that were pushed
 unfoldable pub for_offset : ℕ → ℕ → InnerIpFlow → TrafficPlan → ℕ → ℕ → List GeneratedPacket → Generated
-for_offset zero offset flow plan interval_ns_lem next_sequence packets = record {
+for_offset zero offset flow plan interval next_sequence packets = record {
   result = Ok packets;
   next_sequence = next_sequence;
 }
-for_offset (suc turns) offset flow plan interval_ns_lem next_sequence packets =
+for_offset (suc turns) offset flow plan interval next_sequence packets =
     let sequence : ℕ = next_sequence in
     attempted (checked (next_sequence + 1) (Overflow error.sequence)) next_sequence λ next_sequence.
-    attempted (checked (offset * interval_ns_lem) (Overflow error.send_timestamp_ns)) next_sequence λ offset_ns.
+    attempted (checked (offset * interval) (Overflow error.send_timestamp_ns)) next_sequence λ offset_ns.
     attempted (checked (plan.first_send_timestamp_ns + offset_ns) (Overflow error.send_timestamp_ns))
     next_sequence λ send_timestamp_ns.
     attempted (build_measurement_tpdu flow sequence send_timestamp_ns) next_sequence λ tpdu.
-    for_offset turns (suc offset) flow plan interval_ns_lem next_sequence
+    for_offset turns (suc offset) flow plan interval next_sequence
     (packets ++ record { sequence = sequence; send_timestamp_ns = send_timestamp_ns; tpdu = tpdu } ∷ [])
 
 -- lines 78 to 114. `usize::try_from(plan.packet_count)` only reserves room, and does not fail where a `usize` has 64
 -- bits.
 unfoldable pub generate : ℕ → InnerIpFlow → TrafficPlan → Generated
 generate next_sequence flow plan =
-    attempted (interval_ns plan) next_sequence λ interval_ns_lem.
-    for_offset plan.packet_count 0 flow plan interval_ns_lem next_sequence []
+    attempted (interval_ns plan) next_sequence λ interval.
+    for_offset plan.packet_count 0 flow plan interval next_sequence []
 
 -- ---- the observer
 

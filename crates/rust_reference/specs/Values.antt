@@ -1,5 +1,5 @@
 -- Integers and slices, as the Rust's functions use them.
-use Rattle.std.specs.Prelude.{ℕ, ◌+◌, ◌-◌, ◌*◌, ◌%◌, min, Bool, List, ◌++◌, length, take, drop, slice_index, slice_range}
+use Rattle.std.specs.Prelude.{ℕ, ◌+◌, ◌*◌, ◌%◌, min, Bool, List, ◌++◌, length, take, drop, slice_index, slice_range}
 use Rattle.field.specs.Field.{same_bytes}
 
 -- `slice[at]`. The Rust panics past the end; every index in these files is behind a test of the length.
