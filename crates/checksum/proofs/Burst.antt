@@ -1,7 +1,7 @@
 -- The checksum finds every burst: bits turned within one span of at most 16 neighbouring bits.
 -- The bytes are read as one number, in base 2. As 2 ^ 16 is 1 modulo 65535, the sum of the words is that number (with a zero byte behind
 -- it, if the count of bytes is odd), and as 2 has an inverse there, equal sums have equal spans.
-use Prim.Native.Nat.{ℕ, zero, suc, ◌+◌, ◌-◌, ◌*◌, ◌^◌, ◌<◌, ◌≤◌}
+use Prim.Native.Nat.{ℕ, zero, suc, ◌+◌, ◌*◌, ◌^◌, ◌<◌, ◌≤◌}
 use native.Mathlib.Omega.{arith}
 use native.Mathlib.Nat.{pow-suc}
 use mathlib.Core.Path.{◌≡◌, refl, sym, ap, ◌∙◌}

@@ -2,6 +2,8 @@
 // Rust's error.rs has an enum with texts, each cause here is its number, named in the Rust's words where it has any.
 // specs/Number.antt says what each number means, and `numbers` proves that the two lists agree. Numbers up to 50 are
 // kept for this list.
+#![tactic(auto)]
+
 ghost use Rattle.std.specs.Prelude.{◌≡◌};
 ghost use Rattle.error.specs.Number.{numbers_of};
 

@@ -1,5 +1,7 @@
 // The bytes and the value of a 16-bit big-endian field, and the value of a 32-bit one. Wider fields are defined and
 // proved in specs/ and proofs/, over any width.
+#![tactic(auto)]
+
 ghost use Rattle.std.specs.Prelude.{◌≡◌, ◌+◌, ◌*◌, ◌/◌, ◌%◌, ◌^◌, ◌<◌};
 
 // A byte as a number of 64 bits. For a byte read from a slice, a call asks less of the caller's proof than a cast.

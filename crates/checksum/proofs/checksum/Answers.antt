@@ -1,5 +1,4 @@
 -- `checksum::checksum` meets its contract.
-use borrow.Author.Rules.{rules}
 use native.Mathlib.Nat.{zero-add}
 use Rattle.checksum.specs.Sum.{checksum_of}
 use Rattle.checksum.proofs.checksum.Goals as goal

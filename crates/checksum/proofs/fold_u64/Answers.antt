@@ -3,7 +3,6 @@ use Prim.Native.Nat.{ℕ, ◌+◌, ◌/◌, ◌%◌, ◌<◌}
 use mathlib.Core.Path.{◌≡◌, ap, ◌∙◌}
 use native.Mathlib.Omega.{arith}
 use lib.Bits.{bit_and, and_mask}
-use borrow.Author.Rules.{rules}
 use Rattle.checksum.specs.Sum.{fold_of}
 use Rattle.checksum.proofs.Carries.{like_halves, like_once, like_trans, fold_of_like}
 use Rattle.checksum.proofs.fold_u64.Goals as goal

@@ -1,7 +1,6 @@
 -- `checksum::sum` meets its contract.
 use Prim.Native.Nat.{ℕ, ◌+◌, ◌/◌}
 use mathlib.Core.Path.{ap, ◌∙◌}
-use borrow.Author.Rules.{rules}
 use native.Mathlib.Omega.{arith}
 use lib.Bits.{bit_and, and_mask}
 use Rattle.checksum.specs.Sum.{sum_of, fold_of}

@@ -1,14 +1,8 @@
 -- `checksum::sum_block` meets its contract. The loop's invariant: the sum so far and the words that are left fold to what all fold to.
-use Prim.Native.Nat.{ℕ, ◌+◌, ◌*◌, ◌-◌, ◌≤◌}
-use mathlib.Core.Path.{◌≡◌, ap, ◌∙◌}
-use borrow.Author.Rules.{rules}
-use native.Mathlib.Omega.{arith}
-use native.Mathlib.Nat.{min-le_left}
-use mathlib.Core.List.{List}
-use lib.ListN.{length, drop, length-take, length-drop}
-use lib.Seq.{take_all}
+use Prim.Native.Nat.{◌+◌, ◌*◌, ◌-◌, ◌≤◌}
+use mathlib.Core.Path.{◌≡◌}
+use lib.ListN.{length, drop}
 use Rattle.checksum.specs.Sum.{sum_of, fold_of}
-use Rattle.checksum.proofs.Sums.{sum_eight}
 use Rattle.checksum.proofs.sum_block.Given as goal
 
 abbrev pub invariant-loop-i : goal.invariant-loop-i

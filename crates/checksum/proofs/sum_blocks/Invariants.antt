@@ -1,13 +1,8 @@
 -- `checksum::sum_blocks` meets its contract. The loop's invariant: the sum so far and the words that are left fold to what all fold to.
-use Prim.Native.Nat.{ℕ, ◌+◌, ◌-◌, ◌<◌, ◌≤◌}
-use mathlib.Core.Path.{◌≡◌, refl, ap, ◌∙◌}
-use borrow.Author.Rules.{rules}
-use native.Mathlib.Omega.{arith}
-use mathlib.Core.List.{List}
-use lib.ListN.{length, drop, length-drop}
-use lib.Seq.{take_all}
+use Prim.Native.Nat.{◌+◌, ◌-◌, ◌<◌, ◌≤◌}
+use mathlib.Core.Path.{◌≡◌}
+use lib.ListN.{length, drop}
 use Rattle.checksum.specs.Sum.{sum_of, fold_of}
-use Rattle.checksum.proofs.Sums.{block_added, block_turn}
 use Rattle.checksum.proofs.sum_blocks.Given as goal
 
 abbrev pub invariant-loop-i : goal.invariant-loop-i

@@ -1,5 +1,4 @@
 -- `checksum::sum_last` meets its contract.
-use borrow.Author.Rules.{rules}
 use native.Mathlib.Omega.{arith}
 use Rattle.checksum.proofs.Sums.{sum_two, sum_one, sum_none}
 use Rattle.checksum.proofs.sum_last.Goals as goal

@@ -1,6 +1,5 @@
 -- `checksum::verify` meets its contract: the sum is all ones, and then the damage law applies.
 use mathlib.Core.Path.{ap, sym, ◌∙◌}
-use borrow.Author.Rules.{rules}
 use borrow.Author.Tests.{eqb-true}
 use native.Mathlib.Nat.{zero-add}
 use Rattle.checksum.specs.Sum.{fold_of}

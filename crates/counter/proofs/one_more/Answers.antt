@@ -1,6 +1,5 @@
 -- `counter::one_more` meets its contract.
 use native.Mathlib.Omega.{arith}
-use borrow.Author.Rules.{rules}
 use Rattle.counter.specs.Counter.{one_more}
 use Rattle.counter.proofs.one_more.Goals as goal
 

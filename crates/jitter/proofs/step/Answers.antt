@@ -1,6 +1,5 @@
 -- `jitter::step` meets its contract: what is taken off in parts is (state + 8) / 16.
 use native.Mathlib.Omega.{arith}
-use borrow.Author.Rules.{rules}
 use Rattle.jitter.specs.Jitter.{stepped}
 use Rattle.jitter.proofs.step.Goals as goal
 

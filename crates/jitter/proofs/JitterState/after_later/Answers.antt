@@ -2,7 +2,6 @@
 use Prim.Native.Nat.{ℕ}
 use mathlib.Core.Path.{ap, ◌∙◌}
 use native.Mathlib.Omega.{arith}
-use borrow.Author.Rules.{rules}
 use Rattle.jitter.specs.Jitter.{stepped}
 use Rattle.jitter.proofs.Steps.{size_bounded}
 use Rattle.jitter.proofs.JitterState.after_later.Goals as goal
