@@ -1,7 +1,7 @@
 // The library for C: every call of the interface, in one archive, libtestkit.a. What a call does and promises stands in
-// the crate of its layer (testkit_packets, testkit_sheet, testkit_reflector), which Rattle code uses too. Rattle exports
-// to C only what a static library itself defines, so each call stands here once more, under the same name and with the
-// same clauses.
+// the crate of its layer (testkit_packets, testkit_sheet, testkit_reflector), which Rattle code uses too. Rattle
+// exports to C only what a static library itself defines, so each call stands here once more, under the same name and
+// with the same clauses.
 #![tactic(auto)]
 
 ghost use Rattle.std.specs.Prelude.{◌≡◌, ◌+◌, true, eqb};
