@@ -230,7 +230,7 @@ fn input_room() -> [u8; 65536]
 // Rehearses the lines of standard input. A full buffer is not accepted, since there may be more input.
 fn rehearse_input<R: Read, W: Write>(input: &mut R, out: &mut W) -> io::Result<u64> {
     let mut text = input_room();
-    let n = text::read_full(input, &mut text)?;
+    let n = text::read_full(input, &mut text);
     if n == 0 {
         return print_not_accepted(out, b"standard input has no line");
     }

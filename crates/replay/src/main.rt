@@ -120,7 +120,7 @@ fn room() -> [u8; 1048576]
 
 fn main(rt: HostRuntime) -> io::Result<()> {
     let mut space = room();
-    let n = text::read_full(&mut rt.reader(), &mut space)?;
+    let n = text::read_full(&mut rt.reader(), &mut space);
     let mut counts = summary::fresh();
     replay_and_print(&mut io::writer(&rt), &space[..n], &mut counts)
 }

@@ -1,8 +1,8 @@
-// Text: words that are read, and numbers that are printed, from any reader and to any writer. What reads or prints
-// answers the first error of either, and stops there.
+// Text: words that are read, numbers that are printed to any writer, and the bytes of any reader. What prints answers
+// the writer's error, and stops at the first.
 #![tactic(auto)]
 
-ghost use Rattle.std.specs.Prelude.{◌≤◌, length, OnOk, IfOk};
+ghost use Rattle.std.specs.Prelude.{◌≤◌, length, OnOk};
 ghost use Rattle.std.specs.Io.KnownBytes.{Appends};
 
 use std::io;
@@ -98,19 +98,19 @@ pub fn number(s: &[u8]) -> u64 {
     n
 }
 
-// Reads until the room is full or the input ends, and answers how many bytes it has put at the front.
-pub fn read_full<R: Read>(input: &mut R, room: &mut [u8]) -> io::Result<usize>
-    ensures { IfOk result (λ n. n ≤ length room.new) }
+// Reads until the room is full, the input ends or a read fails, and answers how many bytes it has put at the front.
+pub fn read_full<R: Read>(input: &mut R, room: &mut [u8]) -> usize
+    ensures { result ≤ length room.new }
 {
     let mut n = 0;
     while n < room.len() {
-        let more = input.read(&mut room[n..])?;
+        let more = input.read(&mut room[n..]).unwrap_or(0);
         if more == 0 {
             break;
         }
         n += more;
     }
-    Ok(n)
+    n
 }
 
 pub fn print<W: Write>(out: &mut W, s: &[u8]) -> io::Result<()>
