@@ -155,14 +155,14 @@ payload_bytes_lem u b = bytes_take (field 2 4 u - 8) (drop 8 u) (bytes_drop 8 u 
 rest4 : List ℕ → List ℕ → List ℕ → Result rust.DecodedTpdu
 rest4 src dst u = do
   segment ← rust.parse_udp_segment u
-  return_if (not (eqb (u16_at u 6) 0) && not (eqb (rust.checksum_udp_ipv4_including_checksum src dst u) 0)) (InvalidPacket error.invalid_IPv4-UDP-checksum)
+  return_if (not (eqb (u16_at u 6) 0) && not (eqb (rust.checksum_udp_ipv4_including_checksum src dst u) 0)) (InvalidPacket error.invalid_IPv4_UDP_checksum)
   measurement ← rust.decode segment.payload
   Ok (record { flow = rust.Ipv4 src dst segment.src_port segment.dst_port; measurement = measurement })
 
 rest6 : List ℕ → List ℕ → List ℕ → Result rust.DecodedTpdu
 rest6 src dst u = do
-  return_if (eqb (u16_at u 6) 0) (InvalidPacket error.IPv6-UDP-checksum-is-zero)
-  return_if (not (eqb (rust.checksum_udp_ipv6_including_checksum src dst u) 0)) (InvalidPacket error.invalid_IPv6-UDP-checksum)
+  return_if (eqb (u16_at u 6) 0) (InvalidPacket error.IPv6_UDP_checksum_is_zero)
+  return_if (not (eqb (rust.checksum_udp_ipv6_including_checksum src dst u) 0)) (InvalidPacket error.invalid_IPv6_UDP_checksum)
   segment ← rust.parse_udp_segment u
   measurement ← rust.decode segment.payload
   Ok (record { flow = rust.Ipv6 src dst segment.src_port segment.dst_port; measurement = measurement })

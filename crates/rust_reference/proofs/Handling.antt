@@ -121,7 +121,7 @@ module _ (r : Reflector) (source : SocketAddr) (payload buffer : List ℕ) where
           rust.attempted (echo_tpdu payload) received λ echoed.
           rust.attempted (gtpu.encode_gpdu session.peer_teid echoed) received λ packet.
           record { result = Ok (rust.Send (rust_session session).peer_addr packet ReflectedGpdu); reflector = rust.count counter.GpduForwarded received }
-      | rust.SinkAndCount ↦ record { result = Ok (rust.Noop rust.G-PDU-sunk); reflector = rust.count counter.GpduSunk received }
+      | rust.SinkAndCount ↦ record { result = Ok (rust.Noop rust.G_PDU_sunk); reflector = rust.count counter.GpduSunk received }
       | rust.Route target ↦
           rust.attempted (gtpu.encode_gpdu target.teid payload) received λ packet.
           record { result = Ok (rust.Send target.destination packet RoutedGpdu); reflector = rust.count counter.GpduForwarded received }
@@ -167,10 +167,10 @@ module _ (r : Reflector) (source : SocketAddr) (payload buffer : List ℕ) where
     where
       asked : Bool → SequenceNumber → rust.Called (Result rust.ReflectorAction)
       asked t sequence = elim t [
-        | true ↦ record { result = Err (InvalidPacket error.Echo-Request-TEID-must-be-zero); reflector = rust.count counter.MalformedRejected (rust_reflector r) }
+        | true ↦ record { result = Err (InvalidPacket error.Echo_Request_TEID_must_be_zero); reflector = rust.count counter.MalformedRejected (rust_reflector r) }
         | false ↦
             elim (rust_sequence sequence) [
-              | map.None ↦ record { result = Err (InvalidPacket error.Echo-Request-missing-sequence-number); reflector = rust.count counter.MalformedRejected (rust_reflector r) }
+              | map.None ↦ record { result = Err (InvalidPacket error.Echo_Request_missing_sequence_number); reflector = rust.count counter.MalformedRejected (rust_reflector r) }
               | map.Some n ↦
                   rust.attempted (gtpu.encode_echo_response n r.config.recovery_counter) (rust.count counter.EchoRequestsAnswered (rust_reflector r)) λ packet.
                   record { result = Ok (rust.Send (rust_address source) packet EchoResponse); reflector = rust.count counter.EchoRequestsAnswered (rust_reflector r) }

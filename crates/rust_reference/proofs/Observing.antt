@@ -393,7 +393,7 @@ module _ (rust : ContinuityObserver) (o : Observer) (same : Same rust o) where
       (λ nor_this. branch o (eqb ty 254 || eqb ty 31) _ _ _
       (λ is. said (ap (unchanged o) (kind_ignored ty (one_of ty 254 31 is))) (noted (Ok (Ignored ty))))
       (λ none. said (ap (unchanged o) (kind_other ty (eqb-false ty 255 no) (eqb-false ty 26 nor) (eqb-false ty 2 nor_this) (neither ty 254 31 none)))
-      (noted (Err (InvalidPacket error.unsupported_GTP-U-return_message_type))))))))
+      (noted (Err (InvalidPacket error.unsupported_GTP_U_return_message_type))))))))
 
 pub message_same : RecordReturnGtpuDatagram
 message_same rust o same t fits ty payload c = let a = message_step rust o same t fits ty payload c in (a.answer, a.same)

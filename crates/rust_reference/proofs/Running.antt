@@ -136,7 +136,7 @@ module _ (rust : ContinuityObserver) (t : ℕ) where
                 | true ↦ record { result = Ok EchoResponse; observer = rust }
                 | false ↦ elim d [
                   | true ↦ record { result = Ok (Ignored ty); observer = rust }
-                  | false ↦ record { result = Err (InvalidPacket error.unsupported_GTP-U-return_message_type); observer = rust }
+                  | false ↦ record { result = Err (InvalidPacket error.unsupported_GTP_U_return_message_type); observer = rust }
                 ]
               ]
             ]

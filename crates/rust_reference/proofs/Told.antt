@@ -23,38 +23,38 @@ rust_numbers =
     ∷ 25 ∷ 26 ∷ 27 ∷ 28 ∷ 29 ∷ 30 ∷ 32 ∷ 33 ∷ 34 ∷ 35 ∷ 36 ∷ 37 ∷ []
 
 truncated_among : (context : Context) → among (truncated_number context) rust_numbers ≡ true
-truncated_among error.IP-header = refl
-truncated_among error.IPv4-header = refl
-truncated_among error.IPv6-UDP-packet = refl
-truncated_among error.UDP-header = refl
+truncated_among error.IP_header = refl
+truncated_among error.IPv4_header = refl
+truncated_among error.IPv6_UDP_packet = refl
+truncated_among error.UDP_header = refl
 truncated_among error.measurement_header = refl
-truncated_among error.TEID-Data-I-IE = refl
-truncated_among error.GTP-U-Peer-Address-IE = refl
-truncated_among error.GTP-U-TLV-IE = refl
+truncated_among error.TEID_Data_I_IE = refl
+truncated_among error.GTP_U_Peer_Address_IE = refl
+truncated_among error.GTP_U_TLV_IE = refl
 
 invalid_among : (reason : Reason) → among (invalid_number reason) rust_numbers ≡ true
 invalid_among error.measurement_magic_mismatch = refl
-invalid_among error.invalid_IPv4-IHL = refl
-invalid_among error.invalid_IPv4-total_length = refl
-invalid_among error.IPv4-payload-is-not-UDP = refl
-invalid_among error.invalid_IPv4-header_checksum = refl
-invalid_among error.invalid_IPv4-UDP-checksum = refl
-invalid_among error.IPv6-payload-is-not-UDP = refl
-invalid_among error.invalid_IPv6-payload_length = refl
-invalid_among error.IPv6-UDP-checksum-is-zero = refl
-invalid_among error.invalid_IPv6-UDP-checksum = refl
-invalid_among error.invalid_UDP-length = refl
+invalid_among error.invalid_IPv4_IHL = refl
+invalid_among error.invalid_IPv4_total_length = refl
+invalid_among error.IPv4_payload_is_not_UDP = refl
+invalid_among error.invalid_IPv4_header_checksum = refl
+invalid_among error.invalid_IPv4_UDP_checksum = refl
+invalid_among error.IPv6_payload_is_not_UDP = refl
+invalid_among error.invalid_IPv6_payload_length = refl
+invalid_among error.IPv6_UDP_checksum_is_zero = refl
+invalid_among error.invalid_IPv6_UDP_checksum = refl
+invalid_among error.invalid_UDP_length = refl
 invalid_among error.target_rate_must_be_non_zero = refl
 invalid_among error.target_rate_exceeds_nanosecond_timestamp_resolution = refl
 invalid_among error.received_sequence_was_not_sent = refl
-invalid_among error.unsupported_GTP-U-return_message_type = refl
-invalid_among error.GTP-U-Peer-Address-IE-length-must-be-IPv4-or-IPv6 = refl
-invalid_among error.unsupported_fixed_length_GTP-U-IE = refl
-invalid_among error.Error-Indication-missing-TEID-Data-I-IE = refl
-invalid_among error.Error-Indication-missing-GTP-U-Peer-Address-IE = refl
-invalid_among error.Echo-Request-TEID-must-be-zero = refl
-invalid_among error.Echo-Request-missing-sequence-number = refl
-invalid_among error.unsupported_GTP-U-message_type = refl
+invalid_among error.unsupported_GTP_U_return_message_type = refl
+invalid_among error.GTP_U_Peer_Address_IE_length_must_be_IPv4_or_IPv6 = refl
+invalid_among error.unsupported_fixed_length_GTP_U_IE = refl
+invalid_among error.Error_Indication_missing_TEID_Data_I_IE = refl
+invalid_among error.Error_Indication_missing_GTP_U_Peer_Address_IE = refl
+invalid_among error.Echo_Request_TEID_must_be_zero = refl
+invalid_among error.Echo_Request_missing_sequence_number = refl
+invalid_among error.unsupported_GTP_U_message_type = refl
 
 overflow_among : (field : Field) → among (overflow_number field) rust_numbers ≡ true
 overflow_among error.udp_len = refl

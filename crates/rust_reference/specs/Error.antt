@@ -1,24 +1,24 @@
 -- The Rust's error.rs, lines 8 to 60, as far as the ported functions use it, and `Result`. A text is a constructor,
--- with hyphens for its spaces.
+-- with underscores for its spaces and hyphens.
 use Rattle.std.specs.Prelude.{ℕ, Bool, true, false}
 
 -- `Truncated { context }`
 pub data Context : Type 0 where
-  IP-header IPv4-header IPv6-UDP-packet UDP-header measurement_header : Context
-  TEID-Data-I-IE GTP-U-Peer-Address-IE GTP-U-TLV-IE : Context
+  IP_header IPv4_header IPv6_UDP_packet UDP_header measurement_header : Context
+  TEID_Data_I_IE GTP_U_Peer_Address_IE GTP_U_TLV_IE : Context
 
 -- `InvalidPacket { reason }`
 pub data Reason : Type 0 where
   measurement_magic_mismatch : Reason
-  invalid_IPv4-IHL invalid_IPv4-total_length IPv4-payload-is-not-UDP : Reason
-  invalid_IPv4-header_checksum invalid_IPv4-UDP-checksum : Reason
-  IPv6-payload-is-not-UDP invalid_IPv6-payload_length IPv6-UDP-checksum-is-zero invalid_IPv6-UDP-checksum : Reason
-  invalid_UDP-length : Reason
+  invalid_IPv4_IHL invalid_IPv4_total_length IPv4_payload_is_not_UDP : Reason
+  invalid_IPv4_header_checksum invalid_IPv4_UDP_checksum : Reason
+  IPv6_payload_is_not_UDP invalid_IPv6_payload_length IPv6_UDP_checksum_is_zero invalid_IPv6_UDP_checksum : Reason
+  invalid_UDP_length : Reason
   target_rate_must_be_non_zero target_rate_exceeds_nanosecond_timestamp_resolution : Reason
-  received_sequence_was_not_sent unsupported_GTP-U-return_message_type : Reason
-  GTP-U-Peer-Address-IE-length-must-be-IPv4-or-IPv6 unsupported_fixed_length_GTP-U-IE : Reason
-  Error-Indication-missing-TEID-Data-I-IE Error-Indication-missing-GTP-U-Peer-Address-IE : Reason
-  Echo-Request-TEID-must-be-zero Echo-Request-missing-sequence-number unsupported_GTP-U-message_type : Reason
+  received_sequence_was_not_sent unsupported_GTP_U_return_message_type : Reason
+  GTP_U_Peer_Address_IE_length_must_be_IPv4_or_IPv6 unsupported_fixed_length_GTP_U_IE : Reason
+  Error_Indication_missing_TEID_Data_I_IE Error_Indication_missing_GTP_U_Peer_Address_IE : Reason
+  Echo_Request_TEID_must_be_zero Echo_Request_missing_sequence_number unsupported_GTP_U_message_type : Reason
 
 -- `Overflow { field }`
 pub data Field : Type 0 where

@@ -5,10 +5,10 @@ use Rattle.std.specs.Prelude.{ℕ, zero, suc, ◌+◌, Bool, true, false, not, �
 use Rattle.rust_reference.specs.Map.{Option, None, Some}
 use Rattle.rust_reference.specs.Values.{index, u16_at}
 use Rattle.rust_reference.specs.Error.{Result, Ok, Truncated, InvalidPacket, GtpuEncode, Err, return_if, ◌>>◌}
-use Rattle.rust_reference.specs.Error.{TEID-Data-I-IE, GTP-U-Peer-Address-IE, GTP-U-TLV-IE}
-use Rattle.rust_reference.specs.Error.{GTP-U-Peer-Address-IE-length-must-be-IPv4-or-IPv6}
-use Rattle.rust_reference.specs.Error.{unsupported_fixed_length_GTP-U-IE, Error-Indication-missing-TEID-Data-I-IE}
-use Rattle.rust_reference.specs.Error.{Error-Indication-missing-GTP-U-Peer-Address-IE}
+use Rattle.rust_reference.specs.Error.{TEID_Data_I_IE, GTP_U_Peer_Address_IE, GTP_U_TLV_IE}
+use Rattle.rust_reference.specs.Error.{GTP_U_Peer_Address_IE_length_must_be_IPv4_or_IPv6}
+use Rattle.rust_reference.specs.Error.{unsupported_fixed_length_GTP_U_IE, Error_Indication_missing_TEID_Data_I_IE}
+use Rattle.rust_reference.specs.Error.{Error_Indication_missing_GTP_U_Peer_Address_IE}
 
 abbrev pub GTPU_MSG_ECHO_REQUEST : ℕ
 GTPU_MSG_ECHO_REQUEST = 1
@@ -60,8 +60,8 @@ encode_error_indication sequence_number payload =
 -- lines 178 to 188: behind the loop
 unfoldable pub required_ies : Bool → Bool → Result (Unit {0})
 required_ies has_teid_data has_peer_address = do
-  return_if (not has_teid_data) (InvalidPacket Error-Indication-missing-TEID-Data-I-IE)
-  return_if (not has_peer_address) (InvalidPacket Error-Indication-missing-GTP-U-Peer-Address-IE)
+  return_if (not has_teid_data) (InvalidPacket Error_Indication_missing_TEID_Data_I_IE)
+  return_if (not has_peer_address) (InvalidPacket Error_Indication_missing_GTP_U_Peer_Address_IE)
   Ok tt
 
 -- lines 114 to 176: `while offset < payload.len()`, with a bound on the turns: the payload's length will do, since each
@@ -76,28 +76,28 @@ while_ies (suc turns) payload offset has_teid_data has_peer_address =
           elim (ie_type == 16) [
             | true ↦ do
               let end : ℕ = offset + 1 + 4
-              return_if (nat_lt (length payload) end) (Truncated TEID-Data-I-IE)
+              return_if (nat_lt (length payload) end) (Truncated TEID_Data_I_IE)
               while_ies turns payload end true has_peer_address
             | false ↦
                 elim (ie_type == 133) [
                   | true ↦ do
                     let len_end : ℕ = offset + 1 + 2
-                    return_if (nat_lt (length payload) len_end) (Truncated GTP-U-Peer-Address-IE)
+                    return_if (nat_lt (length payload) len_end) (Truncated GTP_U_Peer_Address_IE)
                     let len : ℕ = u16_at payload (offset + 1)
                     return_if (not (len == 4) && not (len == 16))
-                        (InvalidPacket GTP-U-Peer-Address-IE-length-must-be-IPv4-or-IPv6)
+                        (InvalidPacket GTP_U_Peer_Address_IE_length_must_be_IPv4_or_IPv6)
                     let value_end : ℕ = len_end + len
-                    return_if (nat_lt (length payload) value_end) (Truncated GTP-U-Peer-Address-IE)
+                    return_if (nat_lt (length payload) value_end) (Truncated GTP_U_Peer_Address_IE)
                     while_ies turns payload value_end has_teid_data true
                   | false ↦
                       elim (nat_le 128 ie_type) [
                         | true ↦ do
                           let len_end : ℕ = offset + 1 + 2
-                          return_if (nat_lt (length payload) len_end) (Truncated GTP-U-TLV-IE)
+                          return_if (nat_lt (length payload) len_end) (Truncated GTP_U_TLV_IE)
                           let end : ℕ = len_end + u16_at payload (offset + 1)
-                          return_if (nat_lt (length payload) end) (Truncated GTP-U-TLV-IE)
+                          return_if (nat_lt (length payload) end) (Truncated GTP_U_TLV_IE)
                           while_ies turns payload end has_teid_data has_peer_address
-                        | false ↦ Err (InvalidPacket unsupported_fixed_length_GTP-U-IE)
+                        | false ↦ Err (InvalidPacket unsupported_fixed_length_GTP_U_IE)
                       ]
                 ]
           ]

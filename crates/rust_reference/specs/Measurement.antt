@@ -198,47 +198,47 @@ pub record UdpSegment : Type 0 where
 -- lines 399 to 410
 unfoldable pub parse_udp_segment : List ℕ → Result UdpSegment
 parse_udp_segment udp = do
-  return_if (ltb (length udp) UDP_HEADER_LEN) (Truncated error.UDP-header)
+  return_if (ltb (length udp) UDP_HEADER_LEN) (Truncated error.UDP_header)
   let udp_len : ℕ = u16_at udp 4
-  return_if (ltb udp_len UDP_HEADER_LEN || nat_lt (length udp) udp_len) (InvalidPacket error.invalid_UDP-length)
+  return_if (ltb udp_len UDP_HEADER_LEN || nat_lt (length udp) udp_len) (InvalidPacket error.invalid_UDP_length)
   Ok (record { src_port = u16_at udp 0; dst_port = u16_at udp 2; payload = range udp UDP_HEADER_LEN udp_len })
 
 -- lines 302 to 346
 unfoldable pub decode_ipv4_measurement : List ℕ → Result DecodedTpdu
 decode_ipv4_measurement tpdu = do
-  return_if (ltb (length tpdu) IPV4_HEADER_LEN) (Truncated error.IPv4-header)
+  return_if (ltb (length tpdu) IPV4_HEADER_LEN) (Truncated error.IPv4_header)
   let ihl : ℕ = index tpdu 0 % 16 * 4
   return_if (ltb ihl IPV4_HEADER_LEN || nat_lt (length tpdu) (ihl + UDP_HEADER_LEN))
-      (InvalidPacket error.invalid_IPv4-IHL)
+      (InvalidPacket error.invalid_IPv4_IHL)
   let total_len : ℕ = u16_at tpdu 2
   return_if (nat_lt total_len (ihl + UDP_HEADER_LEN) || nat_lt (length tpdu) total_len)
-      (InvalidPacket error.invalid_IPv4-total_length)
-  return_if (not (nat_eq (index tpdu 9) UDP_PROTOCOL)) (InvalidPacket error.IPv4-payload-is-not-UDP)
-  return_if (not (checksum (range tpdu 0 ihl ∷ []) == 0)) (InvalidPacket error.invalid_IPv4-header_checksum)
+      (InvalidPacket error.invalid_IPv4_total_length)
+  return_if (not (nat_eq (index tpdu 9) UDP_PROTOCOL)) (InvalidPacket error.IPv4_payload_is_not_UDP)
+  return_if (not (checksum (range tpdu 0 ihl ∷ []) == 0)) (InvalidPacket error.invalid_IPv4_header_checksum)
   let src : List ℕ = index tpdu 12 ∷ index tpdu 13 ∷ index tpdu 14 ∷ index tpdu 15 ∷ []
   let dst : List ℕ = index tpdu 16 ∷ index tpdu 17 ∷ index tpdu 18 ∷ index tpdu 19 ∷ []
   let udp : List ℕ = range tpdu ihl total_len
   segment ← parse_udp_segment udp
   return_if (not (u16_at udp 6 == 0) && not (checksum_udp_ipv4_including_checksum src dst udp == 0))
-      (InvalidPacket error.invalid_IPv4-UDP-checksum)
+      (InvalidPacket error.invalid_IPv4_UDP_checksum)
   measurement ← decode segment.payload
   Ok (record { flow = Ipv4 src dst segment.src_port segment.dst_port; measurement = measurement })
 
 -- lines 348 to 397
 unfoldable pub decode_ipv6_measurement : List ℕ → Result DecodedTpdu
 decode_ipv6_measurement tpdu = do
-  return_if (nat_lt (length tpdu) (IPV6_HEADER_LEN + UDP_HEADER_LEN)) (Truncated error.IPv6-UDP-packet)
-  return_if (not (nat_eq (index tpdu 6) UDP_PROTOCOL)) (InvalidPacket error.IPv6-payload-is-not-UDP)
+  return_if (nat_lt (length tpdu) (IPV6_HEADER_LEN + UDP_HEADER_LEN)) (Truncated error.IPv6_UDP_packet)
+  return_if (not (nat_eq (index tpdu 6) UDP_PROTOCOL)) (InvalidPacket error.IPv6_payload_is_not_UDP)
   let payload_len : ℕ = u16_at tpdu 4
   let total_len : ℕ = IPV6_HEADER_LEN + payload_len
   return_if (nat_lt (length tpdu) total_len || ltb payload_len UDP_HEADER_LEN)
-      (InvalidPacket error.invalid_IPv6-payload_length)
+      (InvalidPacket error.invalid_IPv6_payload_length)
   let src : List ℕ = range tpdu 8 24
   let dst : List ℕ = range tpdu 24 40
   let udp : List ℕ = range tpdu IPV6_HEADER_LEN total_len
-  return_if (u16_at udp 6 == 0) (InvalidPacket error.IPv6-UDP-checksum-is-zero)
+  return_if (u16_at udp 6 == 0) (InvalidPacket error.IPv6_UDP_checksum_is_zero)
   return_if (not (checksum_udp_ipv6_including_checksum src dst udp == 0))
-      (InvalidPacket error.invalid_IPv6-UDP-checksum)
+      (InvalidPacket error.invalid_IPv6_UDP_checksum)
   segment ← parse_udp_segment udp
   measurement ← decode segment.payload
   Ok (record { flow = Ipv6 src dst segment.src_port segment.dst_port; measurement = measurement })
@@ -246,7 +246,7 @@ decode_ipv6_measurement tpdu = do
 -- lines 166 to 175
 unfoldable pub decode_measurement_tpdu : List ℕ → Result DecodedTpdu
 decode_measurement_tpdu tpdu = do
-  return_if (length tpdu == 0) (Truncated error.IP-header)
+  return_if (length tpdu == 0) (Truncated error.IP_header)
   let version : ℕ = index tpdu 0 / 16
   elim (version == 4) [
     | true ↦ decode_ipv4_measurement tpdu

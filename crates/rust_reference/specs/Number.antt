@@ -23,38 +23,38 @@ abbrev pub not_on_the_card : ℕ
 not_on_the_card = 0
 
 abbrev pub truncated_number : Context → ℕ
-truncated_number rust.IP-header = truncated_ip_header
-truncated_number rust.IPv4-header = truncated_ipv4_header
-truncated_number rust.IPv6-UDP-packet = truncated_ipv6_udp_packet
-truncated_number rust.UDP-header = not_on_the_card
+truncated_number rust.IP_header = truncated_ip_header
+truncated_number rust.IPv4_header = truncated_ipv4_header
+truncated_number rust.IPv6_UDP_packet = truncated_ipv6_udp_packet
+truncated_number rust.UDP_header = not_on_the_card
 truncated_number rust.measurement_header = truncated_measurement_header
-truncated_number rust.TEID-Data-I-IE = truncated_element
-truncated_number rust.GTP-U-Peer-Address-IE = truncated_element
-truncated_number rust.GTP-U-TLV-IE = truncated_element
+truncated_number rust.TEID_Data_I_IE = truncated_element
+truncated_number rust.GTP_U_Peer_Address_IE = truncated_element
+truncated_number rust.GTP_U_TLV_IE = truncated_element
 
 abbrev pub invalid_number : Reason → ℕ
 invalid_number rust.measurement_magic_mismatch = measurement_magic_mismatch
-invalid_number rust.invalid_IPv4-IHL = invalid_ipv4_ihl
-invalid_number rust.invalid_IPv4-total_length = invalid_ipv4_total_length
-invalid_number rust.IPv4-payload-is-not-UDP = payload_is_not_udp
-invalid_number rust.invalid_IPv4-header_checksum = invalid_ipv4_header_checksum
-invalid_number rust.invalid_IPv4-UDP-checksum = invalid_udp_checksum
-invalid_number rust.IPv6-payload-is-not-UDP = payload_is_not_udp
-invalid_number rust.invalid_IPv6-payload_length = invalid_ipv6_payload_length
-invalid_number rust.IPv6-UDP-checksum-is-zero = ipv6_udp_checksum_is_zero
-invalid_number rust.invalid_IPv6-UDP-checksum = invalid_udp_checksum
-invalid_number rust.invalid_UDP-length = invalid_udp_length
+invalid_number rust.invalid_IPv4_IHL = invalid_ipv4_ihl
+invalid_number rust.invalid_IPv4_total_length = invalid_ipv4_total_length
+invalid_number rust.IPv4_payload_is_not_UDP = payload_is_not_udp
+invalid_number rust.invalid_IPv4_header_checksum = invalid_ipv4_header_checksum
+invalid_number rust.invalid_IPv4_UDP_checksum = invalid_udp_checksum
+invalid_number rust.IPv6_payload_is_not_UDP = payload_is_not_udp
+invalid_number rust.invalid_IPv6_payload_length = invalid_ipv6_payload_length
+invalid_number rust.IPv6_UDP_checksum_is_zero = ipv6_udp_checksum_is_zero
+invalid_number rust.invalid_IPv6_UDP_checksum = invalid_udp_checksum
+invalid_number rust.invalid_UDP_length = invalid_udp_length
 invalid_number rust.target_rate_must_be_non_zero = target_rate_is_zero
 invalid_number rust.target_rate_exceeds_nanosecond_timestamp_resolution = target_rate_exceeds_resolution
 invalid_number rust.received_sequence_was_not_sent = sequence_was_not_sent
-invalid_number rust.unsupported_GTP-U-return_message_type = unsupported_message_type
-invalid_number rust.GTP-U-Peer-Address-IE-length-must-be-IPv4-or-IPv6 = invalid_peer_address_length
-invalid_number rust.unsupported_fixed_length_GTP-U-IE = unsupported_fixed_length_element
-invalid_number rust.Error-Indication-missing-TEID-Data-I-IE = missing_teid_data_i
-invalid_number rust.Error-Indication-missing-GTP-U-Peer-Address-IE = missing_peer_address
-invalid_number rust.Echo-Request-TEID-must-be-zero = echo_request_teid_not_zero
-invalid_number rust.Echo-Request-missing-sequence-number = echo_request_missing_sequence
-invalid_number rust.unsupported_GTP-U-message_type = unsupported_message_type
+invalid_number rust.unsupported_GTP_U_return_message_type = unsupported_message_type
+invalid_number rust.GTP_U_Peer_Address_IE_length_must_be_IPv4_or_IPv6 = invalid_peer_address_length
+invalid_number rust.unsupported_fixed_length_GTP_U_IE = unsupported_fixed_length_element
+invalid_number rust.Error_Indication_missing_TEID_Data_I_IE = missing_teid_data_i
+invalid_number rust.Error_Indication_missing_GTP_U_Peer_Address_IE = missing_peer_address
+invalid_number rust.Echo_Request_TEID_must_be_zero = echo_request_teid_not_zero
+invalid_number rust.Echo_Request_missing_sequence_number = echo_request_missing_sequence
+invalid_number rust.unsupported_GTP_U_message_type = unsupported_message_type
 
 abbrev pub overflow_number : Field → ℕ
 overflow_number rust.udp_len = not_on_the_card

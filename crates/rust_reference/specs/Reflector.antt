@@ -63,7 +63,7 @@ pub record MultiSessionReflectorConfig : Type 0 where
 -- Lines 115 to 130; a text is a constructor, with hyphens for its spaces.
 pub data NoopReason : Type 0 where
   echo_response_observed error_indication_observed end_marker_ignored : NoopReason
-  supported_extension_headers_notification_ignored G-PDU-sunk : NoopReason
+  supported_extension_headers_notification_ignored G_PDU_sunk : NoopReason
 
 pub data ReflectorAction : Type 0 where
   Noop : NoopReason → ReflectorAction
@@ -290,7 +290,7 @@ handle_gpdu r session tpdu =
           attempted (echo_tpdu tpdu) r λ echoed.
           attempted (encode_gpdu session.peer_teid echoed) r λ packet.
           record { result = Ok (Send session.peer_addr packet ReflectedGpdu); reflector = count GpduForwarded r }
-      | SinkAndCount ↦ record { result = Ok (Noop G-PDU-sunk); reflector = count GpduSunk r }
+      | SinkAndCount ↦ record { result = Ok (Noop G_PDU_sunk); reflector = count GpduSunk r }
       | Route target ↦
           attempted (encode_gpdu target.teid tpdu) r λ packet.
           record { result = Ok (Send target.destination packet RoutedGpdu); reflector = count GpduForwarded r }
@@ -310,13 +310,13 @@ unfoldable pub echo_request : GtpuReflector → SocketAddr → GtpuMessage → C
 echo_request r source message =
     elim (not (message.teid == 0)) [
       | true ↦ record {
-        result = Err (InvalidPacket error.Echo-Request-TEID-must-be-zero);
+        result = Err (InvalidPacket error.Echo_Request_TEID_must_be_zero);
         reflector = count MalformedRejected r;
       }
       | false ↦
           elim message.sequence_number [
             | None ↦ record {
-              result = Err (InvalidPacket error.Echo-Request-missing-sequence-number);
+              result = Err (InvalidPacket error.Echo_Request_missing_sequence_number);
               reflector = count MalformedRejected r;
             }
             | Some sequence ↦
@@ -338,7 +338,7 @@ other_message r message_type =
           | false ↦ elim (nat_eq message_type GTPU_MSG_SUPPORTED_EXTENSION_HEADERS_NOTIFICATION) [
             | true ↦ record { result = Ok (Noop supported_extension_headers_notification_ignored); reflector = r }
             | false ↦ record {
-              result = Err (InvalidPacket error.unsupported_GTP-U-message_type);
+              result = Err (InvalidPacket error.unsupported_GTP_U_message_type);
               reflector = count MalformedRejected r;
             }
           ]

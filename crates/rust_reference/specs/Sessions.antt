@@ -117,7 +117,7 @@ rust_removed none = map.None
 rust_removed (some session) = map.Some (rust_session session)
 
 abbrev pub rust_reason : ReflectorNoopReason → rust.NoopReason
-rust_reason GpduSunk = rust.G-PDU-sunk
+rust_reason GpduSunk = rust.G_PDU_sunk
 rust_reason EchoResponseObserved = rust.echo_response_observed
 rust_reason ErrorIndicationObserved = rust.error_indication_observed
 rust_reason EndMarkerIgnored = rust.end_marker_ignored

@@ -202,7 +202,7 @@ record_return_gtpu_datagram o return_timestamp_ns message_type payload =
               || nat_eq message_type GTPU_MSG_SUPPORTED_EXTENSION_HEADERS_NOTIFICATION) [
                 | true ↦ record { result = Ok (Ignored message_type); observer = o }
                 | false ↦ record {
-                  result = Err (InvalidPacket error.unsupported_GTP-U-return_message_type);
+                  result = Err (InvalidPacket error.unsupported_GTP_U_return_message_type);
                   observer = o;
                 }
               ]
