@@ -64,21 +64,13 @@ def snake(word):
     return word.lower() if re.search("[A-Z]", word) else word
 
 
-def respelled(name):
+def respelled(name, lemma=False):
+    """A definition, field, constructor or variable has no dash but behind a type; a lemma also has one between names."""
     parts = name.split("-")
     out = snake(parts[0])
     for before, after in zip(parts, parts[1:]):
-        named = before[:1].isupper() or (before in WORDS and after in WORDS)
-        out += ("-" if named else "_") + snake(after)
-    return out.replace("′", "'")
-
-
-def respelled_plain(name):
-    """A definition, field, constructor or variable: no dash at all, but behind a type."""
-    parts = name.split("-")
-    out = snake(parts[0])
-    for before, after in zip(parts, parts[1:]):
-        out += ("-" if before[:1].isupper() else "_") + snake(after)
+        joins = before[:1].isupper() or (lemma and before in WORDS and after in WORDS)
+        out += ("-" if joins else "_") + snake(after)
     return out.replace("′", "'")
 
 
@@ -93,19 +85,15 @@ pages = [f for f in files("*.md", "docs/**/*.md", "crates/*/README.md", "compare
 
 texts = {f: read(f) for f in specs + lemmas + functions + sources + edits + pages}
 
-# what specs/ define: definitions, fields and constructors
-in_specs = set()
-for f in specs:
-    for code, _ in code_and_comments(texts[f], "--"):
-        m = DEFINED.match(code)
-        if m:
-            in_specs.add(m.group(1))
-in_lemmas = set()
-for f in lemmas:
-    for code, _ in code_and_comments(texts[f], "--"):
-        m = DEFINED.match(code)
-        if m:
-            in_lemmas.add(m.group(1))
+
+def defined(paths):
+    """What these files define: definitions, lemmas, fields and constructors."""
+    lines = (code for f in paths for code, _ in code_and_comments(texts[f], "--"))
+    return {m.group(1) for m in map(DEFINED.match, lines) if m}
+
+
+in_specs = defined(specs)
+in_lemmas = defined(lemmas)
 rust = set()
 for f in sources:
     rust |= set(re.findall(r"\bfn (\w+)", texts[f]))
@@ -115,17 +103,15 @@ WORDS |= {n for n in in_specs if n[:1].islower() and re.search("[A-Z]", n)} | {"
 
 turned = {}
 for n in in_specs | in_lemmas:
-    new = respelled_plain(n) if n in in_specs else respelled(n)
-    if new != n and not n[:1].isupper():
-        turned[n] = new
-    elif new != n:
+    new = respelled(n, lemma=n not in in_specs)
+    if new != n:
         turned[n] = new
 
 
 def local(name):
     """A variable of an antt file that is no definition's name."""
     if "-" in name or (name[:1].islower() and re.search("[A-Z]", name)):
-        return respelled_plain(name)
+        return respelled(name)
     return name.replace("′", "'")
 
 
