@@ -26,30 +26,33 @@ pub const UDP_PROTOCOL: u8 = 17;
 
 pub const MEASUREMENT_MAGIC: u64 = 0x4f50_4344_5054_4b31;
 
-#[derive(Clone, Copy)]
+// The version of an IP header, under the number that the header has for it.
+#[derive(Clone, Copy, Debug, PartialEq, Eq)]
 pub enum IpVersion {
-    V4,
-    V6,
+    V4 = 4,
+    V6 = 6,
 }
 
 // The version that a number stands for: 4 is IPv4, every other number IPv6. The card has no number for a flow or an
 // address of a third version (2 is for a T-PDU).
-pub fn version_of(number: u8) -> IpVersion
-    ensures { result ≡ version_numbered number }
-{
-    if number == 4 {
-        return IpVersion::V4;
+impl From<u8> for IpVersion {
+    ghost from_gives = { λ number version. version ≡ version_numbered number };
+
+    #[tactic(auto, unfolding(crate::specs::Flow::version_numbered))]
+    fn from(number: u8) -> Self {
+        match number {
+            4 => IpVersion::V4,
+            _ => IpVersion::V6,
+        }
     }
-    IpVersion::V6
 }
 
-// The number of a version, 4 or 6.
-pub fn version_number(version: IpVersion) -> u8
-    ensures { result ≡ version_number version }
-{
-    match version {
-        IpVersion::V4 => 4,
-        IpVersion::V6 => 6,
+impl IpVersion {
+    // Its number, 4 or 6.
+    pub fn number(self) -> u8
+        ensures { result ≡ version_number self }
+    {
+        self as u8
     }
 }
 
@@ -69,12 +72,12 @@ impl InnerIpFlow {
         ensures { result ≡ reversed_of self }
     {
         let version = self.version;
-        let src = self.src;
-        let dst = self.dst;
+        let src = self.dst;
+        let dst = self.src;
         Self {
-            version: version,
-            src: dst,
-            dst: src,
+            version,
+            src,
+            dst,
             src_port: self.dst_port,
             dst_port: self.src_port,
         }
@@ -129,27 +132,6 @@ impl MeasurementHeader {
 pub struct DecodedTpdu {
     pub flow: InnerIpFlow,
     pub measurement: MeasurementHeader,
-}
-
-// Whether a T-PDU was read.
-#[derive(Clone, Copy)]
-pub enum Decoding {
-    Accepted,
-    Refused(u8),
-}
-
-// The reader's answer. The flow has arrays, so it stands beside the enum; beside a refusal it is version 4 and zeros.
-#[derive(Clone, Copy)]
-pub struct DecodeResult {
-    pub decoding: Decoding,
-    pub tpdu: DecodedTpdu,
-}
-
-// The answer of a call that writes a T-PDU into a lent buffer: how many bytes, or why none.
-#[derive(Clone, Copy)]
-pub enum Written {
-    Bytes(usize),
-    Refused(u8),
 }
 
 // The number that stands for UDP in either IP header: RFC 768, "Protocol Number".
