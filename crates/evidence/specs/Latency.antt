@@ -1,16 +1,15 @@
 -- The latencies in a report. Document 01, leaf 7: "Latency: minimum, maximum, mean rounded down; absent without
 -- returns."
+use Rattle.std.specs.Prelude as code
 use Rattle.std.proofs.Math.Option.{Option, some, none}
-use Rattle.evidence.specs.declared.Latency.{Latency}
-use Rattle.evidence.specs.declared.Latency.TheVariants.{Absent, Summary}
 use Rattle.evidence.specs.declared.LatencySummary.{LatencySummary}
 
--- What each case of the enum means: no summary, or this one.
-abbrev pub latency_means : Latency → Option LatencySummary
-latency_means Absent = none
-latency_means (Summary s) = some s
+-- The code's option as one of the definitions.
+abbrev pub latency_means : code.Option LatencySummary → Option LatencySummary
+latency_means code.None = none
+latency_means (code.Some s) = some s
 
--- The case of the enum for a summary, or for none.
-abbrev pub latency_for : Option LatencySummary → Latency
-latency_for none = Absent
-latency_for (some s) = Summary s
+-- And back.
+abbrev pub latency_for : Option LatencySummary → code.Option LatencySummary
+latency_for none = code.None
+latency_for (some s) = code.Some s

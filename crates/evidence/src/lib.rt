@@ -7,7 +7,7 @@ ghost use Rattle.evidence.specs.Budget.{zero_loss};
 
 // The most that a run may lose.
 #[repr(C)]
-#[derive(Clone, Copy)]
+#[derive(Clone, Copy, Debug, PartialEq, Eq)]
 pub struct PacketContinuityBudget {
     // Lost packets in the measurement window.
     pub max_lost_packets: u64,
@@ -31,22 +31,15 @@ impl PacketContinuityBudget {
 }
 
 // The latencies of the packets that returned, in nanoseconds: the least, the greatest, and the mean rounded down.
-#[derive(Clone, Copy)]
+#[derive(Clone, Copy, Debug, PartialEq, Eq)]
 pub struct LatencySummary {
     pub min_ns: u64,
     pub max_ns: u64,
     pub avg_ns: u64,
 }
 
-// The latencies, or none where no packet returned.
-#[derive(Clone, Copy)]
-pub enum Latency {
-    Absent,
-    Summary(LatencySummary),
-}
-
 // The report on a run: its numbers and two verdicts (leaf 7 says how each is reached).
-#[derive(Clone, Copy)]
+#[derive(Clone, Copy, Debug, PartialEq, Eq)]
 pub struct PacketContinuityReport {
     // The measurement window.
     pub window_start_ns: u64,
@@ -64,7 +57,8 @@ pub struct PacketContinuityReport {
     // The longest run of lost packets by count, and the longest by duration: not always the same run.
     pub max_consecutive_lost_packets: u64,
     pub max_gap_duration_ns: u64,
-    pub latency: Latency,
+    // None where no packet returned.
+    pub latency: Option<LatencySummary>,
     // What the run was held to.
     pub budget: PacketContinuityBudget,
     // Some packet returned.
