@@ -8,33 +8,35 @@ ghost use Rattle.std.specs.Prelude.{◌≡◌, ◌+◌, ◌*◌, ◌/◌, ◌%�
 pub fn wide(x: u8) -> u64
     ensures { (result ≡ x) × (result < 256) }
 {
-    x as u64
+    u64::from(x)
 }
 
 // The word of two bytes, the high one first.
 pub fn word(high: u8, low: u8) -> u16
     ensures { result ≡ high * 256 + low }
 {
-    (high as u16) * 256 + (low as u16)
+    u16::from_be_bytes([high, low])
 }
 
 // The high byte of a word.
 pub fn high(x: u16) -> u8
     ensures { result ≡ x / 256 ^ 1 % 256 }
 {
-    (x >> 8) as u8
+    let [high, _] = x.to_be_bytes();
+    high
 }
 
 // The low byte of a word.
 pub fn low(x: u16) -> u8
     ensures { result ≡ x / 256 ^ 0 % 256 }
 {
-    (x % 256) as u8
+    let [_, low] = x.to_be_bytes();
+    low
 }
 
 // The value of four bytes, the highest first.
 pub fn double_word(a: u8, b: u8, c: u8, d: u8) -> u32
     ensures { result ≡ a * 16777216 + b * 65536 + c * 256 + d }
 {
-    (word(a, b) as u32) * 65536 + (word(c, d) as u32)
+    u32::from_be_bytes([a, b, c, d])
 }
