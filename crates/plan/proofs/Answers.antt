@@ -6,10 +6,12 @@ use mathlib.Core.List.{List}
 use Rattle.error.specs.Outcome.{Outcome, refused, gives}
 use Rattle.error.proofs.Causes.{refused_gives}
 use Rattle.measurement.specs.declared.MeasurementHeader.{MeasurementHeader}
-use Rattle.plan.specs.Plan.{top, interval, interval_means, time_at, judge_plan}
+use Rattle.plan.specs.Plan.{top, interval, time_at, judge_plan}
 use Rattle.plan.specs.Judge.{interval_judged, Judges, Planned}
 use Rattle.plan.specs.Claims.{Acceptable, accepted}
-use Rattle.plan.specs.declared.Interval.TheVariants as answer
+use Rattle.std.specs.Prelude as code
+use Rattle.error.specs.Answer.{answered, number_of}
+use Rattle.error.specs.declared.Refusal.{Refusal}
 use Rattle.plan.specs.declared.JudgedPlan.{JudgedPlan}
 use Rattle.plan.specs.declared.TrafficPlan.{TrafficPlan}
 use Rattle.plan.proofs.Judged.{plan_accepted}
@@ -23,20 +25,20 @@ module _ (plan : TrafficPlan) (next : ℕ) (r : JudgedPlan) (e : Judges plan r (
   pub next_is : r.next_sequence ≡ (judge_plan plan next).next
   next_is = e.next
 
-  pub answer_refused : (n : ℕ) → r.interval ≡ answer.Refused n → (judge_plan plan next).outcome ≡ refused n
-  answer_refused n a = go (judge_plan plan next).outcome refl (sym (ap interval_means a) ∙ e.outcome)
+  pub answer_refused : (why : Refusal) → r.interval ≡ code.Err why → (judge_plan plan next).outcome ≡ refused (number_of why)
+  answer_refused why a = go (judge_plan plan next).outcome refl (sym (ap answered a) ∙ e.outcome)
     where
-      go : (o : Outcome (List MeasurementHeader)) → (judge_plan plan next).outcome ≡ o → refused n ≡ interval_judged plan (judge_plan plan next).outcome
-          → (judge_plan plan next).outcome ≡ refused n
+      go : (o : Outcome (List MeasurementHeader)) → (judge_plan plan next).outcome ≡ o → refused (number_of why) ≡ interval_judged plan (judge_plan plan next).outcome
+          → (judge_plan plan next).outcome ≡ refused (number_of why)
       go (refused m) q f =
-          let g : ◌≡◌ {A = Outcome ℕ} (refused n) (refused m) = f ∙ ap (interval_judged plan) q in
-          let same : m ≡ n = cc in
+          let g : ◌≡◌ {A = Outcome ℕ} (refused (number_of why)) (refused m) = f ∙ ap (interval_judged plan) q in
+          let same : m ≡ number_of why = cc in
           q ∙ ap refused same
       go (gives p) q f = absurd (refused_gives (f ∙ ap (interval_judged plan) q))
 
-  pub answer_accepted : (i : ℕ) → r.interval ≡ answer.Nanoseconds i
+  pub answer_accepted : (i : ℕ) → r.interval ≡ code.Ok i
       → (i ≡ interval plan.target_rate_pps) × Acceptable plan next × (judge_plan plan next ≡ accepted plan next)
-  answer_accepted i a = go (judge_plan plan next).outcome refl (sym (ap interval_means a) ∙ e.outcome)
+  answer_accepted i a = go (judge_plan plan next).outcome refl (sym (ap answered a) ∙ e.outcome)
     where
       go : (o : Outcome (List MeasurementHeader)) → (judge_plan plan next).outcome ≡ o → gives i ≡ interval_judged plan (judge_plan plan next).outcome
           → (i ≡ interval plan.target_rate_pps) × Acceptable plan next × (judge_plan plan next ≡ accepted plan next)
@@ -47,7 +49,7 @@ module _ (plan : TrafficPlan) (next : ℕ) (r : JudgedPlan) (e : Judges plan r (
           let h = plan_accepted plan next p q in
           (same, h.0, h.1)
 
-  pub answer_planned : (i : ℕ) → r.interval ≡ answer.Nanoseconds i → next ≤ top → Planned plan i next
+  pub answer_planned : (i : ℕ) → r.interval ≡ code.Ok i → next ≤ top → Planned plan i next
   answer_planned i a low =
       let t = answer_accepted i a in
       record {

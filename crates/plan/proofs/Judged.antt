@@ -15,7 +15,8 @@ use Rattle.measurement.specs.declared.MeasurementHeader.{MeasurementHeader}
 use Rattle.plan.specs.Plan.{top, interval, rate_causes, interval_of, time_at, Judged, leaving, causes_at, causes_from, judge_packets, plan_causes, judge_plan}
 use Rattle.plan.specs.Judge.{InTime, Timed, Judges}
 use Rattle.plan.specs.Claims.{Acceptable, accepted}
-use Rattle.plan.specs.declared.Interval.TheVariants as answer
+use Rattle.std.specs.Prelude as code
+use Rattle.error.specs.declared.Refusal.TheVariants.{SequenceOverflow, SendTimestampOverflow}
 use Rattle.plan.specs.declared.JudgedPlan.{JudgedPlan}
 use Rattle.plan.specs.declared.TrafficPlan.{TrafficPlan}
 use Rattle.plan.proofs.Rows.{refused_at, Refuses, here, later, Passes, none, past, refuses, passes, passed, leaving_refuses, leaving_passes, passed_leaving, passed_both, refused_by, refuses_front, refuses_behind, passes_both, passed_apart}
@@ -147,6 +148,8 @@ module _ (rate : ℕ) where
           absurd (omega (arith, b.1, above (λ e. omega (arith, b.0)) h))
       positive (suc i) h = omega arith
 
+pub ruleset rate_rules = (rate_zero, rate_high, rate_good)
+
 -- the packets whose time fits
 module _ (first i count : ℕ) (low : first ≤ top) (p : 0 < i) where
   abbrev last : ℕ
@@ -179,15 +182,15 @@ module _ (plan : TrafficPlan) (next i r : ℕ) (timed : Timed plan i) (in_time :
   time_before k h = rw (sym timed.is) (in_time.before k h)
 
   pub closed_19 : next ≤ top → top - next < plan.packet_count → top - next ≤ r
-      → Judges plan (record { interval = answer.Refused 19; next_sequence = next + (top - next) }) (judge_packets plan next)
+      → Judges plan (record { interval = code.Err SequenceOverflow; next_sequence = next + (top - next) }) (judge_packets plan next)
   closed_19 h l e = judges_as plan (record { outcome = refl; next = refl }) (judged_19 plan next (top - next) l (omega arith) (λ k u. (omega arith, time_before k (omega arith))))
 
   pub closed_20 : r < plan.packet_count → r < top - next
-      → Judges plan (record { interval = answer.Refused 20; next_sequence = next + r + 1 }) (judge_packets plan next)
+      → Judges plan (record { interval = code.Err SendTimestampOverflow; next_sequence = next + r + 1 }) (judge_packets plan next)
   closed_20 l h = judges_as plan (record { outcome = refl; next = refl }) (judged_20 plan next r l (omega arith) (λ k u. (omega arith, time_before k u)) (rw (sym timed.is) (in_time.at l)))
 
   pub closed_accepted : plan.packet_count ≤ r → plan.packet_count ≤ top - next → next ≤ top
-      → Judges plan (record { interval = answer.Nanoseconds i; next_sequence = next + plan.packet_count }) (judge_packets plan next)
+      → Judges plan (record { interval = code.Ok i; next_sequence = next + plan.packet_count }) (judge_packets plan next)
   closed_accepted l h u =
       judges_as plan (record { outcome = ap gives timed.is; next = refl }) (judged_accepted plan next (λ k v. (omega arith, time_before k (omega arith))))
 

@@ -1,8 +1,9 @@
 -- What the code's answer to a judgement means, and the contracts of private functions.
 use Rattle.std.specs.Prelude.{ℕ, ◌+◌, ◌*◌, ◌<◌, ◌≤◌, ◌≡◌, List}
+use Rattle.error.specs.Answer.{answered}
 use Rattle.error.specs.Outcome.{Outcome, refused, gives}
 use Rattle.measurement.specs.declared.MeasurementHeader.{MeasurementHeader}
-use Rattle.plan.specs.Plan.{top, interval, interval_means, time_at, Judged}
+use Rattle.plan.specs.Plan.{top, interval, time_at, Judged}
 use Rattle.plan.specs.declared.JudgedPlan.{JudgedPlan}
 use Rattle.plan.specs.declared.TrafficPlan.{TrafficPlan}
 
@@ -13,7 +14,7 @@ interval_judged plan (gives packets) = gives (interval plan.target_rate_pps)
 
 -- The code's answer means a judgement of the plan, and has its next sequence.
 pub record Judges (plan : TrafficPlan) (r : JudgedPlan) (to : Judged) : Type 0 where
-  pub outcome : interval_means r.interval ≡ interval_judged plan to.outcome
+  pub outcome : answered r.interval ≡ interval_judged plan to.outcome
   pub next : r.next_sequence ≡ to.next
 
 -- What the judgement of an accepted plan says of its packets: this is their interval, and no sequence and no time

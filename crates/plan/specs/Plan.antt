@@ -4,8 +4,6 @@ use Rattle.error.specs.Number.{target_rate_is_zero, target_rate_exceeds_resoluti
 use Rattle.error.specs.Number.{sequence_overflow, send_timestamp_overflow}
 use Rattle.error.specs.Outcome.{Outcome, refused, gives, Cause, ◌⇒◌, first_cause}
 use Rattle.measurement.specs.declared.MeasurementHeader.{MeasurementHeader}
-use Rattle.plan.specs.declared.Interval.{Interval}
-use Rattle.plan.specs.declared.Interval.TheVariants as answer
 use Rattle.plan.specs.declared.TrafficPlan.{TrafficPlan}
 
 -- The top of a sequence and of a time, which have 64 bits.
@@ -26,11 +24,6 @@ rate_causes rate =
 
 unfoldable pub interval_of : ℕ → Outcome ℕ
 interval_of rate = first_cause (rate_causes rate) (gives (interval rate))
-
--- What the code's answer means.
-abbrev pub interval_means : Interval → Outcome ℕ
-interval_means (answer.Nanoseconds n) = gives n
-interval_means (answer.Refused n) = refused n
 
 -- "Packet k (from 0) has the next sequence and time first + k × interval".
 abbrev pub time_at : TrafficPlan → ℕ → ℕ

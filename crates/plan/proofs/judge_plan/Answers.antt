@@ -1,29 +1,17 @@
--- `plan::judge_plan` meets its contract.
-use native.Mathlib.Omega.{arith}
 use mathlib.Core.Path.{refl}
 use Rattle.plan.proofs.Judged.{judges_as, plan_refused, plan_too_many, plan_judged, plan_timed}
 use Rattle.plan.proofs.judge_plan.Goals as goal
 
-pub returns-then-plan-gt-MAXIMUM_PACKETS : goal.returns-then-plan-gt-MAXIMUM_PACKETS
-returns-then-plan-gt-MAXIMUM_PACKETS c =
-    let a = c.args in
-    judges_as a.plan (record { outcome = refl; next = refl }) (plan_too_many a.plan a.next_sequence c.in-Nanoseconds.interval
-    c.in-Nanoseconds.ensures (omega (arith, c.if-plan-gt-MAXIMUM_PACKETS.true)))
+pub returns-in-Ok : goal.returns-in-Ok
+returns-in-Ok c =
+    judges_as _ (record { outcome = refl; next = refl }) (plan_too_many _ _ _ c.in-Ok.ensures c.if-plan-gt-MAXIMUM_PACKETS.true)
 
 pub judge_packets-requires : goal.judge_packets-requires
-judge_packets-requires c =
-    let a = c.args in
-    plan_timed a.plan a.next_sequence c.in-Nanoseconds.interval
-    c.in-Nanoseconds.ensures (omega (arith, c.if-plan-gt-MAXIMUM_PACKETS.false))
+judge_packets-requires c = plan_timed _ c.args.next_sequence _ c.in-Ok.ensures c.if-plan-gt-MAXIMUM_PACKETS.false
 
-pub returns-in-Refused : goal.returns-in-Refused
-returns-in-Refused c =
-    let a = c.args in
-    judges_as a.plan (record { outcome = refl; next = refl }) (plan_refused a.plan a.next_sequence c.in-Refused.number
-    c.in-Refused.ensures)
+pub returns-in-Ok-2 : goal.returns-in-Ok-2
+returns-in-Ok-2 c =
+    judges_as _ c.judge_packets.ensures (plan_judged _ _ _ c.in-Ok.ensures c.if-plan-gt-MAXIMUM_PACKETS.false)
 
-pub returns-else-plan-gt-MAXIMUM_PACKETS : goal.returns-else-plan-gt-MAXIMUM_PACKETS
-returns-else-plan-gt-MAXIMUM_PACKETS c =
-    let a = c.args in
-    judges_as a.plan c.judge_packets.ensures (plan_judged a.plan a.next_sequence c.in-Nanoseconds.interval
-    c.in-Nanoseconds.ensures c.if-plan-gt-MAXIMUM_PACKETS.false)
+pub returns-in-Err : goal.returns-in-Err
+returns-in-Err c = judges_as _ (record { outcome = refl; next = refl }) (plan_refused _ _ _ c.in-Err.ensures)

@@ -1,4 +1,3 @@
--- `plan::lowest_failing_packet_decides` meets its contract.
 use Rattle.plan.proofs.Claims.{rate_then_count, sequence_decides, time_decides, plan_numbers}
 use Rattle.plan.proofs.lowest_failing_packet_decides.Goals as goal
 

@@ -1,4 +1,3 @@
--- `plan::worked_examples` meets its contract.
 use Rattle.plan.proofs.Claims.{intervals, examples}
 use Rattle.plan.proofs.worked_examples.Goals as goal
 
