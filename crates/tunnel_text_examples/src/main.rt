@@ -5,56 +5,29 @@
 use measurement::IpVersion;
 use std::io;
 use std::io::Write;
+use tunnel_text::{Address, Teid};
 
-// The 16 bytes of two numbers, the highest first.
-fn bytes_of(high: u64, low: u64) -> [u8; 16] {
-    [
-        ((high >> 56) % 256) as u8,
-        ((high >> 48) % 256) as u8,
-        ((high >> 40) % 256) as u8,
-        ((high >> 32) % 256) as u8,
-        ((high >> 24) % 256) as u8,
-        ((high >> 16) % 256) as u8,
-        ((high >> 8) % 256) as u8,
-        (high % 256) as u8,
-        ((low >> 56) % 256) as u8,
-        ((low >> 48) % 256) as u8,
-        ((low >> 40) % 256) as u8,
-        ((low >> 32) % 256) as u8,
-        ((low >> 24) % 256) as u8,
-        ((low >> 16) % 256) as u8,
-        ((low >> 8) % 256) as u8,
-        (low % 256) as u8,
-    ]
-}
-
-fn print_address<W: Write>(out: &mut W, version: IpVersion, address: [u8; 16]) -> io::Result<()> {
-    text::print(out, b" ")?;
-    tunnel_text::print_address(out, version, &address)?;
-    text::print(out, b"\n")
-}
-
+// An IPv6 address, by its 8 groups.
 fn print_ipv6<W: Write>(out: &mut W, high: u64, low: u64) -> io::Result<()> {
-    text::print_hex(out, high, 16)?;
-    text::print_hex(out, low, 16)?;
-    print_address(out, IpVersion::V6, bytes_of(high, low))
+    let [a, b, c, d, e, f, g, h] = high.to_be_bytes();
+    let [i, j, k, l, m, n, o, p] = low.to_be_bytes();
+    let address = Address {
+        version: IpVersion::V6,
+        bytes: [a, b, c, d, e, f, g, h, i, j, k, l, m, n, o, p],
+    };
+    writeln!(out, "{high:016x}{low:016x} {address}")
 }
 
 // The first 4 of the 16 bytes count, and the others are not printed.
-fn print_ipv4<W: Write>(out: &mut W, address: u64) -> io::Result<()> {
-    text::print_hex(out, address, 8)?;
-    print_address(
-        out,
-        IpVersion::V4,
-        bytes_of((address << 32) + 0xffff_ffff, 0xffff_ffff_ffff_ffff),
-    )
+fn print_ipv4<W: Write>(out: &mut W, number: u32) -> io::Result<()> {
+    let mut bytes = [0xff; 16];
+    bytes[..4].copy_from_slice(&number.to_be_bytes());
+    let address = Address {
+        version: IpVersion::V4,
+        bytes,
+    };
+    writeln!(out, "{number:08x} {address}")
 }
-
-fn print_teid<W: Write>(out: &mut W, teid: u32) -> io::Result<()> {
-    tunnel_text::print_teid(out, teid)?;
-    text::print(out, b"\n")
-}
-
 // Section 4.1 of RFC 5952: no zeros in front of a group, and one 0 for a zero group. 4.3: lower case.
 fn print_single_groups<W: Write>(out: &mut W) -> io::Result<()> {
     print_ipv6(out, 0x2001_0db8_0000_0000, 0x0000_0000_0000_0001)?;
@@ -101,7 +74,7 @@ fn main(rt: HostRuntime) -> io::Result<()> {
     print_ipv4(&mut out, 0xc0_00_02_03)?;
     print_ipv4(&mut out, 0x01_0a_64_ff)?;
     print_ipv4(&mut out, 0xff_ff_ff_ff)?;
-    print_teid(&mut out, 0)?;
-    print_teid(&mut out, 0x1002)?;
-    print_teid(&mut out, 0xffff_ffff)
+    writeln!(out, "{}", Teid(0))?;
+    writeln!(out, "{}", Teid(0x1002))?;
+    writeln!(out, "{}", Teid(0xffff_ffff))
 }
