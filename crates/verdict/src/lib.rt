@@ -9,7 +9,7 @@ ghost use Rattle.verdict.specs.Claims.{PassesIfKept, ReasonsAreTrue};
 use evidence::PacketContinuityReport;
 
 // The verdict on a report. Beside a reason stand the number that was too large and the budget's, in this order.
-#[derive(Clone, Copy)]
+#[derive(Clone, Copy, Debug, PartialEq, Eq)]
 pub enum Verdict {
     Pass,
     NothingReturned,
@@ -21,6 +21,7 @@ pub enum Verdict {
 
 // A run passes where something returned and the budget was kept; otherwise the first reason counts, in the order of
 // the budget.
+#[tactic(auto, unfolding(crate::specs::Verdict::verdict_of, crate::specs::Verdict::either))]
 pub fn judge(r: PacketContinuityReport) -> Verdict
     ensures { result ≡ verdict_of r }
 {
