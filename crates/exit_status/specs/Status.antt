@@ -3,7 +3,17 @@ use Rattle.std.specs.Prelude.{ℕ, ◌<◌, ◌≡◌}
 use Rattle.verdict.specs.declared.Verdict.{Verdict}
 use Rattle.verdict.specs.declared.Verdict.TheVariants.{Pass, NothingReturned, TooManyLost, TooManyInARow}
 use Rattle.verdict.specs.declared.Verdict.TheVariants.{OutageTooLong, ErrorIndicated}
+use Rattle.exit_status.specs.declared.ExitStatus.{ExitStatus}
+use Rattle.exit_status.specs.declared.ExitStatus.TheVariants.{Passed, Failed, NotAccepted, NoRun}
 
+-- The number that the process ends with.
+abbrev pub number_of : ExitStatus → ℕ
+number_of Passed = 0
+number_of Failed = 1
+number_of NotAccepted = 2
+number_of NoRun = 3
+
+-- The number of a verdict's status.
 abbrev pub status_of : Verdict → ℕ
 status_of Pass = 0
 status_of NothingReturned = 1

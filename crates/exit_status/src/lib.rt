@@ -2,31 +2,41 @@
 #![tactic(auto)]
 
 ghost use Rattle.std.specs.Prelude.{◌≡◌};
-ghost use Rattle.exit_status.specs.Status.{status_of, ZeroSaysPass};
+ghost use Rattle.exit_status.specs.Status.{number_of, status_of, ZeroSaysPass};
 
 use verdict::Verdict;
 
-pub const PASSED: u64 = 0;
+// The statuses, the least of them first.
+#[derive(Clone, Copy, Debug, PartialEq, Eq, PartialOrd, Ord)]
+pub enum ExitStatus {
+    Passed = 0,
+    Failed = 1,
+    // The words are not accepted.
+    NotAccepted = 2,
+    // There was no run: the calls refused it.
+    NoRun = 3,
+}
 
-pub const FAILED: u64 = 1;
-
-// The words are not accepted.
-pub const NOT_ACCEPTED: u64 = 2;
-
-// There was no run: the calls refused it.
-pub const NO_RUN: u64 = 3;
+impl ExitStatus {
+    // The number that the process ends with.
+    pub fn number(self) -> u64
+        ensures { result ≡ number_of self }
+    {
+        self as u64
+    }
+}
 
 // The status of a verdict.
-pub fn of_verdict(verdict: Verdict) -> u64
-    ensures { result ≡ status_of verdict }
+pub fn of_verdict(verdict: Verdict) -> ExitStatus
+    ensures { number_of result ≡ status_of verdict }
 {
     match verdict {
-        Verdict::Pass => PASSED,
-        Verdict::NothingReturned => FAILED,
-        Verdict::TooManyLost(_, _) => FAILED,
-        Verdict::TooManyInARow(_, _) => FAILED,
-        Verdict::OutageTooLong(_, _) => FAILED,
-        Verdict::ErrorIndicated(_) => FAILED,
+        Verdict::Pass => ExitStatus::Passed,
+        Verdict::NothingReturned => ExitStatus::Failed,
+        Verdict::TooManyLost(_, _) => ExitStatus::Failed,
+        Verdict::TooManyInARow(_, _) => ExitStatus::Failed,
+        Verdict::OutageTooLong(_, _) => ExitStatus::Failed,
+        Verdict::ErrorIndicated(_) => ExitStatus::Failed,
     }
 }
 

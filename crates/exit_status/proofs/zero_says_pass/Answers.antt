@@ -1,4 +1,3 @@
--- `exit_status::zero_says_pass` meets its contract: by the six verdicts.
 use Prim.Native.Nat.{◌<◌}
 use native.Mathlib.Omega.{arith}
 use mathlib.Core.Path.{◌≡◌, refl, ap}
