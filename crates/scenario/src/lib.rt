@@ -1,137 +1,180 @@
-// A plan, a budget and what the path does to the probes: a table that has for each word of the rehearsal its number, or
-// the first and the last probe of its window.
+// A plan, a budget and what the path does to the probes: the value of each word of a rehearsal that was given.
 #![tactic(auto)]
 
-// The words, as rows of the table. First those with a number.
-pub const IP: usize = 0;
-
-pub const COUNT: usize = 1;
-
-pub const RATE: usize = 2;
-
-pub const MAX_LOST: usize = 3;
-
-pub const MAX_RUN: usize = 4;
-
-pub const MAX_OUTAGE_MS: usize = 5;
-
-pub const LATENCY_US: usize = 6;
-
-pub const LATENCY_AFTER_US: usize = 7;
-
-pub const FORMAT: usize = 8;
-
-// Then those with a window: what the path does to the probes in it.
-pub const LOSE: usize = 9;
-
-pub const DUPLICATE: usize = 10;
-
-pub const REORDER: usize = 11;
-
-pub const DAMAGE: usize = 12;
-
-pub const CUT_SHORT: usize = 13;
-
-pub const EMPTY: usize = 14;
-
-pub const BAD_VERSION: usize = 15;
-
-pub const BAD_PROTOCOL: usize = 16;
-
-pub const BAD_LENGTH: usize = 17;
-
-pub const NO_CHECKSUM: usize = 18;
-
-pub const BAD_MAGIC: usize = 19;
-
-pub const NOT_SENT: usize = 20;
-
-pub const EARLY: usize = 21;
-
-pub const ERROR_INDICATION: usize = 22;
-
-pub const CUT_INDICATION: usize = 23;
-
-// How many words there are; no word.
-pub const WORDS: usize = 24;
-
-// The formats.
-pub const TEXT: u64 = 0;
-
-pub const JSON: u64 = 1;
-
-pub const CSV: u64 = 2;
-
-pub const LOG: u64 = 3;
+use measurement::IpVersion;
+use std::fmt;
+use word_names::{Effect, Number, Word};
 
 // The most probes that a plan may have.
-pub const MOST_PROBES: u64 = 2048;
+const MOST_PROBES: u32 = 2048;
 
-// In the first half of the table stand the numbers and the first probes of windows, in the second the last probes, and
-// 1 for a number that was given. Probes are numbered from 1: a window that was not given is 0 to 0.
-pub type Scenario = [u64; 48];
-
-// The number of a word, or the first probe of its window.
-pub fn first(s: &Scenario, word: usize) -> u64 {
-    if word < WORDS { s[word] } else { 0 }
+// How what is printed is laid out.
+#[derive(Clone, Copy)]
+pub enum Format {
+    Text,
+    Json,
+    Csv,
+    Log,
 }
 
-// The last probe of a window.
-pub fn last(s: &Scenario, word: usize) -> u64 {
-    if word < WORDS { s[WORDS + word] } else { 0 }
+// Probes that follow each other, numbered from 1: the first and the last. Printed as `A`, or as `A..B`.
+#[derive(Clone, Copy)]
+pub struct Window {
+    pub first: u64,
+    pub last: u64,
 }
 
-// Whether the path does this to the probe.
-pub fn does(s: &Scenario, word: usize, probe: u64) -> bool {
-    1 <= probe && first(s, word) <= probe && probe <= last(s, word)
-}
-
-// Enters a number, or a window.
-pub fn set(s: &mut Scenario, word: usize, first: u64, last: u64) {
-    if word < WORDS {
-        s[word] = first;
-        s[WORDS + word] = last;
+impl Window {
+    pub fn has(self, probe: u64) -> bool {
+        self.first <= probe && probe <= self.last
     }
 }
 
-// A path that does nothing but carry.
-pub fn quiet() -> Scenario {
-    let mut s = [0; 48];
-    set(&mut s, IP, 4, 0);
-    set(&mut s, COUNT, 100, 0);
-    set(&mut s, RATE, 100, 0);
-    set(&mut s, MAX_LOST, 10, 0);
-    set(&mut s, MAX_RUN, 8, 0);
-    set(&mut s, MAX_OUTAGE_MS, 100, 0);
-    set(&mut s, LATENCY_US, 1500, 0);
-    set(&mut s, LATENCY_AFTER_US, 2100, 0);
-    s
-}
-
-// The cutover that is run without words: eight probes are lost while the path changes, and the new path does not settle
-// at once.
-pub fn default_cutover() -> Scenario {
-    let mut s = quiet();
-    set(&mut s, LOSE, 41, 48);
-    set(&mut s, DUPLICATE, 49, 50);
-    set(&mut s, REORDER, 53, 55);
-    set(&mut s, DAMAGE, 62, 62);
-    s
-}
-
-// The least number that a word takes.
-pub fn least(word: usize) -> u64 {
-    match word {
-        COUNT | RATE => 1,
-        _ => 0,
+impl fmt::Display for Window {
+    fn fmt<W: fmt::Write>(&self, f: &mut fmt::Formatter<W>) -> fmt::Result {
+        write!(f, "{}", self.first)?;
+        if self.first < self.last {
+            write!(f, "..{}", self.last)?;
+        }
+        Ok(())
     }
 }
 
-// The greatest number that a word takes.
-pub fn greatest(word: usize) -> u64 {
-    match word {
-        RATE => 1_000_000_000,
-        COUNT | MAX_LOST | MAX_RUN => MOST_PROBES,
-        _ => 10_000_000,
+// The least and the greatest number that a word takes.
+#[derive(Clone, Copy)]
+pub struct Limits {
+    pub least: u32,
+    pub greatest: u32,
+}
+
+impl Limits {
+    pub fn of(number: Number) -> Self {
+        let (least, greatest) = match number {
+            Number::Count => (1, MOST_PROBES),
+            Number::Rate => (1, 1_000_000_000),
+            Number::MaxLost | Number::MaxRun => (0, MOST_PROBES),
+            Number::MaxOutageMs | Number::LatencyUs | Number::LatencyAfterUs => (0, 10_000_000),
+        };
+        Self { least, greatest }
+    }
+
+    // The number, where it is within the limits.
+    pub fn admit(self, n: u64) -> Option<u32> {
+        let n = u32::try_from(n).ok()?;
+        if self.least <= n && n <= self.greatest {
+            Some(n)
+        } else {
+            None
+        }
+    }
+}
+
+// What was given; a path that nothing is said of does nothing but carry.
+#[derive(Clone, Copy)]
+pub struct Scenario {
+    version: Option<IpVersion>,
+    format: Option<Format>,
+    numbers: [Option<u32>; 7],
+    windows: [Option<Window>; 15],
+}
+
+impl Scenario {
+    // Nothing is given.
+    pub fn quiet() -> Self {
+        Self {
+            version: None,
+            format: None,
+            numbers: [None; 7],
+            windows: [None; 15],
+        }
+    }
+
+    // The cutover that is run without words: eight probes are lost while the path changes, and the new path does not
+    // settle at once.
+    pub fn default_cutover() -> Self {
+        let mut scenario = Self::quiet();
+        scenario.set_window(
+            Effect::Lose,
+            Window {
+                first: 41,
+                last: 48,
+            },
+        );
+        scenario.set_window(
+            Effect::Duplicate,
+            Window {
+                first: 49,
+                last: 50,
+            },
+        );
+        scenario.set_window(
+            Effect::Reorder,
+            Window {
+                first: 53,
+                last: 55,
+            },
+        );
+        scenario.set_window(
+            Effect::Damage,
+            Window {
+                first: 62,
+                last: 62,
+            },
+        );
+        scenario
+    }
+
+    pub fn is_given(&self, word: Word) -> bool {
+        match word {
+            Word::Ip => self.version.is_some(),
+            Word::Format => self.format.is_some(),
+            Word::Number(number) => self.numbers[number as usize].is_some(),
+            Word::Path(effect) => self.window(effect).is_some(),
+        }
+    }
+
+    pub fn version(&self) -> IpVersion {
+        self.version.unwrap_or(IpVersion::V4)
+    }
+
+    pub fn format(&self) -> Format {
+        self.format.unwrap_or(Format::Text)
+    }
+
+    pub fn number(&self, number: Number) -> u32 {
+        self.numbers[number as usize].unwrap_or(match number {
+            Number::Count => 100,
+            Number::Rate => 100,
+            Number::MaxLost => 10,
+            Number::MaxRun => 8,
+            Number::MaxOutageMs => 100,
+            Number::LatencyUs => 1500,
+            Number::LatencyAfterUs => 2100,
+        })
+    }
+
+    pub fn window(&self, effect: Effect) -> Option<Window> {
+        self.windows[effect as usize]
+    }
+
+    // Whether the path does this to the probe.
+    pub fn does(&self, effect: Effect, probe: u64) -> bool {
+        self.window(effect).is_some_and(|window| window.has(probe))
+    }
+
+    pub fn set_version(&mut self, version: IpVersion) {
+        self.version = Some(version);
+    }
+
+    pub fn set_format(&mut self, format: Format) {
+        self.format = Some(format);
+    }
+
+    pub fn set_number(&mut self, number: Number, n: u32) {
+        self.numbers[number as usize] = Some(n);
+    }
+
+    pub fn set_window(&mut self, effect: Effect, window: Window) {
+        self.windows[effect as usize] = Some(window);
     }
 }

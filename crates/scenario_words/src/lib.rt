@@ -2,190 +2,115 @@
 // the reason.
 #![tactic(auto)]
 
-use scenario::Scenario;
+use measurement::IpVersion;
+use scenario::{Format, Limits, Scenario, Window};
+use scenario_lines::Rejection;
+use word_names::{Effect, Number, Word};
 
-fn format_named(value: &[u8]) -> u64 {
-    if check::same(value, b"text") {
-        return scenario::TEXT;
+fn version_named(value: &[u8]) -> Option<IpVersion> {
+    match text::number(value)? {
+        4 => Some(IpVersion::V4),
+        6 => Some(IpVersion::V6),
+        _ => None,
     }
-    if check::same(value, b"json") {
-        return scenario::JSON;
-    }
-    if check::same(value, b"csv") {
-        return scenario::CSV;
-    }
-    if check::same(value, b"log") {
-        return scenario::LOG;
-    }
-    text::NO_NUMBER
 }
 
-// The number that a value spells under a word, or NO_NUMBER.
-fn spelled(word: usize, value: &[u8]) -> u64 {
-    if word == scenario::FORMAT {
-        return format_named(value);
+fn format_named(value: &[u8]) -> Option<Format> {
+    match value {
+        b"text" => Some(Format::Text),
+        b"json" => Some(Format::Json),
+        b"csv" => Some(Format::Csv),
+        b"log" => Some(Format::Log),
+        _ => None,
     }
-    let n = text::number(value);
-    if word == scenario::IP {
-        if n == 4 || n == 6 {
-            return n;
+}
+
+// The window that `A` or `A..B` spells.
+fn spelled_window(value: &[u8]) -> Option<Window> {
+    let mut parts = value.splitn(2, |byte| *byte == b'.');
+    let first = text::number(parts.next()?)?;
+    let last = match parts.next() {
+        None => first,
+        Some(rest) => text::number(rest.strip_prefix(b".")?)?,
+    };
+    Some(Window { first, last })
+}
+
+// The window, where its probes are in order and numbered from 1.
+fn judge_window(window: Window, given: &[u8]) -> Result<Window, Rejection<'_>> {
+    if window.last < window.first {
+        return Err(Rejection::BackwardWindow(given));
+    }
+    if window.first == 0 {
+        return Err(Rejection::WindowFromZero(given));
+    }
+    Ok(window)
+}
+
+// Takes a word's value into a scenario.
+fn take_value<'a>(
+    scenario: &mut Scenario,
+    word: Word,
+    value: &'a [u8],
+    given: &'a [u8],
+) -> Result<(), Rejection<'a>> {
+    let bad = Rejection::BadValue(word, value);
+    match word {
+        Word::Ip => scenario.set_version(version_named(value).ok_or(bad)?),
+        Word::Format => scenario.set_format(format_named(value).ok_or(bad)?),
+        Word::Number(number) => {
+            let n = text::number(value).ok_or(bad)?;
+            scenario.set_number(number, Limits::of(number).admit(n).ok_or(bad)?);
         }
-        return text::NO_NUMBER;
-    }
-    if n < scenario::least(word) || scenario::greatest(word) < n {
-        return text::NO_NUMBER;
-    }
-    n
-}
-
-// Why a word is not accepted. It stands with the word's row.
-pub const ACCEPTED: u8 = 0;
-
-pub const NO_WORD: u8 = 1;
-
-pub const UNKNOWN: u8 = 2;
-
-pub const GIVEN_TWICE: u8 = 3;
-
-pub const BAD_NUMBER: u8 = 4;
-
-pub const BAD_WINDOW: u8 = 5;
-
-pub const BACKWARD_WINDOW: u8 = 6;
-
-pub const WINDOW_FROM_ZERO: u8 = 7;
-
-pub const WINDOW_PAST_COUNT: u8 = 8;
-
-pub const NO_LOSS: u8 = 9;
-
-// What became of words: accepted, or the first reason and its row.
-#[derive(Clone, Copy)]
-pub struct Judged {
-    pub reason: u8,
-    pub word: usize,
-    // Where in the text the word begins, and its length.
-    pub at: usize,
-    pub length: usize,
-}
-
-fn answer(reason: u8, word: usize) -> Judged {
-    Judged {
-        reason,
-        word,
-        at: 0,
-        length: 0,
-    }
-}
-
-fn take_number(s: &mut Scenario, word: usize, value: &[u8]) -> Judged {
-    let n = spelled(word, value);
-    if n == text::NO_NUMBER {
-        return answer(BAD_NUMBER, word);
-    }
-    scenario::set(s, word, n, 1);
-    answer(ACCEPTED, word)
-}
-
-// The last probe that `A` or `A..B` spells, or NO_NUMBER.
-fn spelled_last(value: &[u8]) -> u64 {
-    if text::find(value, b'.') == value.len() {
-        return text::number(value);
-    }
-    let rest = text::after(value, b'.');
-    if text::find(rest, b'.') > 0 {
-        return text::NO_NUMBER;
-    }
-    text::number(text::after(rest, b'.'))
-}
-
-fn take_window(s: &mut Scenario, word: usize, value: &[u8]) -> Judged {
-    let first = text::number(text::before(value, b'.'));
-    let last = spelled_last(value);
-    if first == text::NO_NUMBER || last == text::NO_NUMBER {
-        return answer(BAD_WINDOW, word);
-    }
-    if last < first {
-        return answer(BACKWARD_WINDOW, word);
-    }
-    if first == 0 {
-        return answer(WINDOW_FROM_ZERO, word);
-    }
-    scenario::set(s, word, first, last);
-    answer(ACCEPTED, word)
-}
-
-// Takes a word into a scenario, or says why not.
-fn take_word(s: &mut Scenario, word: &[u8]) -> Judged {
-    if word.len() == 0 {
-        return answer(NO_WORD, scenario::WORDS);
-    }
-    let row = word_names::named(text::before(word, b'='));
-    if scenario::WORDS <= row {
-        return answer(UNKNOWN, scenario::WORDS);
-    }
-    if scenario::last(s, row) > 0 {
-        return answer(GIVEN_TWICE, row);
-    }
-    if row <= scenario::FORMAT {
-        return take_number(s, row, text::after(word, b'='));
-    }
-    take_window(s, row, text::after(word, b'='))
-}
-
-// A judgement, with the place of its word.
-fn placed(j: Judged, at: usize, length: usize) -> Judged {
-    Judged {
-        reason: j.reason,
-        word: j.word,
-        at,
-        length,
-    }
-}
-
-// Takes every word; a separator stands between two. The first that is not accepted ends it.
-fn take_each(s: &mut Scenario, words: &[u8], separator: u8) -> Judged {
-    let mut at = 0;
-    while at <= words.len() {
-        let end = text::find_from(words, at, separator);
-        let taken = take_word(s, text::part(words, at, end - at));
-        if taken.reason != ACCEPTED {
-            return placed(taken, at, end - at);
+        Word::Path(effect) => {
+            let window = spelled_window(value).ok_or(bad)?;
+            scenario.set_window(effect, judge_window(window, given)?);
         }
-        if words.len() <= end {
-            break;
-        }
-        at = end + 1;
     }
-    answer(ACCEPTED, scenario::WORDS)
+    Ok(())
+}
+
+// Takes a word into a scenario.
+fn take_word<'a>(scenario: &mut Scenario, given: &'a [u8]) -> Result<(), Rejection<'a>> {
+    if given.is_empty() {
+        return Err(Rejection::NoWord);
+    }
+    let mut parts = given.splitn(2, |byte| *byte == b'=');
+    let name = parts.next().unwrap_or(&[]);
+    let value = parts.next().unwrap_or(&[]);
+    let word = Word::named(name).ok_or(Rejection::Unknown(given))?;
+    if scenario.is_given(word) {
+        return Err(Rejection::GivenTwice(word));
+    }
+    take_value(scenario, word, value, given)
 }
 
 // The first window that reaches past the count.
-fn past_count(s: &Scenario) -> Judged {
-    let mut word = scenario::LOSE;
-    while word < scenario::WORDS {
-        if scenario::first(s, scenario::COUNT) < scenario::last(s, word) {
-            return answer(WINDOW_PAST_COUNT, word);
+fn past_count(scenario: &Scenario) -> Option<Rejection<'static>> {
+    let count = scenario.number(Number::Count);
+    for effect in Effect::ALL {
+        if let Some(window) = scenario.window(effect) {
+            if u64::from(count) < window.last {
+                return Some(Rejection::WindowPastCount(effect, window, count));
+            }
         }
-        word += 1;
     }
-    answer(ACCEPTED, scenario::WORDS)
+    None
 }
 
-// Whether a latency after the loss is given, and no loss.
-fn misses_loss(s: &Scenario) -> bool {
-    scenario::last(s, scenario::LATENCY_AFTER_US) > 0 && scenario::last(s, scenario::LOSE) == 0
-}
-
-// Takes every word into a scenario. There is at least one: no bytes at all count as an empty word. What two words say
-// together is judged last, since either may be given first.
-pub fn take_words(s: &mut Scenario, words: &[u8], separator: u8) -> Judged {
-    let taken = take_each(s, words, separator);
-    if taken.reason != ACCEPTED {
-        return taken;
+// The scenario of the words, with a separator between two. There is at least one: no bytes at all count as an empty
+// word. What two words say together is judged last, since either may be given first.
+pub fn take_words(words: &[u8], separator: u8) -> Result<Scenario, Rejection<'_>> {
+    let mut scenario = Scenario::quiet();
+    for word in words.split(|byte| *byte == separator) {
+        take_word(&mut scenario, word)?;
     }
-    if misses_loss(s) {
-        return answer(NO_LOSS, scenario::LATENCY_AFTER_US);
+    let has_later_latency = scenario.is_given(Word::Number(Number::LatencyAfterUs));
+    if has_later_latency && !scenario.is_given(Word::Path(Effect::Lose)) {
+        return Err(Rejection::NoLoss);
     }
-    past_count(s)
+    match past_count(&scenario) {
+        None => Ok(scenario),
+        Some(rejection) => Err(rejection),
+    }
 }
