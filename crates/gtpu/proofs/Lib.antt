@@ -2,8 +2,8 @@
 pub mod Rows
 pub mod Bounded
 pub mod Walk
-pub mod Places
 pub mod Cut
+pub mod Firsts
 pub mod Values
 pub mod Claims
 pub mod Tunnels

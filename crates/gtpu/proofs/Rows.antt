@@ -6,10 +6,10 @@ use mathlib.Core.List.{List, [], ◌∷◌}
 use mathlib.Core.Bool.{Bool, true, false, not, ◌||◌, ◌&&◌}
 use lib.Dec.{eqb, ltb}
 use lib.ListN.{length}
-use borrow.Author.Tests.{lt-ltb, le-ltb, ltb-true, ltb-false, eq-eqb, ne_eqb}
+use borrow.Author.Tests.{lt-ltb, le-ltb, ltb-false, eq-eqb, ne_eqb}
 use Rattle.error.specs.Outcome.{Outcome, refused, gives, Cause, ◌⇒◌, first_cause}
 use Rattle.error.proofs.Causes.{Passes, from, Left, stops, goes_on, all_passed, passes_from, first_false, refused_gives, passed}
-use Rattle.error.proofs.Tests.{and_left, and_right, and_both, both, differs, equals}
+use Rattle.error.proofs.Tests.{and_left, and_right, and_both, differs, equals}
 use Rattle.gtpu.specs.Element.{element_type, is_teid_data_i, is_peer_address, value_length, element_size, unsupported_type, other_length, element_causes, element_of}
 
 -- the size, by the type
@@ -147,23 +147,3 @@ unfolding first_cause
 refused_by [] x n o e = absurd (refused_gives e)
 refused_by ((true ⇒ m) ∷ rows) x n o e = let s : n ≡ m = cc in ap refused s
 refused_by ((false ⇒ m) ∷ rows) x n o e = refused_by rows x n o e
-
--- a refusal has the number of a row, and an element's rows have numbers from 1 to 127
-abbrev numbers_from_1_to_127 : List Cause → Bool
-numbers_from_1_to_127 [] = true
-numbers_from_1_to_127 ((test ⇒ m) ∷ rows) = ltb 0 m && (ltb m 128 && numbers_from_1_to_127 rows)
-
-row_number : {A : Type 0} (rows : List Cause) (x : A) (n : ℕ) → numbers_from_1_to_127 rows ≡ true → refused n ≡ first_cause rows (gives x) → (0 < n) × (n < 128)
-unfolding first_cause
-row_number [] x n h e = absurd (refused_gives e)
-row_number ((true ⇒ m) ∷ rows) x n h e =
-    let s : n ≡ m = cc in
-    let p = both (ltb 0 m) (ltb m 128 && numbers_from_1_to_127 rows) h in
-    (rw s (ltb-true 0 m p.0), rw s (ltb-true m 128 (both (ltb m 128) (numbers_from_1_to_127 rows) p.1).0))
-row_number ((false ⇒ m) ∷ rows) x n h e =
-    let p = both (ltb 0 m) (ltb m 128 && numbers_from_1_to_127 rows) h in
-    row_number rows x n (both (ltb m 128) (numbers_from_1_to_127 rows) p.1).1 e
-
-pub refusal_number : (l : List ℕ) (n : ℕ) → refused n ≡ element_of l → (0 < n) × (n < 128)
-unfolding element_causes
-refusal_number l n e = row_number (element_causes l) (element_size l) n refl e

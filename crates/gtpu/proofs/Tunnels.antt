@@ -5,7 +5,8 @@ use mathlib.Core.Path.{◌≡◌, refl, sym, ap, ap₂, ◌∙◌}
 use mathlib.Core.Logic.{◌⊎◌, ⊎_elim}
 use mathlib.Core.List.{List, [], ◌∷◌, ◌++◌, append-nil}
 use mathlib.Core.Bool.{Bool, true, false, not, ◌||◌, ◌&&◌}
-use mathlib.Core.Option.{Option, some, none}
+use Rattle.std.specs.Prelude.{Option, Some, None, is_some}
+use Rattle.std.specs.Option.{option_or}
 use lib.Dec.{eqb, ltb}
 use lib.ListN.{length, take, drop, length-append, take-append-drop}
 use lib.Seq.{take_at, drop_at}
@@ -20,56 +21,64 @@ use Rattle.field.proofs.Fields.{bytes_drop, bytes_at_lem, length_big_endian, len
 use Rattle.measurement.specs.Flow.{padded}
 use Rattle.measurement.specs.declared.IpVersion.{IpVersion}
 use Rattle.measurement.specs.declared.IpVersion.TheVariants.{V4, V6}
-use Rattle.gtpu.specs.Element.{element_type, teid_data_i, gtpu_peer_address, is_teid_data_i, is_peer_address, value_length, other_length, element_of, element_size, element_causes, end_of, walk, elements_from, elements_of}
+use Rattle.gtpu.specs.Element.{element_type, teid_data_i, gtpu_peer_address, is_teid_data_i, value_length, other_length, element_of, element_size, element_causes, end_of, walk, elements_from, elements_of}
 use Rattle.gtpu.specs.Indication.{and_then, cut, elements_in, first_of, teid_in, version_in, address_in, named, indication_of}
-use Rattle.gtpu.specs.Places.{found_at, Places, places_end, places_walk, places_from, tunnel_at, TeidData}
+use Rattle.gtpu.specs.Firsts.{first_after, TeidData}
 use Rattle.gtpu.specs.Tunnels.{yes_or_no, SameAnswer, IndicationNumbers, Element, teid_data, variable, written, written_all, Writable, AllWritable, first_teid, first_address, tunnel_from, FirstOfEach, EveryAccepted, ErrorIndicationNames, TunnelExamples}
 use Rattle.gtpu.specs.declared.RefusedTunnel.{RefusedTunnel}
-use Rattle.gtpu.proofs.Bounded.{rest_shorter, goes_on}
-use Rattle.gtpu.proofs.Cut.{then_causes, then_then, is_teid_data, is_peer_address_lem, indication_at}
-use Rattle.gtpu.proofs.Rows.{size_16, size_other, teid_sound, value_sound, sound, within}
+use Rattle.gtpu.proofs.Bounded.{rest_shorter}
+use Rattle.gtpu.proofs.Cut.{then_causes, then_same, then_then, cut_onward, type_of_lem, first_kept, is_teid_data, is_peer_address_lem}
+use Rattle.gtpu.proofs.Rows.{size_16, size_other, size_positive, teid_sound, value_sound, sound, within}
 
 -- ---- the answer is leaf 8's
 
-abbrev is_some : Option ℕ → Bool
-is_some none = false
-is_some (some place) = true
+seen : (ie_type : ℕ) (t : Option (List ℕ)) (element : List ℕ) → is_some (first_after ie_type t element) ≡ is_some t || eqb (element_type element) ie_type
+seen ie_type (Some first) element = refl
+seen ie_type None element = by (eqb (element_type element) ie_type)
+  where
+    by : (here : Bool) → is_some (elim here as (λ (x : Bool). Option (List ℕ)) [ true ↦ Some element | false ↦ None ]) ≡ here
+    by true = refl
+    by false = refl
 
-seen : (t : Option ℕ) (here : Bool) (left : ℕ) → is_some (found_at t here left) ≡ is_some t || here
-seen (some place) here left = refl
-seen none true left = refl
-seen none false left = refl
+-- what a list is refused by, behind elements of which these were the first
+abbrev told : Option (List ℕ) → Option (List ℕ) → List (List ℕ) → Outcome (Unit {0})
+told t p elements = yes_or_no (named (option_or t (first_of 16 elements)) (option_or p (first_of 133 elements)))
 
-end_told : (t p : Option ℕ) → and_then (places_end t p) (λ x. gives tt) ≡ end_of (is_some t) (is_some p)
+end_told : (t p : Option (List ℕ)) → told t p [] ≡ end_of (is_some t) (is_some p)
 unfolding end_of first_cause
-end_told none p = refl
-end_told (some t) none = refl
-end_told (some t) (some p) = refl
+end_told None p = refl
+end_told (Some t) None = refl
+end_told (Some t) (Some p) = refl
 
--- without what was given, whether it was refused
-told : {A : Type 0} (o : Outcome A) → and_then o (λ x. gives tt) ≡ yes_or_no o
-told (refused n) = refl
-told (gives x) = refl
-
-walk_told : (bound : ℕ) (t p : Option ℕ) (l : List ℕ) → and_then (places_walk bound t p l) (λ x. gives tt) ≡ walk bound (is_some t) (is_some p) l
-unfolding places_walk walk
+walk_told : (bound : ℕ) (t p : Option (List ℕ)) (l : List ℕ) → and_then (cut bound l) (told t p) ≡ walk bound (is_some t) (is_some p) l
+unfolding cut walk
 walk_told zero t p l = end_told t p
 walk_told (suc bound) t p [] = end_told t p
 walk_told (suc bound) t p (b ∷ l) =
-    let rest = drop (element_size (b ∷ l)) (b ∷ l) in
-    let n = length (b ∷ l) in
-    then_causes (element_causes (b ∷ l)) (places_walk bound (found_at t (is_teid_data_i b) n) (found_at p (is_peer_address b) n) rest) (λ x. gives tt)
-    ∙ ap (λ (o : Outcome (Unit {0})). first_cause (element_causes (b ∷ l)) o)
-    (walk_told bound (found_at t (is_teid_data_i b) n) (found_at p (is_peer_address b) n) rest
-    ∙ ap₂ (λ (x y : Bool). walk bound x y rest) (seen t (is_teid_data_i b) n) (seen p (is_peer_address b) n))
+    let list = b ∷ l in
+    let front = take (element_size list) list in
+    let rest = drop (element_size list) list in
+    let t' = first_after 16 t front in
+    let p' = first_after 133 p front in
+    let is : element_type front ≡ b = type_of_lem (element_size list) b l (size_positive list) in
+    then_causes (element_causes list) (and_then (cut bound rest) (λ elements. gives (front ∷ elements))) (told t p)
+    ∙ ap (λ (o : Outcome (Unit {0})). first_cause (element_causes list) o)
+    (then_then (cut bound rest) (λ elements. front ∷ elements) (told t p)
+    ∙ then_same (cut bound rest) (λ elements. told t p (front ∷ elements)) (told t' p')
+    (λ elements. ap₂ (λ (x y : Option (List ℕ)). yes_or_no (named x y)) (first_kept 16 t front elements) (first_kept 133 p front elements))
+    ∙ walk_told bound t' p' rest
+    ∙ ap₂ (λ (x y : Bool). walk bound x y rest)
+    (seen 16 t front ∙ ap (λ (x : ℕ). is_some t || eqb x 16) is) (seen 133 p front ∙ ap (λ (x : ℕ). is_some p || eqb x 133) is))
+
+yes_or_no_then : {A B : Type 0} (o : Outcome A) (f : A → Outcome B) → yes_or_no (and_then o f) ≡ and_then o (λ x. yes_or_no (f x))
+yes_or_no_then (refused n) f = refl
+yes_or_no_then (gives x) f = refl
 
 pub same_answer : SameAnswer
-unfolding SameAnswer elements_of elements_from places_from
+unfolding SameAnswer elements_of elements_from indication_of elements_in
 same_answer payload =
-    sym (told (indication_of payload))
-    ∙ ap (λ (o : Outcome RefusedTunnel). and_then o (λ x. gives tt)) (indication_at payload)
-    ∙ then_then (places_from none none payload) (λ (places : Places). tunnel_at payload places.teid_data places.peer_address) (λ x. gives tt)
-    ∙ walk_told (length payload) none none payload
+    yes_or_no_then (cut (length payload) payload) (λ elements. named (first_of 16 elements) (first_of 133 elements))
+    ∙ walk_told (length payload) None None payload
 
 -- ---- and has no number but 25 to 29
 
@@ -89,9 +98,9 @@ cut_by (suc bound) (b ∷ l) n e =
     by_one_of element_numbers (element_causes list) _ refl (λ m f. cut_by bound (drop (element_size list) list) m (then_refused (cut bound (drop (element_size list) list)) (λ rest. take (element_size list) list ∷ rest) m f)) n e
 
 named_by : (t p : Option (List ℕ)) (n : ℕ) → named t p ≡ refused n → among n element_numbers ≡ true
-named_by none p n e = let same : 28 ≡ n = cc in ap (λ (m : ℕ). among m element_numbers) (sym same)
-named_by (some t) none n e = let same : 29 ≡ n = cc in ap (λ (m : ℕ). among m element_numbers) (sym same)
-named_by (some t) (some p) n e = absurd (refused_gives (sym e))
+named_by None p n e = let same : 28 ≡ n = cc in ap (λ (m : ℕ). among m element_numbers) (sym same)
+named_by (Some t) None n e = let same : 29 ≡ n = cc in ap (λ (m : ℕ). among m element_numbers) (sym same)
+named_by (Some t) (Some p) n e = absurd (refused_gives (sym e))
 
 indication_by : (payload : List ℕ) (n : ℕ) → indication_of payload ≡ refused n → among n element_numbers ≡ true
 unfolding indication_of elements_in
@@ -113,14 +122,6 @@ unfolding TunnelExamples indication_of elements_in cut element_causes element_si
 tunnel_examples_lem = (refl, (refl, (refl, (refl, (refl, tt)))))
 
 -- ---- elements that are written one behind the other
-
-module _ (l : List ℕ) (nonempty : 0 < length l) where
-  cut_onward : elements_in l ≡ first_cause (element_causes l) (and_then (elements_in (drop (element_size l) l)) (λ rest. gives (take (element_size l) l ∷ rest)))
-  unfolding elements_in cut
-  cut_onward =
-      goes_on (λ (n : ℕ) (s : Unit {0}) (l : List ℕ). cut n l) (λ (s : Unit {0}). gives []) (λ (s : Unit {0}) (l : List ℕ). tt)
-      (λ (l : List ℕ) (o : Outcome (List (List ℕ))). first_cause (element_causes l) (and_then o (λ rest. gives (take (element_size l) l ∷ rest))))
-      (λ s l. refl) (λ n s. refl) (λ n s b l. refl) tt l nonempty
 
 -- a length of 2 bytes reads back
 two_bytes : (n : ℕ) → n < 2 ^ 16 → value_of (big_endian 2 n) ≡ n
@@ -168,8 +169,8 @@ cut_written (e ∷ es) h =
 
 -- what the first of each type has
 abbrev mapped : {A B : Type 0} → (A → B) → Option A → Option B
-mapped f none = none
-mapped f (some x) = some (f x)
+mapped f None = None
+mapped f (Some x) = Some (f x)
 
 abbrev Peer : Type 0
 Peer = IpVersion × List ℕ
@@ -182,9 +183,9 @@ peer_of address = (elim (eqb (length address) 4) [ true ↦ V4 | false ↦ V6 ],
 
 teid_first : (es : List Element) → AllWritable es → mapped teid_in (first_of 16 (each es)) ≡ first_teid es
 teid_first [] h = refl
-teid_first (teid_data teid ∷ es) h = ap some (value_big_endian 4 teid h.0)
+teid_first (teid_data teid ∷ es) h = ap Some (value_big_endian 4 teid h.0)
 teid_first (variable t value ∷ es) h =
-    ap (λ (b : Bool). mapped teid_in (elim b as (λ (x : Bool). Option (List ℕ)) [ true ↦ some (written (variable t value)) | false ↦ first_of 16 (each es) ]))
+    ap (λ (b : Bool). mapped teid_in (elim b as (λ (x : Bool). Option (List ℕ)) [ true ↦ Some (written (variable t value)) | false ↦ first_of 16 (each es) ]))
     (ne_eqb t 16 (λ e. omega (arith, h.0.0)))
     ∙ teid_first es h.1
 
@@ -210,26 +211,26 @@ peer_first (teid_data teid ∷ es) h = peer_first es h.1
 peer_first (variable t value ∷ es) h = by (eqb t 133) (peer_first es h.1)
   where
     by : (b : Bool) → mapped peer_in (first_of 133 (each es)) ≡ mapped peer_of (first_address es)
-        → mapped peer_in (elim b as (λ (x : Bool). Option (List ℕ)) [ true ↦ some (written (variable t value)) | false ↦ first_of 133 (each es) ])
-        ≡ mapped peer_of (elim b as (λ (x : Bool). Option (List ℕ)) [ true ↦ some value | false ↦ first_address es ])
-    by true rest = ap some (peer_read t value h.0.1)
+        → mapped peer_in (elim b as (λ (x : Bool). Option (List ℕ)) [ true ↦ Some (written (variable t value)) | false ↦ first_of 133 (each es) ])
+        ≡ mapped peer_of (elim b as (λ (x : Bool). Option (List ℕ)) [ true ↦ Some value | false ↦ first_address es ])
+    by true rest = ap Some (peer_read t value h.0.1)
     by false rest = rest
 
 abbrev named_values : Option ℕ → Option Peer → Outcome RefusedTunnel
-named_values none peer = refused missing_teid_data_i
-named_values (some teid) none = refused missing_peer_address
-named_values (some teid) (some peer) = gives (record { teid = teid; version = peer.0; peer_address = peer.1 })
+named_values None peer = refused missing_teid_data_i
+named_values (Some teid) None = refused missing_peer_address
+named_values (Some teid) (Some peer) = gives (record { teid = teid; version = peer.0; peer_address = peer.1 })
 
 by_elements : (t p : Option (List ℕ)) → named t p ≡ named_values (mapped teid_in t) (mapped peer_in p)
-by_elements none p = refl
-by_elements (some t) none = refl
-by_elements (some t) (some p) = refl
+by_elements None p = refl
+by_elements (Some t) None = refl
+by_elements (Some t) (Some p) = refl
 
 by_values : (t : Option ℕ) (a : Option (List ℕ)) → named_values t (mapped peer_of a) ≡ tunnel_from t a
 unfolding padded
-by_values none a = refl
-by_values (some t) none = refl
-by_values (some t) (some a) = refl
+by_values None a = refl
+by_values (Some t) None = refl
+by_values (Some t) (Some a) = refl
 
 pub first_of_each : FirstOfEach
 unfolding FirstOfEach indication_of

@@ -1,8 +1,7 @@
 -- Which tunnel an Error Indication names: document 02, job 7. "The element walk returns the first element 16 and the
 -- first element 133 of an accepted list." What it refuses, and in which order, is leaf 8's (specs/Element.antt);
 -- `SameAnswer` of specs/Tunnels.antt says that the two agree on every list.
-use Rattle.std.specs.Prelude.{ℕ, zero, suc, List, [], ◌∷◌, true, false, eqb, length, take, drop}
-use Rattle.std.proofs.Math.Option.{Option, some, none}
+use Rattle.std.specs.Prelude.{ℕ, zero, suc, List, [], ◌∷◌, true, false, eqb, length, take, drop, Option, Some, None}
 use Rattle.error.specs.Number.{missing_teid_data_i, missing_peer_address}
 use Rattle.error.specs.Outcome.{Outcome, refused, gives, first_cause}
 use Rattle.field.specs.Field.{bytes_at, field}
@@ -32,9 +31,9 @@ elements_in payload = cut (length payload) payload
 
 -- The first element of a type: those behind it are not looked at.
 abbrev pub first_of : ℕ → List (List ℕ) → Option (List ℕ)
-first_of ie_type [] = none
+first_of ie_type [] = None
 first_of ie_type (element ∷ elements) =
-    elim (eqb (element_type element) ie_type) [ true ↦ some element | false ↦ first_of ie_type elements ]
+    elim (eqb (element_type element) ie_type) [ true ↦ Some element | false ↦ first_of ie_type elements ]
 
 -- "Type 16: 4 bytes", behind the type.
 abbrev pub teid_in : List ℕ → ℕ
@@ -59,9 +58,9 @@ tunnel_of teid_data peer_address = record {
 
 -- "At the end: 28, then 29."; else the tunnel.
 abbrev pub named : Option (List ℕ) → Option (List ℕ) → Outcome RefusedTunnel
-named none peer_address = refused missing_teid_data_i
-named (some teid_data) none = refused missing_peer_address
-named (some teid_data) (some peer_address) = gives (tunnel_of teid_data peer_address)
+named None peer_address = refused missing_teid_data_i
+named (Some teid_data) None = refused missing_peer_address
+named (Some teid_data) (Some peer_address) = gives (tunnel_of teid_data peer_address)
 
 -- The payload of an Error Indication: by which number it is refused, or the tunnel that it names.
 unfoldable pub indication_of : List ℕ → Outcome RefusedTunnel

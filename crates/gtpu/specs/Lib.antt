@@ -2,7 +2,7 @@
 pub mod Message
 pub mod Element
 pub mod Indication
-pub mod Places
+pub mod Firsts
 pub mod Answer
 pub mod Claims
 pub mod Tunnels

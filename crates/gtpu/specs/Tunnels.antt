@@ -1,6 +1,5 @@
 -- What is claimed of the tunnel that an Error Indication names (document 02, job 7). Proved in proofs/Tunnels.antt.
-use Rattle.std.specs.Prelude.{ℕ, ◌-◌, ◌^◌, ◌<◌, ◌≤◌, ◌≡◌, ◌⊎◌, List, [], ◌∷◌, ◌++◌, true, false, eqb, length, replicate}
-use Rattle.std.proofs.Math.Option.{Option, some, none}
+use Rattle.std.specs.Prelude.{ℕ, ◌-◌, ◌^◌, ◌<◌, ◌≤◌, ◌≡◌, ◌⊎◌, List, [], ◌∷◌, ◌++◌, true, false, eqb, length, replicate, Option, Some, None}
 use Rattle.error.specs.Number.{truncated_element, missing_teid_data_i, missing_peer_address}
 use Rattle.error.specs.Outcome.{Outcome, refused, gives}
 use Rattle.field.specs.Field.{Bytes, big_endian}
@@ -51,15 +50,15 @@ AllWritable (element ∷ elements) = Writable element × AllWritable elements
 
 -- The TEID of the first 16, and the address of the first 133.
 abbrev pub first_teid : List Element → Option ℕ
-first_teid [] = none
-first_teid (teid_data teid ∷ elements) = some teid
+first_teid [] = None
+first_teid (teid_data teid ∷ elements) = Some teid
 first_teid (variable ie_type value ∷ elements) = first_teid elements
 
 abbrev pub first_address : List Element → Option (List ℕ)
-first_address [] = none
+first_address [] = None
 first_address (teid_data teid ∷ elements) = first_address elements
 first_address (variable ie_type value ∷ elements) =
-    elim (eqb ie_type gtpu_peer_address) [ true ↦ some value | false ↦ first_address elements ]
+    elim (eqb ie_type gtpu_peer_address) [ true ↦ Some value | false ↦ first_address elements ]
 
 -- The tunnel of a TEID and an address: an IPv4 address has 4 bytes, and zeros behind them.
 abbrev pub tunnel_to : ℕ → List ℕ → RefusedTunnel
@@ -70,9 +69,9 @@ tunnel_to teid address = record {
 }
 
 abbrev pub tunnel_from : Option ℕ → Option (List ℕ) → Outcome RefusedTunnel
-tunnel_from none address = refused missing_teid_data_i
-tunnel_from (some teid) none = refused missing_peer_address
-tunnel_from (some teid) (some address) = gives (tunnel_to teid address)
+tunnel_from None address = refused missing_teid_data_i
+tunnel_from (Some teid) None = refused missing_peer_address
+tunnel_from (Some teid) (Some address) = gives (tunnel_to teid address)
 
 -- "the first element 16 and the first element 133": of elements that are written one behind the other, whichever and
 -- however many, the first of each type counts.

@@ -6,11 +6,11 @@ use Rattle.gtpu.proofs.address_in.Goals as goal
 
 pub returns-then-value_length-eq4 : goal.returns-then-value_length-eq4
 returns-then-value_length-eq4 c =
-    made_of_4 c.args.list.now c.value_length.result c.value_length.ensures c.if-value_length-eq4.true
+    made_of_4 c.args.element.now c.value_length.result c.value_length.ensures c.if-value_length-eq4.true
 
 pub returns : goal.returns
 returns c =
-    let l = c.args.list.now in
+    let l = c.args.element.now in
     -- the value has 16 bytes where it has not 4
     let whole : value_length l ≡ 16 = is_16 l c.value_length.result c.value_length.ensures c.requires c.if-value_length-eq4.false in
     let fits : 19 ≤ length l = omega (arith, whole, c.requires.fits) in

@@ -4,10 +4,10 @@ use Rattle.gtpu.proofs.Rows.{refuses_27, teid_cut, teid_sound}
 use Rattle.gtpu.proofs.judge_element.Goals as goal
 
 pub returns-then-list-lt-TEID_DATA_I_SIZE : goal.returns-then-list-lt-TEID_DATA_I_SIZE
-returns-then-list-lt-TEID_DATA_I_SIZE c = record { means = teid_cut c.args.list.now c.in-16.is c.if-list-lt-TEID_DATA_I_SIZE.true; type = tt }
+returns-then-list-lt-TEID_DATA_I_SIZE c = teid_cut c.args.list.now c.in-16.is c.if-list-lt-TEID_DATA_I_SIZE.true
 
 pub returns-else-list-lt-TEID_DATA_I_SIZE : goal.returns-else-list-lt-TEID_DATA_I_SIZE
-returns-else-list-lt-TEID_DATA_I_SIZE c = record { means = teid_sound c.args.list.now c.in-16.is c.if-list-lt-TEID_DATA_I_SIZE.false; type = c.in-16.is }
+returns-else-list-lt-TEID_DATA_I_SIZE c = teid_sound c.args.list.now c.in-16.is c.if-list-lt-TEID_DATA_I_SIZE.false
 
 pub returns-in_default : goal.returns-in_default
-returns-in_default c = record { means = refuses_27 c.args.list.now (omega arith) (λ e. omega arith); type = tt }
+returns-in_default c = refuses_27 c.args.list.now (omega arith) (λ e. omega arith)

@@ -1,75 +1,62 @@
--- Answers for `gtpu::validate_error_indication_ies`.
-use Rattle.std.proofs.Common.{◌≡◌, ℕ, suc, ◌+◌, ◌-◌, ◌<◌, ◌≤◌, List, length, length-drop, take, drop, refl, sym, ap, ◌∙◌, arith}
-use mathlib.Core.Option.{none}
-use borrow.Author.Rules.{part_to_end}
+-- `gtpu::validate_error_indication_ies` meets its contract: the tunnel is that of what was seen, where nothing is left.
+use Rattle.std.proofs.Common.{◌≡◌, ℕ, sym, ap, ◌∙◌, Bool, true, List, length, Err, Bor, rules}
+use Rattle.std.specs.Prelude.{Option, Some, None, ◌==◌}
+use Rattle.std.specs.Option.{option_copied, ok_or}
+use borrow.Author.Tests.{eqb-true}
+use Rattle.error.specs.Answer.{number_of}
 use Rattle.error.specs.Outcome.{refused, gives}
-use Rattle.gtpu.specs.Places.{teid_place, peer_place, places_from, tunnel_at}
-use Rattle.gtpu.specs.Answer.{numbered, walked_means}
-use Rattle.gtpu.proofs.Places.{at_end, settled, going, refusal}
-use Rattle.gtpu.proofs.Cut.{accepted_at, refused_at_lem, accepted_placed}
-use Rattle.gtpu.proofs.Values.{answered}
+use Rattle.error.specs.declared.Refusal.{Refusal}
+use Rattle.gtpu.specs.Firsts.{Firsts, firsts_from}
+use Rattle.gtpu.specs.Indication.{indication_of}
+use Rattle.gtpu.proofs.Firsts.{firsts, at_end, indication_at, teid_whole, peer_whole, teid_missing, peer_missing, both_found}
 use Rattle.gtpu.proofs.validate_error_indication_ies.Goals as goal
 
--- What the walk answers is the judgement of the payload; and where it is settled, it is so by its number.
-judged_by : (answer : ℕ) (places rest payload : List ℕ) → walked_means answer places rest ≡ places_from none none payload → answer < 128
-    → numbered answer (teid_place places) (peer_place places) ≡ places_from none none payload
-judged_by answer places rest payload comes below = sym (settled answer places rest below) ∙ comes
+ended : (payload rest : List ℕ) (f : Firsts) (empty : Bool) → firsts_from f rest ≡ firsts_from (firsts None None) payload → empty ≡ (length rest == 0) → empty ≡ true
+    → gives f ≡ firsts_from (firsts None None) payload
+ended payload rest f empty is e g = sym (at_end f rest (eqb-true _ _ (sym e ∙ g))) ∙ is
 
-accepted_by : (answer : ℕ) (places rest payload : List ℕ) → walked_means answer places rest ≡ places_from none none payload → answer ≡ 0
-    → gives (record { teid_data = teid_place places; peer_address = peer_place places }) ≡ places_from none none payload
-accepted_by answer places rest payload comes is =
-    sym (ap (λ (n : ℕ). numbered n (teid_place places) (peer_place places)) is) ∙ judged_by answer places rest payload comes (omega arith)
+-- Where nothing was seen, the error is the one that was asked for.
+missed : (payload : List ℕ) (seen : Option (Bor (List ℕ))) (e r : Refusal) → Err e ≡ ok_or seen r → seen ≡ None → refused (number_of r) ≡ indication_of payload
+    → refused (number_of e) ≡ indication_of payload
+missed payload None e r h g missing = let same : e ≡ r = cc in rw same missing
+missed payload (Some element) e r h g missing = cc
 
--- Where the walk is to go on, something is left, and it took a byte at least.
-left_is_there : (rest : List ℕ) (left calls : ℕ) → 0 < left → left + calls ≤ length rest
-    → 0 < length (take (length rest - (length rest - left)) (drop (length rest - left) rest))
-left_is_there rest left calls some within =
-    omega (arith, ap length (part_to_end rest (length rest - left)), length-drop (length rest - left) rest)
+pub returns-in_err-rest : goal.returns-in_err-rest
+returns-in_err-rest c =
+    let refuses = indication_at c.args.payload.now _ (c.in_err-rest.ensures.list_after ∙ c.loop-rest.invariant) in
+    search (rules, refuses)
 
-left_is_shorter : (rest : List ℕ) (left calls : ℕ) → 0 < left → left + suc calls ≤ length rest
-    → length (take (length rest - (length rest - left)) (drop (length rest - left) rest)) < length rest
-left_is_shorter rest left calls some within =
-    omega (arith, ap length (part_to_end rest (length rest - left)), length-drop (length rest - left) rest)
+pub returns-in_err-teid_data : goal.returns-in_err-teid_data
+returns-in_err-teid_data c =
+    let found = ended c.args.payload.now _ _ _ c.loop-rest.invariant c.is_empty.ensures c.loop-rest-test.false in
+    let missing = teid_missing c.args.payload.now _ found (ap option_copied c.in_err-teid_data.ensures.ok_part) in
+    let refuses = missed c.args.payload.now _ _ _ c.in_err-teid_data.ensures.value c.in_err-teid_data.ensures.ok_part missing in
+    search (rules, refuses)
 
-pub returns-then-payload-eq0 : goal.returns-then-payload-eq0
-returns-then-payload-eq0 c =
-    let l = c.args.payload.now in
-    let a = answered l (refused 28) c.elements_refused.result c.elements_refused.ensures (refused_at_lem l 28 (at_end none none l c.if-payload-eq0.true)) in
-    record { means = a.0; beside = a.1 }
+pub returns-in_err-peer_address : goal.returns-in_err-peer_address
+returns-in_err-peer_address c =
+    let found = ended c.args.payload.now _ _ _ c.loop-rest.invariant c.is_empty.ensures c.loop-rest-test.false in
+    let missing = peer_missing c.args.payload.now _ found _ (ap option_copied c.in_ok-teid_data.ensures.ok_part) (ap option_copied c.in_err-peer_address.ensures.ok_part) in
+    let refuses = missed c.args.payload.now _ _ _ c.in_err-peer_address.ensures.value c.in_err-peer_address.ensures.ok_part missing in
+    search (rules, refuses)
 
-pub loop-rest-init : goal.loop-rest-init
-loop-rest-init c = (omega arith, refl, refl)
+pub teid_in-requires : goal.teid_in-requires
+teid_in-requires c =
+    let found = ended c.args.payload.now _ _ _ c.loop-rest.invariant c.is_empty.ensures c.loop-rest-test.false in
+    teid_whole c.args.payload.now _ found _ (ap option_copied c.in_ok-teid_data.ensures.ok_part)
 
-pub walk_elements-answer-requires : goal.walk_elements-answer-requires
-walk_elements-answer-requires c = (c.loop-rest.invariant.0, c.loop-rest.invariant.1)
+pub version_in-requires : goal.version_in-requires
+version_in-requires c =
+    let found = ended c.args.payload.now _ _ _ c.loop-rest.invariant c.is_empty.ensures c.loop-rest-test.false in
+    peer_whole c.args.payload.now _ found _ (ap option_copied c.in_ok-peer_address.ensures.ok_part)
 
-pub elements_accepted-requires : goal.elements_accepted-requires
-elements_accepted-requires c =
-    accepted_placed c.args.payload.now _ (sym (accepted_by c.walk_elements-answer.result c.walk_elements-answer.new.places c.loop-rest.rest.now c.args.payload.now (c.walk_elements-answer.ensures.list_after ∙ c.loop-rest.invariant.2) c.if-answer-eq0.true))
+pub address_in-requires : goal.address_in-requires
+address_in-requires c =
+    let found = ended c.args.payload.now _ _ _ c.loop-rest.invariant c.is_empty.ensures c.loop-rest-test.false in
+    peer_whole c.args.payload.now _ found _ (ap option_copied c.in_ok-peer_address.ensures.ok_part)
 
-pub returns-then-answer-eq0 : goal.returns-then-answer-eq0
-returns-then-answer-eq0 c =
-    let l = c.args.payload.now in
-    let places = c.walk_elements-answer.new.places in
-    let accepted = accepted_by c.walk_elements-answer.result c.walk_elements-answer.new.places c.loop-rest.rest.now c.args.payload.now (c.walk_elements-answer.ensures.list_after ∙ c.loop-rest.invariant.2) c.if-answer-eq0.true in
-    let a = answered l (gives (tunnel_at l (teid_place places) (peer_place places))) c.elements_accepted.result c.elements_accepted.ensures (accepted_at l (teid_place places) (peer_place places) accepted) in
-    record { means = a.0; beside = a.1 }
-
-pub returns-then-answer-lt-GO_ON : goal.returns-then-answer-lt-GO_ON
-returns-then-answer-lt-GO_ON c =
-    let l = c.args.payload.now in
-    let n = c.walk_elements-answer.result in
-    let comes = judged_by n c.walk_elements-answer.new.places c.loop-rest.rest.now l (c.walk_elements-answer.ensures.list_after ∙ c.loop-rest.invariant.2) c.if-answer-lt-GO_ON.true in
-    let a = answered l (refused n) c.elements_refused-then-answer-lt-GO_ON.result c.elements_refused-then-answer-lt-GO_ON.ensures (refused_at_lem l n (sym (refusal n _ _ c.if-answer-eq0.false) ∙ comes)) in
-    record { means = a.0; beside = a.1 }
-
-pub loop-rest-smaller : goal.loop-rest-smaller
-loop-rest-smaller c =
-    let took = c.walk_elements-answer.ensures.advanced c.if-answer-lt-GO_ON.false in
-    left_is_shorter c.loop-rest.rest.now _ _ took.0 took.1
-
-pub loop-rest-preserved : goal.loop-rest-preserved
-loop-rest-preserved c =
-    let took = c.walk_elements-answer.ensures.advanced c.if-answer-lt-GO_ON.false in
-    let left = left_is_there c.loop-rest.rest.now _ _ took.0 took.1 in
-    (left, c.walk_elements-answer.ensures.places_len, rw part_to_end (sym (going _ c.walk_elements-answer.new.places c.loop-rest.rest.now c.if-answer-lt-GO_ON.false) ∙ c.walk_elements-answer.ensures.list_after ∙ c.loop-rest.invariant.2))
+pub returns : goal.returns
+returns c =
+    let found = ended c.args.payload.now _ _ _ c.loop-rest.invariant c.is_empty.ensures c.loop-rest-test.false in
+    let both = both_found c.args.payload.now _ found _ (ap option_copied c.in_ok-teid_data.ensures.ok_part) _ (ap option_copied c.in_ok-peer_address.ensures.ok_part) in
+    rw (c.teid_in.ensures, c.version_in.ensures, c.address_in.ensures) both
