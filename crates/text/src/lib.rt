@@ -75,6 +75,19 @@ impl fmt::Display for Nanoseconds {
     }
 }
 
+// A number, or another text where there is none.
+#[derive(Clone, Copy)]
+pub struct NumberOr(pub Option<u64>, pub &'static str);
+
+impl fmt::Display for NumberOr {
+    fn fmt<W: fmt::Write>(&self, f: &mut fmt::Formatter<W>) -> fmt::Result {
+        match self.0 {
+            Some(n) => write!(f, "{n}"),
+            None => f.write_str(self.1),
+        }
+    }
+}
+
 // What follows is for the crate `replay` alone, until it prints by `write!`.
 pub fn part(s: &[u8], at: usize, n: usize) -> &[u8] {
     if at <= s.len() {
