@@ -2,7 +2,7 @@
 use Prim.Native.Nat.{ℕ, zero, suc, ◌+◌, ◌-◌, ◌*◌, ◌/◌, ◌%◌, ◌<◌, ◌≤◌}
 use native.Mathlib.Omega.{arith}
 use native.Mathlib.Decide.{dec_lt}
-use mathlib.Core.Path.{◌≡◌, refl, sym}
+use mathlib.Core.Path.{◌≡◌, refl, sym, ◌∙◌}
 use mathlib.Core.Bool.{Bool, true, false}
 use mathlib.Core.Logic.{◌↔◌}
 use lib.Dec.{ltb}
@@ -71,13 +71,17 @@ fold_of_like {n} {m} p = like_one (fold_low m) (fold_low n) (like_trans p (fold_
 pub fold_is : {n f : ℕ} → Like n f → f < 65536 → fold_of n ≡ f
 fold_is {n} {f} p h = like_one (fold_low n) h (fold_like n) p
 
--- what is below 2 ^ 32 has no carry left after two folds
-pub fold_twice : (n : ℕ) {once twice : ℕ} → n < 4294967296 → once ≡ n % 65536 + n / 65536 → twice ≡ once % 65536 + once / 65536
-    → (twice < 65536) × (twice ≡ fold_of n)
-fold_twice n {once} {twice} h e f =
-    let low : twice < 65536 = omega arith in
-    let like : Like n twice = record { some = λ p. omega arith; times = n / 65536 + once / 65536; same = omega arith } in
-    (low, sym (fold_is like low))
+-- what is below 2 ^ 64 has no carry left after a fold of its halves and three of words
+pub fold_whole_number : (n : ℕ) {halves words once twice : ℕ} → n < 18446744073709551616
+    → halves ≡ n % 4294967296 + n / 4294967296 → words ≡ halves % 65536 + halves / 65536
+    → once ≡ words % 65536 + words / 65536 → twice ≡ once % 65536 + once / 65536 → twice ≡ fold_of n
+fold_whole_number n {halves} {words} {once} {twice} below is_halves is_words is_once is_twice =
+    let a : halves < 8589934592 = omega arith in
+    let b : words < 196607 = omega arith in
+    let c : once ≤ 65536 = omega arith in
+    let like : Like n (once % 65536 + once / 65536) =
+    like_trans (rw (← is_halves) at (like_halves n)) (like_trans (rw (← is_words) at (like_once halves)) (like_trans (rw (← is_once) at (like_once words)) (like_once once))) in
+    is_twice ∙ sym (fold_is like (omega arith))
 
 -- two 16-bit words as one number of 32 bits, in the middle of a sum
 pub fold_words : (n a b : ℕ) → fold_of (n + (a * 65536 + b)) ≡ fold_of (n + (a + b))

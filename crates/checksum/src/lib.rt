@@ -8,39 +8,30 @@ ghost use Rattle.checksum.specs.Sum.{sum_of, fold_of, checksum_of};
 ghost use Rattle.checksum.specs.Claims.{FoldedSum, SumInParts, PlacedVerifies, DamageFound, Undamaged, Clipped};
 ghost use Rattle.checksum.specs.Claims.{DamageIs, Sharp, Examples};
 
-// The carries of a sum folded into 16 bits: one fold leaves at most one carry, and a second none.
-pub fn fold(sum: u32) -> u16
-    ensures { result ≡ fold_of sum }
-{
-    let once = (sum & 0xffff) + (sum >> 16);
-    let twice = (once & 0xffff) + (once >> 16);
-    twice as u16
-}
-
-// The same fold, of a sum in 64 bits.
+// The carries of a sum folded into 16 bits: its halves of 32 bits are added, and then three times what stands above the
+// low 16 bits. The last fold leaves no carry.
 pub fn fold_u64(sum: u64) -> u16
     ensures { result ≡ fold_of sum }
 {
     let halves = (sum & 0xffff_ffff) + (sum >> 32);
-    fold(((halves & 0xffff) + (halves >> 16)) as u32)
+    let words = (halves & 0xffff) + (halves >> 16);
+    let once = (words & 0xffff) + (words >> 16);
+    let twice = (once & 0xffff) + (once >> 16);
+    twice as u16
 }
 
 // The words of at most three bytes.
+#[tactic(auto, using(crate::proofs::Sums::few_words))]
 fn sum_last(bytes: &[u8]) -> u64
     requires { length bytes.now < 4 }
     ensures { (result ≡ sum_of bytes.now) × (result < 2 ^ 17) }
 {
-    if bytes.len() == 0 {
-        return 0;
+    match bytes {
+        [] => 0,
+        [a] => u64::from(field::word(*a, 0)),
+        [a, b] => u64::from(field::word(*a, *b)),
+        [a, b, c, ..] => u64::from(field::word(*a, *b)) + u64::from(field::word(*c, 0)),
     }
-    if bytes.len() == 1 {
-        return field::word(bytes[0], 0) as u64;
-    }
-    let first = field::word(bytes[0], bytes[1]) as u64;
-    if bytes.len() == 2 {
-        return first;
-    }
-    first + (field::word(bytes[2], 0) as u64)
 }
 
 // A number that folds to the same as the sum of the words of at most seven bytes. Four bytes are added at once, as one
@@ -49,11 +40,10 @@ fn sum_tail(bytes: &[u8]) -> u64
     requires { length bytes.now < 8 }
     ensures { ((n : ℕ) → fold_of (n + result) ≡ fold_of (n + sum_of bytes.now)) × (result < 2 ^ 33) }
 {
-    if bytes.len() < 4 {
-        return sum_last(bytes);
+    match bytes {
+        [a, b, c, d, last @ ..] => u64::from(field::double_word(*a, *b, *c, *d)) + sum_last(last),
+        _ => sum_last(bytes),
     }
-    let first = field::double_word(bytes[0], bytes[1], bytes[2], bytes[3]) as u64;
-    first + sum_last(&bytes[4..])
 }
 
 // The sum of a block, eight bytes a turn.
@@ -61,20 +51,15 @@ fn sum_block(bytes: &[u8]) -> u64
     requires { length bytes.now ≤ 65536 }
     ensures { (fold_of result ≡ fold_of (sum_of bytes.now)) × (result < 2 ^ 47) }
 {
+    let eights = bytes.chunks_exact(8);
+    let tail = eights.remainder();
     let mut sum = 0;
-    let mut i = 0;
-    while i + 7 < bytes.len() {
-        let first = field::double_word(bytes[i], bytes[i + 1], bytes[i + 2], bytes[i + 3]) as u64;
-        let second = field::double_word(
-            bytes[i + 4],
-            bytes[i + 5],
-            bytes[i + 6],
-            bytes[i + 7],
-        ) as u64;
-        sum += first + second;
-        i += 8;
+    for eight in eights {
+        let first = field::double_word(eight[0], eight[1], eight[2], eight[3]);
+        let second = field::double_word(eight[4], eight[5], eight[6], eight[7]);
+        sum += u64::from(first) + u64::from(second);
     }
-    sum + sum_tail(&bytes[i..])
+    sum + sum_tail(tail)
 }
 
 // Blocks of 65,536 bytes, with the carries folded in after each.
@@ -82,13 +67,10 @@ fn sum_blocks(start: u16, bytes: &[u8]) -> u16
     ensures { result ≡ fold_of (start + sum_of bytes.now) }
 {
     let mut sum = start;
-    let mut i = 0;
-    while 65536 < bytes.len() - i {
-        let end = i + 65536;
-        sum = fold_u64(sum_block(&bytes[i..end]) + (sum as u64));
-        i = end;
+    for block in bytes.chunks(65536) {
+        sum = fold_u64(sum_block(block) + u64::from(sum));
     }
-    fold_u64(sum_block(&bytes[i..]) + (sum as u64))
+    sum
 }
 
 // The ones' complement sum of `start` and the words of `bytes`, which stand at an even offset of the whole message.

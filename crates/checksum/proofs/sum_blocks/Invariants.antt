@@ -1,12 +1,15 @@
 -- `checksum::sum_blocks` meets its contract. The loop's invariant: the sum so far and the words that are left fold to what all fold to.
-use Prim.Native.Nat.{◌+◌, ◌-◌, ◌<◌, ◌≤◌}
+use Prim.Native.Nat.{◌+◌, ◌<◌}
 use mathlib.Core.Path.{◌≡◌}
-use lib.ListN.{length, drop}
+use Rattle.std.specs.Slice.Iter.{chunks_rest, chunks_size}
 use Rattle.checksum.specs.Sum.{sum_of, fold_of}
 use Rattle.checksum.proofs.sum_blocks.Given as goal
 
-abbrev pub invariant-loop-i : goal.invariant-loop-i
-invariant-loop-i l = (l.i ≤ length l.bytes) × (l.sum < 65536) × (fold_of (l.sum + sum_of (drop l.i l.bytes)) ≡ fold_of (l.start + sum_of l.bytes))
-
-abbrev pub decreases-loop-i : goal.decreases-loop-i
-decreases-loop-i l = length l.bytes - l.i
+abbrev pub invariant-loop-block : goal.invariant-loop-block
+invariant-loop-block l = record {
+  can_next : (goal.iterator-loop-block).can_next l.block-iterator;
+  is_finite : (goal.iterator-loop-block).is_finite l.block-iterator;
+  size : chunks_size l.block-iterator ≡ 65536;
+  small : l.sum < 65536;
+  folds : fold_of (l.sum + sum_of (chunks_rest l.block-iterator)) ≡ fold_of (l.start + sum_of l.bytes);
+}
