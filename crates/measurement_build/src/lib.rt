@@ -9,7 +9,8 @@ ghost use Rattle.measurement.specs.declared.IpVersion.TheVariants.{V4};
 ghost use Rattle.measurement_packet.specs.Packet.{ipv4_header, ipv6, nonzero, udp_segment, build_of};
 ghost use Rattle.measurement_build.specs.Segment.{segment_over};
 
-use measurement::{InnerIpFlow, IpVersion, MeasurementHeader, Written, layout};
+use error::Refusal;
+use measurement::{InnerIpFlow, IpVersion, MeasurementHeader, layout};
 
 // The IPv4 header's sum less the pseudo-header's. The addresses are in both and cancel out.
 const IPV4_MORE: u64 = 0x4500 + 52 + 0x4011 - (measurement::UDP_PROTOCOL as u64) - 32;
@@ -148,34 +149,31 @@ pub fn build_measurement_tpdu(
     sequence: u64,
     send_timestamp_ns: u64,
     out: &mut [u8],
-) -> Written
+) -> Result<usize, Refusal>
     ensures { wrote result out.new
         ≡ writing (build_of flow sequence send_timestamp_ns) out.old }
 {
-    let version = flow.version;
-    let src = flow.src;
-    let dst = flow.dst;
     let header = MeasurementHeader {
-        sequence: sequence,
-        send_timestamp_ns: send_timestamp_ns,
+        sequence,
+        send_timestamp_ns,
     };
     let mut start = layout::IPV4_HEADER_BYTES;
-    let pseudo = match version {
+    let pseudo = match flow.version {
         IpVersion::V4 => {
             if out.len() < measurement::IPV4_TPDU_BYTES {
-                return Written::Refused(error::OUTPUT_TOO_SHORT);
+                return Err(Refusal::OutputTooShort);
             }
-            let words = measurement::pseudo_header_words(version, src, dst, 32);
-            write_ipv4_header(words, src, dst, out);
+            let words = measurement::pseudo_header_words(flow.version, flow.src, flow.dst, 32);
+            write_ipv4_header(words, flow.src, flow.dst, out);
             words
         }
         IpVersion::V6 => {
             if out.len() < measurement::IPV6_TPDU_BYTES {
-                return Written::Refused(error::OUTPUT_TOO_SHORT);
+                return Err(Refusal::OutputTooShort);
             }
-            write_ipv6_header(src, dst, out);
+            write_ipv6_header(flow.src, flow.dst, out);
             start = layout::IPV6_HEADER_BYTES;
-            measurement::pseudo_header_words(version, src, dst, 32)
+            measurement::pseudo_header_words(flow.version, flow.src, flow.dst, 32)
         }
     };
     write_udp_segment(
@@ -185,10 +183,11 @@ pub fn build_measurement_tpdu(
         header,
         &mut out[start..],
     );
-    Written::Bytes(start + 32)
+    Ok(start + 32)
 }
 
-// The same for an IPv4 flow given in parts, for a caller that has the addresses in arrays.
+// The same for an IPv4 flow given in parts, for a caller that has the addresses in arrays. Called from the arm above, it
+// would copy both addresses once more (tried: 15.5 ns in place of 12.6, docs/DECISIONS.md, 63).
 pub fn build_ipv4_tpdu(
     src: [u8; 16],
     dst: [u8; 16],
@@ -197,18 +196,18 @@ pub fn build_ipv4_tpdu(
     sequence: u64,
     send_timestamp_ns: u64,
     out: &mut [u8],
-) -> Written
+) -> Result<usize, Refusal>
     ensures { wrote result out.new
         ≡ writing (build_of
         (record { version = V4; src = src; dst = dst; src_port = src_port; dst_port = dst_port })
         sequence send_timestamp_ns) out.old }
 {
     if out.len() < measurement::IPV4_TPDU_BYTES {
-        return Written::Refused(error::OUTPUT_TOO_SHORT);
+        return Err(Refusal::OutputTooShort);
     }
     let header = MeasurementHeader {
-        sequence: sequence,
-        send_timestamp_ns: send_timestamp_ns,
+        sequence,
+        send_timestamp_ns,
     };
     let pseudo = measurement::pseudo_header_words(IpVersion::V4, src, dst, 32);
     write_ipv4_header(pseudo, src, dst, out);
@@ -219,5 +218,5 @@ pub fn build_ipv4_tpdu(
         header,
         &mut out[layout::IPV4_HEADER_BYTES..],
     );
-    Written::Bytes(measurement::IPV4_TPDU_BYTES)
+    Ok(measurement::IPV4_TPDU_BYTES)
 }

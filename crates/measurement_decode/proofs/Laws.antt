@@ -1,33 +1,34 @@
 -- What the code of the reader computes, in the definitions' terms.
-use Prim.Native.Nat.{ℕ, zero, suc, ◌+◌, ◌-◌, ◌*◌, ◌/◌, ◌<◌, ◌≤◌}
+use Prim.Native.Nat.{ℕ, suc, ◌+◌, ◌-◌, ◌*◌, ◌/◌, ◌<◌, ◌≤◌}
 use native.Mathlib.Omega.{arith}
 use native.Mathlib.Nat.{min-le_left, add-zero}
 use mathlib.Core.Path.{◌≡◌, refl, sym, ap, ap₂, ◌∙◌}
-use mathlib.Core.List.{List, [], ◌∷◌, ◌++◌}
+use mathlib.Core.List.{List, ◌++◌}
 use mathlib.Core.Bool.{Bool, true, false, not}
 use mathlib.Core.Logic.{◌⊎◌, inl, inr}
 use lib.Dec.{eqb}
 use lib.ListN.{length, take, drop, get_or, replicate, length-take, length-drop}
+use Rattle.std.proofs.lemmas.List.{drop-replicate}
+use Rattle.std.proofs.lemmas.Result.{err_from_is_err_and}
 use borrow.Author.Tests.{eq-eqb, ne_eqb, eqb-true, eqb-false}
-use Rattle.error.specs.Outcome.{Outcome, refused, gives, outcome_number}
+use Rattle.error.specs.Outcome.{Outcome, refused, gives}
+use Rattle.error.proofs.Causes.{refused_gives}
 use Rattle.field.specs.Field.{bytes_at, field}
 use Rattle.field.proofs.Fields.{front_bytes, length_bytes_at, bytes_at_drop, bytes_at_take}
 use Rattle.checksum.specs.Sum.{sum_of, fold_of, checksum_of}
 use Rattle.checksum.proofs.Carries.{fold_low}
 use Rattle.checksum.proofs.Sums.{sum_append}
-use Rattle.measurement.specs.Flow.{address_length, padded}
+use Rattle.measurement.specs.Flow.{address_length, address, padded}
 use Rattle.measurement.specs.Pseudo.{pseudo_header}
-use Rattle.measurement.specs.Answer.{decoding_means, decode_result}
 use Rattle.measurement.specs.declared.DecodedTpdu.{DecodedTpdu}
-use Rattle.measurement.specs.declared.DecodeResult.{DecodeResult}
-use Rattle.measurement.specs.declared.Decoding.{Decoding}
 use Rattle.measurement.specs.declared.IpVersion.{IpVersion}
 use Rattle.measurement.specs.declared.IpVersion.TheVariants.{V4, V6}
 use Rattle.measurement_reading.specs.Read.{covered, payload, length_wrong, sum_wrong, tpdu_of, read_udp, ihl, read_of}
 use Rattle.measurement.proofs.Pseudo.{pseudo_even, pseudo_sum, Folds, folds_both}
-use Rattle.measurement_reading.proofs.Accept.{part_accepted, accepted, Given, given}
+use Rattle.measurement_reading.proofs.Rows.{tpdu_rows, row_1, past_1, row_2, past_2_ipv4, past_2_ipv6, ipv4_rows, row_3, past_3, row_4, past_4, row_39, past_39, row_5_low, row_5_past, past_5, row_6_ipv4, past_6_ipv4, row_7, past_7, row_38, past_38, ipv6_rows, row_8, past_8, row_6_ipv6, past_6_ipv6, row_9_low, row_9_past, past_9, udp_rows, row_10, past_10, row_11, past_11, past_11_unsummed, row_12, past_12, past_12_unsummed, probe_rows, row_13, past_13, row_14, past_14}
+use Rattle.measurement_reading.proofs.Accept.{part_accepted, accepted, Given}
 use Rattle.measurement_decode.specs.Part.{Addresses, HasProbe}
-use Rattle.measurement_decode.specs.Numbers.{tpdu_numbers, source_left, destination_left, decoding_numbered}
+use Rattle.measurement_decode.specs.Numbers.{verdict, values_of, tpdu_numbers, source_left, destination_left}
 use Rattle.measurement_decode.specs.declared.TpduNumbers.{TpduNumbers}
 
 -- 2 bytes, and 8, one by one
@@ -75,10 +76,23 @@ sum_tested v src dst u {n} {addresses} {s} a en fits es =
         go true e = let q = eqb-true n 65535 e in e ∙ sym (eq-eqb (65535 - n) 0 (omega arith))
         go false e = e ∙ sym (ne_eqb (65535 - n) 0 (λ z. eqb-false n 65535 e (omega arith)))
 
--- what a number from the judge says of an outcome
-pub refused_by : {A : Type 0} (o : Outcome A) {n : ℕ} → n ≡ outcome_number o → (n ≡ 0 → ⊥) → o ≡ refused n
-refused_by (refused m) e h = ap refused (sym e)
-refused_by (gives x) e h = absurd (h e)
+-- what a judge says of an outcome
+pub refuses : {A : Type 0} {o : Outcome A} {n : ℕ} → refused n ≡ o → refused n ≡ verdict o
+refuses e = ap verdict e
+
+pub judged_refused : {A : Type 0} (o : Outcome A) {n : ℕ} → refused n ≡ verdict o → refused n ≡ o
+judged_refused (refused m) e = ap refused cc
+judged_refused (gives x) e = absurd (refused_gives e)
+
+pub judged_given : (p : List ℕ) → gives tt ≡ verdict (read_of p) → Given p
+judged_given p = go (read_of p) refl
+  where
+    go : (o : Outcome DecodedTpdu) → read_of p ≡ o → gives tt ≡ verdict o → Given p
+    go (refused n) e j = absurd (refused_gives (sym j))
+    go (gives t) e j = record { tpdu = t; is = e }
+
+-- the rows of every judge: a `search` goes by them from a way out back to the first test
+pub ruleset judging = (refuses, tpdu_rows, row_1, past_1, row_2, past_2_ipv4, past_2_ipv6, ipv4_rows, row_3, past_3, row_4, past_4, row_39, past_39, row_5_low, row_5_past, past_5, row_6_ipv4, past_6_ipv4, row_7, past_7, row_38, past_38, ipv6_rows, row_8, past_8, row_6_ipv6, past_6_ipv6, row_9_low, row_9_past, past_9, udp_rows, row_10, past_10, row_11, past_11, past_11_unsummed, row_12, past_12, past_12_unsummed, probe_rows, row_13, past_13, row_14, past_14)
 
 -- a part of at most this many bytes
 pub part_short : (m : ℕ) (l : List ℕ) → m < 65536 → length (take m l) < 65536
@@ -89,29 +103,33 @@ pub part_front : (width at end : ℕ) (l : List ℕ) → at + width ≤ end → 
 part_front width at end l h =
     bytes_at_take width (end - at) 0 (drop at l) (omega arith) ∙ sym (bytes_at_drop width at 0 l) ∙ ap (λ (n : ℕ). bytes_at width n l) (add-zero at)
 
--- addresses, byte by byte and by a copy
-place : (l : List ℕ) (m n : ℕ) → m ≡ n → get_or l m 0 ≡ get_or l n 0
-place l m n e = ap (λ (k : ℕ). get_or l k 0) e
-
-abbrev four : ℕ → ℕ → ℕ → ℕ → List ℕ
-four a b c d = a ∷ b ∷ c ∷ d ∷ 0 ∷ 0 ∷ 0 ∷ 0 ∷ 0 ∷ 0 ∷ 0 ∷ 0 ∷ 0 ∷ 0 ∷ 0 ∷ 0 ∷ []
-
-pub ipv4_made : (l : List ℕ) (at : ℕ) → four (get_or l at 0) (get_or l (at + 1) 0) (get_or l (at + 2) 0) (get_or l (at + 3) 0) ≡ padded (bytes_at 4 at l)
+-- an address, copied to the front of 16 zeros
+pub address_copied : (l : List ℕ) (at width : ℕ) → at + width ≤ length l
+    → take (at + width - at) (drop at l) ++ drop width (replicate 16 0) ≡ padded (bytes_at width at l)
 unfolding padded
-ipv4_made l at =
-    ap₂ (λ (b c : ℕ). four (get_or l at 0) b c (get_or l (at + 3) 0)) (place l (at + 1) (suc at) (omega arith)) (place l (at + 2) (suc (suc at)) (omega arith))
-    ∙ ap (λ (d : ℕ). four (get_or l at 0) (get_or l (suc at) 0) (get_or l (suc (suc at)) 0) d) (place l (at + 3) (suc (suc (suc at))) (omega arith))
+address_copied l at width h =
+    let k : at + width - at ≡ width = omega arith in
+    let front : take (at + width - at) (drop at l) ≡ bytes_at width at l =
+    ap (λ (n : ℕ). take n (drop at l)) k ∙ front_bytes width (drop at l) (simp length-drop (omega arith))
+    ∙ sym (bytes_at_drop width at 0 l) ∙ ap (λ (n : ℕ). bytes_at width n l) (add-zero at) in
+    let rest : drop width (replicate 16 0) ≡ replicate (16 - length (bytes_at width at l)) 0 = rw (length_bytes_at width at l) (drop-replicate width 16 0) in
+    ap₂ (λ (x y : List ℕ). x ++ y) front rest
 
-pub ipv6_copied : (l : List ℕ) (at : ℕ) → at + 16 ≤ length l → take (at + 16 - at) (drop at l) ≡ bytes_at 16 at l
-ipv6_copied l at h =
-    let k : at + 16 - at ≡ 16 = omega arith in
-    ap (λ (n : ℕ). take n (drop at l)) k ∙ front_bytes 16 (drop at l) (simp length-drop (omega arith))
-    ∙ sym (bytes_at_drop 16 at 0 l) ∙ ap (λ (n : ℕ). bytes_at 16 n l) (add-zero at)
+-- where an address ends
+pub four_at_least : (v : IpVersion) → 4 ≤ address_length v
+unfolding address_length
+four_at_least V4 = omega arith
+four_at_least V6 = omega arith
+
+pub sixteen : (v : IpVersion) → v ≡ V6 → address_length v ≡ 16
+unfolding address_length
+sixteen v e = ap address_length e
 
 -- the two addresses of a packet, which stand one behind the other
 pub addresses : (v : IpVersion) (p : List ℕ) (a b c x y : ℕ) → a + address_length v ≤ b → b + address_length v ≤ c
-    → Folds x (sum_of (bytes_at (address_length v) 0 (take (b - a) (drop a p)))) → Folds y (sum_of (bytes_at (address_length v) 0 (take (c - b) (drop b p))))
+    → Folds x (sum_of (address v (take (b - a) (drop a p)))) → Folds y (sum_of (address v (take (c - b) (drop b p))))
     → Addresses v (bytes_at (address_length v) a p) (bytes_at (address_length v) b p) (x + y)
+unfolding address
 addresses v p a b c x y h k ex ey =
     let width = address_length v in
     let at : ℕ → ℕ = λ i. sum_of (bytes_at width i p) in
@@ -132,8 +150,8 @@ payload_long u e h = omega (arith, ap (λ (k : ℕ). length (take (k - 8) (drop 
 -- the values of a part, as the code reads them
 pub values_are : (v : IpVersion) (src dst u : List ℕ) {n a b s t : ℕ} → n ≡ field 2 4 u → a ≡ field 2 0 u → b ≡ field 2 2 u
     → s ≡ field 8 8 (take (n - 8) (drop 8 u)) → t ≡ field 8 16 (take (n - 8) (drop 8 u))
-    → record { sequence = s; number = 0; src_port = a; send_timestamp_ns = t; version = v; dst_port = b } ≡ tpdu_numbers (gives (tpdu_of v src dst u))
-unfolding tpdu_numbers payload
+    → record { sequence = s; src_port = a; send_timestamp_ns = t; version = v; dst_port = b } ≡ values_of (tpdu_of v src dst u)
+unfolding payload
 values_are v src dst u {n} {a} {b} {s} {t} en ea eb es et =
     let body : ℕ → List ℕ = λ k. take (k - 8) (drop 8 u) in
     let es' = es ∙ ap (λ (k : ℕ). field 8 8 (body k)) en in
@@ -141,9 +159,9 @@ values_are v src dst u {n} {a} {b} {s} {t} en ea eb es et =
     ap₂ (λ (a b : ℕ). made s a t b) ea eb ∙ ap₂ (λ (s t : ℕ). made s (field 2 0 u) t (field 2 2 u)) es' et'
   where
     made : ℕ → ℕ → ℕ → ℕ → TpduNumbers
-    made s a t b = record { sequence = s; number = 0; src_port = a; send_timestamp_ns = t; version = v; dst_port = b }
+    made s a t b = record { sequence = s; src_port = a; send_timestamp_ns = t; version = v; dst_port = b }
 
--- an IPv4 packet whose number is 0, and an IPv6 packet: where its part lies, and what it reads as
+-- an IPv4 packet that was not refused, and an IPv6 packet: where its part lies, and what it reads as
 pub record Ipv4 (p : List ℕ) : Type 0 where
   pub low : 5 ≤ ihl p
   pub fits : ihl p * 4 + 8 ≤ field 2 2 p
@@ -156,9 +174,9 @@ pub record Ipv6 (p : List ℕ) : Type 0 where
   pub part : HasProbe (take (field 2 4 p) (drop 40 p))
   pub is : read_of p ≡ gives (tpdu_of V6 (bytes_at 16 8 p) (bytes_at 16 24 p) (take (field 2 4 p) (drop 40 p)))
 
-module _ (p : List ℕ) {n : ℕ} (judged : n ≡ outcome_number (read_of p)) (zero_n : n ≡ 0) where
+module _ (p : List ℕ) (judged : gives tt ≡ verdict (read_of p)) where
   read : Given p
-  read = given p (sym judged ∙ zero_n)
+  read = judged_given p judged
 
   has : (v : IpVersion) (src dst u : List ℕ) → read_udp v src dst u ≡ gives read.tpdu → HasProbe u
   has v src dst u e = let a = part_accepted src dst u read.tpdu v e in record { right = a.right; long = a.long }
@@ -187,6 +205,13 @@ module _ (p : List ℕ) {n : ℕ} (judged : n ≡ outcome_number (read_of p)) (z
   pub as_ipv6 : (get_or p 0 0 / 16 ≡ 4 → ⊥) → Ipv6 p
   as_ipv6 h = elim either [ inl q ↦ absurd (h q.0) | inr q ↦ q.1 ]
 
+  -- where the part lies
+  pub ipv4_within : get_or p 0 0 / 16 ≡ 4 → (20 ≤ length p) × (ihl p * 4 ≤ field 2 2 p) × (field 2 2 p ≤ length p)
+  ipv4_within h = let r = as_ipv4 h in (omega (arith, r.low, r.fits, r.within), omega (arith, r.fits), r.within)
+
+  pub ipv6_within : (get_or p 0 0 / 16 ≡ 4 → ⊥) → (40 ≤ length p) × (field 2 4 p + 40 ≤ length p)
+  ipv6_within h = let r = as_ipv6 h in (omega (arith, r.within), r.within)
+
 -- the part of an IPv4 packet, and of an IPv6 packet, as the code cuts it
 pub ipv4_part : (p : List ℕ) {n k : ℕ} → n ≡ field 2 2 p → k ≡ ihl p → take (n - k * 4) (drop (k * 4) p) ≡ take (field 2 2 p - ihl p * 4) (drop (ihl p * 4) p)
 ipv4_part p en ek = ap₂ (λ (n k : ℕ). take (n - k * 4) (drop (k * 4) p)) en ek
@@ -198,38 +223,17 @@ pub padded_whole : (l : List ℕ) (at : ℕ) → bytes_at 16 at l ≡ padded (by
 unfolding padded
 padded_whole l at = refl
 
--- the reader's answer, put together from the numbers and the lent addresses
-module _ (x : TpduNumbers) (d : Decoding) (s t : List ℕ) where
-  abbrev pub answer_of : DecodeResult
-  answer_of = record {
-    decoding = d;
-    tpdu = record {
-      flow = record { version = x.version; src = s; dst = t; src_port = x.src_port; dst_port = x.dst_port };
-      measurement = record { sequence = x.sequence; send_timestamp_ns = x.send_timestamp_ns };
-    };
-  }
+pub answers_refused : (p : List ℕ) {n : ℕ} → refused n ≡ verdict (read_of p) → refused n ≡ tpdu_numbers (read_of p)
+unfolding tpdu_numbers
+answers_refused p j = ap tpdu_numbers (judged_refused (read_of p) j)
 
-pub answered : (o : Outcome DecodedTpdu) → (o ≡ refused 0 → ⊥) → {x : TpduNumbers} {d : Decoding} {s t : List ℕ} → x ≡ tpdu_numbers o
-    → d ≡ decoding_numbered x.number → s ≡ source_left o (replicate 16 0) → t ≡ destination_left o (replicate 16 0)
-    → answer_of x d s t ≡ decode_result o
-unfolding tpdu_numbers decoding_numbered source_left destination_left decode_result
-answered o h {x} {d} {s} {t} ex ed es et =
-    let n = tpdu_numbers o in
-    ap (λ (x : TpduNumbers). answer_of x d s t) ex
-    ∙ ap (λ (d : Decoding). answer_of n d s t) (ed ∙ ap (λ (x : TpduNumbers). decoding_numbered x.number) ex)
-    ∙ ap₂ (λ (s t : List ℕ). answer_of n (decoding_numbered n.number) s t) es et ∙ go o h
-  where
-    go : (o : Outcome DecodedTpdu) → (o ≡ refused 0 → ⊥) → let n = tpdu_numbers o in
-        answer_of n (decoding_numbered n.number) (source_left o (replicate 16 0)) (destination_left o (replicate 16 0)) ≡ decode_result o
-    go (refused zero) h = absurd (h refl)
-    go (refused (suc n)) h = refl
-    go (gives t) h = refl
+-- the lent addresses, where reading refuses
+pub source_kept : (p lent : List ℕ) {n : ℕ} → refused n ≡ verdict (read_of p) → lent ≡ source_left (read_of p) lent
+unfolding source_left
+source_kept p lent j = ap (λ (o : Outcome DecodedTpdu). source_left o lent) (judged_refused (read_of p) j)
 
--- what the reader's answer means is the outcome that it answers
-pub meant : (o : Outcome DecodedTpdu) → {r : DecodeResult} → r ≡ decode_result o → decoding_means r.decoding r.tpdu ≡ o
-unfolding decode_result
-meant o e = ap (λ (r : DecodeResult). decoding_means r.decoding r.tpdu) e ∙ go o
-  where
-    go : (o : Outcome DecodedTpdu) → decoding_means (decode_result o).decoding (decode_result o).tpdu ≡ o
-    go (refused n) = refl
-    go (gives t) = refl
+pub destination_kept : (p lent : List ℕ) {n : ℕ} → refused n ≡ verdict (read_of p) → lent ≡ destination_left (read_of p) lent
+unfolding destination_left
+destination_kept p lent j = ap (λ (o : Outcome DecodedTpdu). destination_left o lent) (judged_refused (read_of p) j)
+
+pub ruleset reading = (some_bytes, ipv4_within, ipv6_within, answers_refused, source_kept, destination_kept, err_from_is_err_and)

@@ -1,35 +1,31 @@
 // Reading a measurement T-PDU (leaf 4; `decode_measurement_tpdu` of the Rust's measurement.rs). A T-PDU is judged
-// first, which gives one number; its values are read only if it is accepted. A struct handed up through several
-// functions would be copied each time. The tests stand in the order of the rows in specs/Read.antt of
-// measurement_reading. A slice is sliced again where it is passed on, as in `checksum::sum`.
+// first; its values are read only if it is accepted. A struct handed up through several functions would be copied each
+// time. The tests stand in the order of the rows in specs/Read.antt of measurement_reading. A slice is sliced again
+// where it is passed on, as in `checksum::sum`.
 #![tactic(auto)]
 
 ghost use Rattle.std.specs.Prelude.{◌≡◌, ℕ, ◌+◌, ◌*◌, ◌%◌, ◌^◌, ◌<◌, ◌≤◌, false, List, length};
-ghost use Rattle.error.specs.Outcome.{refused, gives, outcome_number};
+ghost use Rattle.error.specs.Answer.{answered};
 ghost use Rattle.field.specs.Field.{bytes_at, field};
 ghost use Rattle.checksum.specs.Sum.{sum_of, fold_of};
-ghost use Rattle.measurement.specs.Flow.{padded};
-ghost use Rattle.measurement.specs.Answer.{decoding_means, decode_result};
+ghost use Rattle.measurement.specs.Flow.{address_length, address, padded};
 ghost use Rattle.measurement.specs.declared.IpVersion.{IpVersion};
-ghost use Rattle.measurement.specs.declared.IpVersion.TheVariants.{V4, V6};
 ghost use Rattle.measurement_reading.specs.Read.{length_wrong, sum_wrong, tpdu_of, read_probe, read_udp};
 ghost use Rattle.measurement_reading.specs.Read.{is_fragment, read_ipv4, read_ipv6, read_of};
 ghost use Rattle.measurement_decode.specs.Part.{Part, Addresses, HasProbe};
-ghost use Rattle.measurement_decode.specs.Numbers.{decoding_numbered, tpdu_numbers, source_left, destination_left};
+ghost use Rattle.measurement_decode.specs.Numbers.{verdict, values_of, tpdu_numbers, source_left, destination_left};
 
-use measurement::{
-    DecodeResult, DecodedTpdu, Decoding, InnerIpFlow, IpVersion, MeasurementHeader, layout,
-};
+use error::Refusal;
+use measurement::{DecodedTpdu, InnerIpFlow, IpVersion, MeasurementHeader, layout};
 
 // The least IPv6 packet that is read: both headers.
 const IPV6_UDP_BYTES: usize = layout::IPV6_HEADER_BYTES + layout::UDP_HEADER_BYTES;
 
-// What reading answers: 0 and the values, or a refusal's number and zeros beside version 4. No two neighbouring fields
-// have the same width: such a pair would be copied by one wide load, which waits for both stores.
+// What reading gives beside the addresses. No two neighbouring fields have the same width: such a pair would be copied
+// by one wide load, which waits for both stores.
 #[derive(Clone, Copy)]
 pub struct TpduNumbers {
     pub sequence: u64,
-    pub number: u8,
     pub src_port: u16,
     pub send_timestamp_ns: u64,
     pub version: IpVersion,
@@ -66,31 +62,27 @@ fn length_wrong(udp: &[u8]) -> bool
     ensures { result ≡ length_wrong udp.now }
 {
     let n = read_u16(&udp[..], layout::UDP_LENGTH) as usize;
-    if n < layout::UDP_HEADER_BYTES {
-        return true;
+    n < layout::UDP_HEADER_BYTES || udp.len() < n
+}
+
+// A number that, added to any sum, folds to the same as the words of the address. Four bytes are added at once. The sum
+// in `measurement` is of an array: over slices it would be a public function with a `requires`.
+#[tactic(auto, using(crate::proofs::Laws::four_at_least, crate::proofs::Laws::sixteen))]
+fn address_sum(version: IpVersion, bytes: &[u8]) -> u64
+    requires { address_length version ≤ length bytes.now }
+    ensures { ((n : ℕ) → fold_of (n + result) ≡ fold_of (n + sum_of (address version bytes.now)))
+        × (result < 2 ^ 34) }
+{
+    let front = field::double_word(bytes[0], bytes[1], bytes[2], bytes[3]) as u64;
+    match version {
+        IpVersion::V4 => front,
+        IpVersion::V6 => {
+            front
+                + (field::double_word(bytes[4], bytes[5], bytes[6], bytes[7]) as u64)
+                + (field::double_word(bytes[8], bytes[9], bytes[10], bytes[11]) as u64)
+                + (field::double_word(bytes[12], bytes[13], bytes[14], bytes[15]) as u64)
+        }
     }
-    udp.len() < n
-}
-
-// A number that, added to any sum, folds to the same as the words of an IPv4 address. Four bytes are added at once.
-fn ipv4_address_sum(address: &[u8]) -> u64
-    requires { 4 ≤ length address.now }
-    ensures { ((n : ℕ) → fold_of (n + result) ≡ fold_of (n + sum_of (bytes_at 4 0 address.now)))
-        × (result < 2 ^ 34) }
-{
-    field::double_word(address[0], address[1], address[2], address[3]) as u64
-}
-
-// The same for an IPv6 address.
-fn ipv6_address_sum(address: &[u8]) -> u64
-    requires { 16 ≤ length address.now }
-    ensures { ((n : ℕ) → fold_of (n + result) ≡ fold_of (n + sum_of (bytes_at 16 0 address.now)))
-        × (result < 2 ^ 34) }
-{
-    (field::double_word(address[0], address[1], address[2], address[3]) as u64)
-        + (field::double_word(address[4], address[5], address[6], address[7]) as u64)
-        + (field::double_word(address[8], address[9], address[10], address[11]) as u64)
-        + (field::double_word(address[12], address[13], address[14], address[15]) as u64)
 }
 
 // Whether the sum over the pseudo-header and the segment is wrong, for a part whose UDP length is right. `addresses`
@@ -106,47 +98,50 @@ fn sum_wrong(addresses: u64, udp: &[u8]) -> bool
 }
 
 // 13 and 14, for a part whose UDP length is right.
-fn judge_probe(udp: &[u8]) -> u8
+#[tactic(auto, using(crate::proofs::Laws::judging, measurement_reading::proofs::Rows::length_right))]
+fn judge_probe(udp: &[u8]) -> Result<(), Refusal>
     requires { Part udp.now × (length_wrong udp.now ≡ false) }
     ensures { (v : IpVersion) (src dst : List ℕ)
-        → result ≡ outcome_number (read_probe v src dst udp.now) }
+        → answered result ≡ verdict (read_probe v src dst udp.now) }
 {
     let end = read_u16(&udp[..], layout::UDP_LENGTH) as usize;
     let payload = &udp[layout::UDP_HEADER_BYTES..end];
     if payload.len() < layout::PROBE_BYTES {
-        return error::TRUNCATED_MEASUREMENT_HEADER;
+        return Err(Refusal::TruncatedMeasurementHeader);
     }
     if read_u64(payload, layout::PROBE_TAG) != measurement::MEASUREMENT_MAGIC {
-        return error::MEASUREMENT_MAGIC_MISMATCH;
+        return Err(Refusal::MeasurementMagicMismatch);
     }
-    0
+    Ok(())
 }
 
 // A part without a checksum, whose UDP length is right: in IPv6 there has to be one.
-fn judge_unsummed(version: IpVersion, udp: &[u8]) -> u8
+#[tactic(auto, using(crate::proofs::Laws::judging))]
+fn judge_unsummed(version: IpVersion, udp: &[u8]) -> Result<(), Refusal>
     requires { Part udp.now × (length_wrong udp.now ≡ false) × (field 2 6 udp.now ≡ 0) }
-    ensures { (src dst : List ℕ) → result ≡ outcome_number (read_udp version src dst udp.now) }
+    ensures { (src dst : List ℕ) → answered result ≡ verdict (read_udp version src dst udp.now) }
 {
     match version {
         IpVersion::V4 => judge_probe(&udp[..]),
-        IpVersion::V6 => error::IPV6_UDP_CHECKSUM_IS_ZERO,
+        IpVersion::V6 => Err(Refusal::Ipv6UdpChecksumIsZero),
     }
 }
 
 // The part that stands behind the IP header, of either version.
-fn judge_udp(version: IpVersion, addresses: u64, udp: &[u8]) -> u8
+#[tactic(auto, using(crate::proofs::Laws::judging))]
+fn judge_udp(version: IpVersion, addresses: u64, udp: &[u8]) -> Result<(), Refusal>
     requires { (addresses < 2 ^ 35) × Part udp.now }
-    ensures { (src dst : List ℕ) → Addresses version src dst addresses → result
-        ≡ outcome_number (read_udp version src dst udp.now) }
+    ensures { (src dst : List ℕ) → Addresses version src dst addresses → answered result
+        ≡ verdict (read_udp version src dst udp.now) }
 {
     if length_wrong(&udp[..]) {
-        return error::INVALID_UDP_LENGTH;
+        return Err(Refusal::InvalidUdpLength);
     }
     if read_u16(&udp[..], layout::UDP_CHECKSUM) == 0 {
         return judge_unsummed(version, &udp[..]);
     }
     if sum_wrong(addresses, &udp[..]) {
-        return error::INVALID_UDP_CHECKSUM;
+        return Err(Refusal::InvalidUdpChecksum);
     }
     judge_probe(&udp[..])
 }
@@ -168,62 +163,66 @@ fn is_fragment(tpdu: &[u8]) -> bool
 }
 
 // IPv4: options are stepped over, and what lies past the total length is ignored.
-fn judge_ipv4(tpdu: &[u8]) -> u8
-    ensures { result ≡ outcome_number (read_ipv4 tpdu.now) }
+#[tactic(auto, unfolding(measurement::specs::Flow::address_length, measurement_reading::specs::Read::ihl), using(crate::proofs::Laws::judging))]
+fn judge_ipv4(tpdu: &[u8]) -> Result<(), Refusal>
+    ensures { answered result ≡ verdict (read_ipv4 tpdu.now) }
 {
     if tpdu.len() < layout::IPV4_HEADER_BYTES {
-        return error::TRUNCATED_IPV4_HEADER;
+        return Err(Refusal::TruncatedIpv4Header);
     }
     let ihl = low_half(tpdu[layout::IPV4_IHL]);
     if ihl < 5 {
-        return error::INVALID_IPV4_IHL;
+        return Err(Refusal::InvalidIpv4Ihl);
     }
     let start = ihl * 4;
     if tpdu.len() < start + layout::UDP_HEADER_BYTES {
-        return error::TRUNCATED_IPV4_UDP_PACKET;
+        return Err(Refusal::TruncatedIpv4UdpPacket);
     }
     let end = read_u16(&tpdu[..], layout::IPV4_TOTAL_LENGTH) as usize;
-    if end < start + layout::UDP_HEADER_BYTES {
-        return error::INVALID_IPV4_TOTAL_LENGTH;
-    }
-    if tpdu.len() < end {
-        return error::INVALID_IPV4_TOTAL_LENGTH;
+    if end < start + layout::UDP_HEADER_BYTES || tpdu.len() < end {
+        return Err(Refusal::InvalidIpv4TotalLength);
     }
     if tpdu[layout::IPV4_PROTOCOL] != measurement::UDP_PROTOCOL {
-        return error::PAYLOAD_IS_NOT_UDP;
+        return Err(Refusal::PayloadIsNotUdp);
     }
     if checksum::checksum(&tpdu[..start]) != 0 {
-        return error::INVALID_IPV4_HEADER_CHECKSUM;
+        return Err(Refusal::InvalidIpv4HeaderChecksum);
     }
     if is_fragment(&tpdu[..]) {
-        return error::IPV4_FRAGMENT;
+        return Err(Refusal::Ipv4Fragment);
     }
-    let addresses = ipv4_address_sum(
+    let addresses = address_sum(
+        IpVersion::V4,
         &tpdu[layout::IPV4_SOURCE_ADDRESS..layout::IPV4_DESTINATION_ADDRESS],
-    ) + ipv4_address_sum(&tpdu[layout::IPV4_DESTINATION_ADDRESS..layout::IPV4_HEADER_BYTES]);
+    ) + address_sum(
+        IpVersion::V4,
+        &tpdu[layout::IPV4_DESTINATION_ADDRESS..layout::IPV4_HEADER_BYTES],
+    );
     judge_udp(IpVersion::V4, addresses, &tpdu[start..end])
 }
 
-fn judge_ipv6(tpdu: &[u8]) -> u8
-    ensures { result ≡ outcome_number (read_ipv6 tpdu.now) }
+#[tactic(auto, unfolding(measurement::specs::Flow::address_length), using(crate::proofs::Laws::judging))]
+fn judge_ipv6(tpdu: &[u8]) -> Result<(), Refusal>
+    ensures { answered result ≡ verdict (read_ipv6 tpdu.now) }
 {
     if tpdu.len() < IPV6_UDP_BYTES {
-        return error::TRUNCATED_IPV6_UDP_PACKET;
+        return Err(Refusal::TruncatedIpv6UdpPacket);
     }
     if tpdu[layout::IPV6_NEXT_HEADER] != measurement::UDP_PROTOCOL {
-        return error::PAYLOAD_IS_NOT_UDP;
+        return Err(Refusal::PayloadIsNotUdp);
     }
     let length = read_u16(&tpdu[..], layout::IPV6_PAYLOAD_LENGTH) as usize;
-    if length < layout::UDP_HEADER_BYTES {
-        return error::INVALID_IPV6_PAYLOAD_LENGTH;
-    }
     let end = length + layout::IPV6_HEADER_BYTES;
-    if tpdu.len() < end {
-        return error::INVALID_IPV6_PAYLOAD_LENGTH;
+    if length < layout::UDP_HEADER_BYTES || tpdu.len() < end {
+        return Err(Refusal::InvalidIpv6PayloadLength);
     }
-    let addresses = ipv6_address_sum(
+    let addresses = address_sum(
+        IpVersion::V6,
         &tpdu[layout::IPV6_SOURCE_ADDRESS..layout::IPV6_DESTINATION_ADDRESS],
-    ) + ipv6_address_sum(&tpdu[layout::IPV6_DESTINATION_ADDRESS..layout::IPV6_HEADER_BYTES]);
+    ) + address_sum(
+        IpVersion::V6,
+        &tpdu[layout::IPV6_DESTINATION_ADDRESS..layout::IPV6_HEADER_BYTES],
+    );
     judge_udp(
         IpVersion::V6,
         addresses,
@@ -231,132 +230,94 @@ fn judge_ipv6(tpdu: &[u8]) -> u8
     )
 }
 
-// The number of the first cause of refusal, or 0.
-fn judge(tpdu: &[u8]) -> u8
-    ensures { result ≡ outcome_number (read_of tpdu.now) }
+// The first cause of refusal, if there is one.
+#[tactic(auto, using(crate::proofs::Laws::judging))]
+fn judge(tpdu: &[u8]) -> Result<(), Refusal>
+    ensures { answered result ≡ verdict (read_of tpdu.now) }
 {
-    if tpdu.len() == 0 {
-        return error::TRUNCATED_IP_HEADER;
+    if tpdu.is_empty() {
+        return Err(Refusal::TruncatedIpHeader);
     }
     match tpdu[layout::IP_VERSION] >> 4 {
         4 => judge_ipv4(&tpdu[..]),
         6 => judge_ipv6(&tpdu[..]),
-        _ => error::UNSUPPORTED_IP_VERSION,
+        _ => Err(Refusal::UnsupportedIpVersion),
     }
 }
 
-// The IPv4 address at a place, in the 16 bytes of a flow: the rest is 0.
-fn ipv4_address(tpdu: &[u8], at: usize) -> [u8; 16]
-    requires { (at < 256) × (at + 4 ≤ length tpdu.now) }
-    ensures { result ≡ padded (bytes_at 4 at tpdu.now) }
+// The address of this width at a place, in the 16 bytes of a flow: the rest is 0.
+fn padded_address(tpdu: &[u8], at: usize, width: usize) -> [u8; 16]
+    requires { (width ≤ 16) × (at < 256) × (at + width ≤ length tpdu.now) }
+    ensures { result ≡ padded (bytes_at width at tpdu.now) }
 {
     let mut address = [0; 16];
-    address[0] = tpdu[at];
-    address[1] = tpdu[at + 1];
-    address[2] = tpdu[at + 2];
-    address[3] = tpdu[at + 3];
-    address
-}
-
-// The IPv6 address at a place.
-fn ipv6_address(tpdu: &[u8], at: usize) -> [u8; 16]
-    requires { (at < 256) × (at + 16 ≤ length tpdu.now) }
-    ensures { result ≡ bytes_at 16 at tpdu.now }
-{
-    let mut address = [0; 16];
-    let end = at + 16;
-    address.copy_from_slice(&tpdu[at..end]);
+    let end = at + width;
+    address[..width].copy_from_slice(&tpdu[at..end]);
     address
 }
 
 // The values of a part that was accepted.
+#[tactic(auto, using(measurement_reading::proofs::Rows::length_right, crate::proofs::Laws::payload_long))]
 fn values(version: IpVersion, udp: &[u8]) -> TpduNumbers
     requires { HasProbe udp.now }
-    ensures { (src dst : List ℕ) → result ≡ tpdu_numbers (gives (tpdu_of version src dst udp.now)) }
+    ensures { (src dst : List ℕ) → result ≡ values_of (tpdu_of version src dst udp.now) }
 {
     let end = read_u16(&udp[..], layout::UDP_LENGTH) as usize;
     let payload = &udp[layout::UDP_HEADER_BYTES..end];
     TpduNumbers {
         sequence: read_u64(payload, layout::PROBE_SEQUENCE),
-        number: 0,
         src_port: read_u16(&udp[..], layout::UDP_SOURCE_PORT),
         send_timestamp_ns: read_u64(payload, layout::PROBE_SEND_TIME),
-        version: version,
+        version,
         dst_port: read_u16(&udp[..], layout::UDP_DESTINATION_PORT),
     }
 }
 
-// A refusal in numbers.
-fn no_values(number: u8) -> TpduNumbers
-    ensures { result ≡ tpdu_numbers (refused number) }
-{
-    TpduNumbers {
-        sequence: 0,
-        number: number,
-        src_port: 0,
-        send_timestamp_ns: 0,
-        version: IpVersion::V4,
-        dst_port: 0,
-    }
-}
-
 // Reads a T-PDU: its addresses into lent arrays, which a refusal leaves as they were, and the rest in numbers.
-pub fn decode_into(tpdu: &[u8], src: &mut [u8; 16], dst: &mut [u8; 16]) -> TpduNumbers
-    ensures answer { result ≡ tpdu_numbers (read_of tpdu.now) }
+#[tactic(auto, unfolding(measurement_reading::specs::Read::ihl), using(crate::proofs::Laws::reading))]
+pub fn decode_into(
+    tpdu: &[u8],
+    src: &mut [u8; 16],
+    dst: &mut [u8; 16],
+) -> Result<TpduNumbers, Refusal>
+    ensures answer { answered result ≡ tpdu_numbers (read_of tpdu.now) }
     ensures source { src.new ≡ source_left (read_of tpdu.now) src.old }
     ensures destination { dst.new ≡ destination_left (read_of tpdu.now) dst.old }
 {
-    let number = judge(&tpdu[..]);
-    if number != 0 {
-        return no_values(number);
-    }
+    judge(&tpdu[..])?;
     if tpdu[layout::IP_VERSION] >> 4 == 4 {
-        *src = ipv4_address(&tpdu[..], layout::IPV4_SOURCE_ADDRESS);
-        *dst = ipv4_address(&tpdu[..], layout::IPV4_DESTINATION_ADDRESS);
+        *src = padded_address(&tpdu[..], layout::IPV4_SOURCE_ADDRESS, 4);
+        *dst = padded_address(&tpdu[..], layout::IPV4_DESTINATION_ADDRESS, 4);
         let start = low_half(tpdu[layout::IPV4_IHL]) * 4;
         let end = read_u16(&tpdu[..], layout::IPV4_TOTAL_LENGTH) as usize;
-        return values(IpVersion::V4, &tpdu[start..end]);
+        return Ok(values(IpVersion::V4, &tpdu[start..end]));
     }
-    *src = ipv6_address(&tpdu[..], layout::IPV6_SOURCE_ADDRESS);
-    *dst = ipv6_address(&tpdu[..], layout::IPV6_DESTINATION_ADDRESS);
+    *src = padded_address(&tpdu[..], layout::IPV6_SOURCE_ADDRESS, 16);
+    *dst = padded_address(&tpdu[..], layout::IPV6_DESTINATION_ADDRESS, 16);
     let end = (read_u16(&tpdu[..], layout::IPV6_PAYLOAD_LENGTH) as usize)
         + layout::IPV6_HEADER_BYTES;
-    values(IpVersion::V6, &tpdu[layout::IPV6_HEADER_BYTES..end])
-}
-
-// Whether a T-PDU was read, from the number that reading gave.
-fn decoding_of(number: u8) -> Decoding
-    ensures { result ≡ decoding_numbered number }
-{
-    if number == 0 {
-        return Decoding::Accepted;
-    }
-    Decoding::Refused(number)
+    Ok(values(IpVersion::V6, &tpdu[layout::IPV6_HEADER_BYTES..end]))
 }
 
 // Reads a T-PDU: its flow, sequence and send time, or the first cause of refusal.
-pub fn decode_measurement_tpdu(tpdu: &[u8]) -> DecodeResult
-    ensures means { decoding_means result.decoding result.tpdu ≡ read_of tpdu.now }
-    ensures beside { result ≡ decode_result (read_of tpdu.now) }
+#[tactic(auto, using(crate::proofs::Callers::answering))]
+pub fn decode_measurement_tpdu(tpdu: &[u8]) -> Result<DecodedTpdu, Refusal>
+    ensures { answered result ≡ read_of tpdu.now }
 {
     let mut src = [0; 16];
     let mut dst = [0; 16];
-    let read = decode_into(tpdu, &mut src, &mut dst);
-    let version = read.version;
-    DecodeResult {
-        decoding: decoding_of(read.number),
-        tpdu: DecodedTpdu {
-            flow: InnerIpFlow {
-                version: version,
-                src: src,
-                dst: dst,
-                src_port: read.src_port,
-                dst_port: read.dst_port,
-            },
-            measurement: MeasurementHeader {
-                sequence: read.sequence,
-                send_timestamp_ns: read.send_timestamp_ns,
-            },
+    let read = decode_into(tpdu, &mut src, &mut dst)?;
+    Ok(DecodedTpdu {
+        flow: InnerIpFlow {
+            version: read.version,
+            src,
+            dst,
+            src_port: read.src_port,
+            dst_port: read.dst_port,
         },
-    }
+        measurement: MeasurementHeader {
+            sequence: read.sequence,
+            send_timestamp_ns: read.send_timestamp_ns,
+        },
+    })
 }

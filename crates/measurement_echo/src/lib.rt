@@ -9,25 +9,22 @@ ghost use Rattle.measurement_packet.specs.Packet.{build_of};
 ghost use Rattle.measurement_damage.specs.Echo.{echo_of};
 ghost use Rattle.measurement_echo.specs.Block.{InBlock};
 
-use measurement::{InnerIpFlow, IpVersion, Written};
+use error::Refusal;
+use measurement::{InnerIpFlow, IpVersion};
 
-// Copies a T-PDU out of the block that it was built in: where it does not fit, the output is untouched.
-fn copy_out(built: Written, block: &[u8], out: &mut [u8]) -> Written
-    requires { InBlock built block.now }
+// Copies a T-PDU of this many bytes out of the block that it was built in: where it does not fit, the output is
+// untouched.
+fn copy_out(count: usize, block: &[u8], out: &mut [u8]) -> Result<usize, Refusal>
+    requires { InBlock count block.now }
     ensures { (flow : InnerIpFlow) (sequence time : ℕ)
-        → wrote built block.now ≡ writing (build_of flow sequence time) (replicate 72 0)
+        → wrote (Ok count) block.now ≡ writing (build_of flow sequence time) (replicate 72 0)
         → wrote result out.new ≡ writing (build_of flow sequence time) out.old }
 {
-    match built {
-        Written::Refused(number) => Written::Refused(number),
-        Written::Bytes(n) => {
-            if out.len() < n {
-                return Written::Refused(error::OUTPUT_TOO_SHORT);
-            }
-            out[..n].copy_from_slice(&block[..n]);
-            Written::Bytes(n)
-        }
+    if out.len() < count {
+        return Err(Refusal::OutputTooShort);
     }
+    out[..count].copy_from_slice(&block[..count]);
+    Ok(count)
 }
 
 // A T-PDU made in a block of 72 zero bytes, whose bytes are then copied out.
@@ -36,18 +33,18 @@ fn write_from_block(
     sequence: u64,
     send_timestamp_ns: u64,
     out: &mut [u8],
-) -> Written
+) -> Result<usize, Refusal>
     ensures { wrote result out.new
         ≡ writing (build_of flow sequence send_timestamp_ns) out.old }
 {
     let mut block = [0; 72];
-    let built = measurement_build::build_measurement_tpdu(
+    let count = measurement_build::build_measurement_tpdu(
         flow,
         sequence,
         send_timestamp_ns,
         &mut block,
-    );
-    copy_out(built, &block, out)
+    )?;
+    copy_out(count, &block, out)
 }
 
 // `write_from_block` for IPv4, from parts. Only the four bytes of the address are read from each array, in the width in
@@ -61,14 +58,14 @@ fn write_ipv4_from_block(
     sequence: u64,
     send_timestamp_ns: u64,
     out: &mut [u8],
-) -> Written
+) -> Result<usize, Refusal>
     ensures { wrote result out.new
         ≡ writing (build_of
         (record { version = V4; src = src; dst = dst; src_port = src_port; dst_port = dst_port })
         sequence send_timestamp_ns) out.old }
 {
     let mut block = [0; 72];
-    let built = measurement_build::build_ipv4_tpdu(
+    let count = measurement_build::build_ipv4_tpdu(
         src,
         dst,
         src_port,
@@ -76,22 +73,18 @@ fn write_ipv4_from_block(
         sequence,
         send_timestamp_ns,
         &mut block,
-    );
-    copy_out(built, &block, out)
+    )?;
+    copy_out(count, &block, out)
 }
 
 // Reads a T-PDU and writes its echo to the front of `out`: source and destination exchanged, sequence and time kept.
-pub fn echo_tpdu(tpdu: &[u8], out: &mut [u8]) -> Written
+pub fn echo_tpdu(tpdu: &[u8], out: &mut [u8]) -> Result<usize, Refusal>
     ensures { wrote result out.new ≡ writing_of (echo_of tpdu.now) out.old }
 {
     let mut src = [0; 16];
     let mut dst = [0; 16];
-    let read = measurement_decode::decode_into(tpdu, &mut src, &mut dst);
-    if read.number != 0 {
-        return Written::Refused(read.number);
-    }
-    let version = read.version;
-    match version {
+    let read = measurement_decode::decode_into(tpdu, &mut src, &mut dst)?;
+    match read.version {
         IpVersion::V4 => write_ipv4_from_block(
             dst,
             src,
@@ -103,7 +96,7 @@ pub fn echo_tpdu(tpdu: &[u8], out: &mut [u8]) -> Written
         ),
         IpVersion::V6 => {
             let reversed = InnerIpFlow {
-                version: version,
+                version: IpVersion::V6,
                 src: dst,
                 dst: src,
                 src_port: read.dst_port,

@@ -1,36 +1,11 @@
 -- `measurement_decode::values` meets its contract.
 use native.Mathlib.Omega.{arith}
 use Rattle.measurement_reading.proofs.Rows.{length_right}
-use Rattle.measurement_decode.proofs.Laws.{payload_long, values_are}
+use Rattle.measurement_decode.proofs.Laws.{values_are}
 use Rattle.measurement_decode.proofs.values.Goals as goal
 
 pub read_u16-end-requires : goal.read_u16-end-requires
 read_u16-end-requires c = (omega arith, omega (arith, length_right c.args.udp.now c.requires.right))
-
-pub slice_bounds-payload-count : goal.slice_bounds-payload-count
-slice_bounds-payload-count c = omega (arith, length_right c.args.udp.now c.requires.right)
-
-pub slice_bounds-payload-start : goal.slice_bounds-payload-start
-slice_bounds-payload-start c = omega (arith, length_right c.args.udp.now c.requires.right)
-
-pub slice_bounds-payload-end : goal.slice_bounds-payload-end
-slice_bounds-payload-end c = omega (arith, length_right c.args.udp.now c.requires.right)
-
-pub read_u64-requires : goal.read_u64-requires
-read_u64-requires c =
-    (omega arith, omega (arith, payload_long c.args.udp.now c.read_u16-end.ensures c.requires))
-
-pub read_u16-requires : goal.read_u16-requires
-read_u16-requires c =
-    (omega arith, omega (arith, length_right c.args.udp.now c.requires.right))
-
-pub read_u64-requires-2 : goal.read_u64-requires-2
-read_u64-requires-2 c =
-    (omega arith, omega (arith, payload_long c.args.udp.now c.read_u16-end.ensures c.requires))
-
-pub read_u16-requires-2 : goal.read_u16-requires-2
-read_u16-requires-2 c =
-    (omega arith, omega (arith, length_right c.args.udp.now c.requires.right))
 
 pub returns : goal.returns
 returns c =
