@@ -9,23 +9,23 @@ use native.Mathlib.Omega.{arith}
 use lib.Dec.{eqb, ltb}
 use lib.ListN.{length, get_or, take, drop, set, length-set}
 use borrow.Author.Tests.{eqb-true, eqb-false, ltb-true, ltb-false}
-use Rattle.error.specs.Outcome.{gives}
+use Rattle.error.specs.Outcome.{Outcome, gives}
 use Rattle.columns.specs.Columns.{any_marked}
 use Rattle.columns.specs.Place.{place, holds, found}
 use Rattle.columns.proofs.Search.{both_right, found_place}
 use Rattle.rows.specs.Columns.{Columns, column_lengths, capacity_of, Left}
 use Rattle.rows.specs.Arriving.{returned_at, arriving}
 use Rattle.rows.specs.declared.Arrival.{Arrival}
-use Rattle.rows.proofs.Within.{held_used}
+use Rattle.rows.specs.Search.{RowOf}
+use Rattle.rows.proofs.Within.{held_used, row_of as row_at_place}
 use Rattle.rows.proofs.Ways.{arrives_unknown, arrives_early, arrives_again, arrives_late, arrives_in_order}
 use Rattle.observer.specs.Counts.{with_used, out_of_order_if}
 use Rattle.observer.specs.Observer.{Row, Observer, capacity, rows, row_at, with_rows, with_counts, sequences_of}
 use Rattle.observer.specs.Judge.{well_formed, Step, step}
 use Rattle.observer.specs.Place.{was_sent, row_of, highest_marked, marked_above}
 use Rattle.observer.specs.Returning.{returned, record_return}
-use Rattle.observer.specs.Answer.{observer_of, after_arrival, recorded}
+use Rattle.observer.specs.Answer.{observer_of, taken, after_arrival, recorded}
 use Rattle.observer.specs.declared.ObserverCounts.{ObserverCounts}
-use Rattle.observer.specs.declared.Recorded.{Recorded}
 use Rattle.observer.proofs.Rows.{entry_is, column_set, column_same}
 use Rattle.observer.proofs.Judging.{Well, well, place_is, held_is}
 use Rattle.observer.proofs.OutOfOrder.{below_highest, above_behind}
@@ -56,8 +56,8 @@ used_kept true c = refl
 used_kept false c = refl
 
 -- what an arrival is answered by, and the columns as it leaves them
-abbrev pub arrival_step : ObserverCounts → Left Arrival → Step
-arrival_step c a = recorded (after_arrival c a.answer) a.columns
+abbrev pub arrival_step : ObserverCounts → Left (Outcome Arrival) → Step
+arrival_step c a = recorded (taken a.answer) (after_arrival c a.answer) a.columns
 
 module _ {o : Observer} (w : Well o) (q t : ℕ) where
   abbrev n : ℕ
@@ -76,10 +76,13 @@ module _ {o : Observer} (w : Well o) (q t : ℕ) where
 
   unknown : holds q k (take n o.columns.sequences) ≡ false → arrival_step o.counts (arriving n t q o.columns) ≡ record_return o t q
   unknown e =
-      ap (arrival_step o.counts) (sym (arrives_unknown n t q o.columns fits k refl e))
+      ap (arrival_step o.counts) (sym (arrives_unknown n t q refl fits k (record { at = refl; not_held = e })))
       ∙ return_unknown o w.accepted q t (held_is w q k at ∙ e)
 
   module _ (h : holds q k (take n o.columns.sequences) ≡ true) where
+    held : RowOf q n o.columns k
+    held = row_at_place q k n o.columns fits refl h
+
     below : k < n
     below = held_used q k n o.columns.sequences h
 
@@ -115,13 +118,13 @@ module _ {o : Observer} (w : Well o) (q t : ℕ) where
 
     early : t < get_or o.columns.send_timestamps k 0 → arrival_step o.counts (arriving n t q o.columns) ≡ record_return o t q
     early g =
-        ap (arrival_step o.counts) (sym (arrives_early n t q o.columns fits k refl h g))
+        ap (arrival_step o.counts) (sym (arrives_early n t q refl fits k held g))
         ∙ return_early o w.accepted q t known (omega (arith, sent_is))
 
     module _ (g : get_or o.columns.send_timestamps k 0 ≤ t) where
       duplicate : eqb (get_or o.columns.marks k 0) 1 ≡ true → arrival_step o.counts (arriving n t q o.columns) ≡ record_return o t q
       duplicate m =
-          ap (arrival_step o.counts) (sym (arrives_again n t q o.columns fits k refl h g m))
+          ap (arrival_step o.counts) (sym (arrives_again n t q refl fits k held g (eqb-true _ 1 m)))
           ∙ return_duplicate o w.accepted q t known (omega (arith, sent_is)) (mark_is ∙ eqb-true _ 1 m)
 
       -- the row as it then is, and the counts by whether some row behind it is marked
@@ -137,8 +140,8 @@ module _ {o : Observer} (w : Well o) (q t : ℕ) where
 
       first_is : eqb (get_or o.columns.marks k 0) 1 ≡ false → (late : Bool) → any_marked (drop (k + 1) (take n o.columns.marks)) ≡ late
           → arrival_step o.counts (arriving n t q o.columns) ≡ record_return o t q
-      first_is m true l = ap (arrival_step o.counts) (sym (arrives_late n t q o.columns fits k refl h g m l)) ∙ first m true l
-      first_is m false l = ap (arrival_step o.counts) (sym (arrives_in_order n t q o.columns fits k refl h g m l)) ∙ first m false l
+      first_is m true l = ap (arrival_step o.counts) (sym (arrives_late n t q refl fits k held g (eqb-false _ 1 m) l)) ∙ first m true l
+      first_is m false l = ap (arrival_step o.counts) (sym (arrives_in_order n t q refl fits k held g (eqb-false _ 1 m) l)) ∙ first m false l
 
   pub arrival_is_return : arrival_step o.counts (arriving n t q o.columns) ≡ record_return o t q
   arrival_is_return = go (holds q k (take n o.columns.sequences)) (ltb t (get_or o.columns.send_timestamps k 0)) (eqb (get_or o.columns.marks k 0) 1) refl refl refl
@@ -150,8 +153,7 @@ module _ {o : Observer} (w : Well o) (q t : ℕ) where
       go true false true e f m = duplicate e (ltb-false _ _ f) m
       go true false false e f m = first_is e (ltb-false _ _ f) m _ refl
 
--- the code's call, and its answer
-pub return_is : (o : Observer) (t q : ℕ) (a : Arrival) (r : Recorded) (c : Columns) → well_formed o ≡ true
-    → record { answer = a; columns = c } ≡ arriving o.counts.used t q o.columns → r ≡ after_arrival o.counts a → recorded r c ≡ record_return o t q
-return_is o t q a r c w x y =
-    ap (λ (z : Recorded). recorded z c) y ∙ ap (arrival_step o.counts) x ∙ arrival_is_return (well o w) q t
+-- the code's call: what it was answered, and the columns as it left them
+pub return_is : (o : Observer) (t q : ℕ) (a : Outcome Arrival) (c : Columns) → well_formed o ≡ true
+    → record { answer = a; columns = c } ≡ arriving o.counts.used t q o.columns → recorded (taken a) (after_arrival o.counts a) c ≡ record_return o t q
+return_is o t q a c w x = ap (arrival_step o.counts) x ∙ arrival_is_return (well o w) q t

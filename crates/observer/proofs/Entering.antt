@@ -8,21 +8,19 @@ use native.Mathlib.Omega.{arith}
 use lib.Dec.{eqb}
 use lib.ListN.{take, set, length-set}
 use borrow.Author.Tests.{eqb-true, eqb-false}
-use Rattle.error.specs.Outcome.{gives}
+use Rattle.error.specs.Outcome.{Outcome, gives}
 use Rattle.columns.specs.Place.{place, holds, found}
 use Rattle.columns.proofs.Search.{found_place}
 use Rattle.rows.specs.Columns.{Columns, column_lengths, capacity_of, Left}
 use Rattle.rows.specs.Entering.{sent_again, sent_new, entering}
-use Rattle.rows.specs.declared.Entry.{Entry}
-use Rattle.rows.proofs.Within.{Within, held_used}
+use Rattle.rows.proofs.Within.{Within, held_used, row_of}
 use Rattle.rows.proofs.Ways.{enters_again, enters_full, enters_new}
 use Rattle.observer.specs.Counts.{with_used}
 use Rattle.observer.specs.Observer.{Row, Observer, capacity, rows, row_at, sent_row, with_rows}
 use Rattle.observer.specs.Judge.{well_formed, Step, step}
 use Rattle.observer.specs.Sending.{resent, record_sent}
-use Rattle.observer.specs.Answer.{observer_of, after_entry, recorded}
+use Rattle.observer.specs.Answer.{observer_of, taken, after_entry, recorded}
 use Rattle.observer.specs.declared.ObserverCounts.{ObserverCounts}
-use Rattle.observer.specs.declared.Recorded.{Recorded}
 use Rattle.observer.proofs.Rows.{room_for, put_in, length_put, column_set, column_same, column_put}
 use Rattle.observer.proofs.Judging.{Well, well, place_is, held_is, place_used}
 use Rattle.observer.proofs.Calls.{sent_again_lem, sent_full, sent_new_lem}
@@ -63,8 +61,8 @@ module _ {o : Observer} (w : Well o) (k : ℕ) where
       }) (with_used ((length_put k r (rows o) ∙ ap suc f.count ∙ sym (add-one o.counts.used)) i) o.counts)
 
 -- what an entry is answered by, and the columns as it leaves them
-abbrev pub entry_step : ObserverCounts → Left Entry → Step
-entry_step c e = recorded (after_entry c e.answer) e.columns
+abbrev pub entry_step : ObserverCounts → Left (Outcome ℕ) → Step
+entry_step c e = recorded (taken e.answer) (after_entry c e.answer) e.columns
 
 module _ {o : Observer} (w : Well o) (q t : ℕ) where
   abbrev n : ℕ
@@ -87,7 +85,7 @@ module _ {o : Observer} (w : Well o) (q t : ℕ) where
 
   again : holds q k (take n o.columns.sequences) ≡ true → entry_step o.counts (entering n q t o.columns) ≡ record_sent o q t
   again e =
-      ap (entry_step o.counts) (sym (enters_again n q t o.columns fits k refl e))
+      ap (entry_step o.counts) (sym (enters_again n q t refl fits k (row_of q k n o.columns fits refl e)))
       ∙ ap (λ (x : Observer). step o (gives x))
       (sym (resent_columns w k t (held_used q k n o.columns.sequences e))
       ∙ ap (λ (i : ℕ). with_rows (set (rows o) i (resent t (row_at i (rows o)))) o) (sym (place_is w q k at)))
@@ -95,12 +93,12 @@ module _ {o : Observer} (w : Well o) (q t : ℕ) where
 
   full : holds q k (take n o.columns.sequences) ≡ false → n ≡ capacity o → entry_step o.counts (entering n q t o.columns) ≡ record_sent o q t
   full e f =
-      ap (entry_step o.counts) (sym (enters_full n q t o.columns fits k refl e (f ∙ room)))
+      ap (entry_step o.counts) (sym (enters_full n q t refl fits k (record { at = refl; not_held = e }) (f ∙ room)))
       ∙ sent_full o w.accepted q t (held_is w q k at ∙ e) f
 
   new : holds q k (take n o.columns.sequences) ≡ false → (n ≡ capacity o → ⊥) → entry_step o.counts (entering n q t o.columns) ≡ record_sent o q t
   new e f =
-      ap (entry_step o.counts) (sym (enters_new n q t o.columns fits k refl e (λ x. f (x ∙ sym room))))
+      ap (entry_step o.counts) (sym (enters_new n q t refl fits k (record { at = refl; not_held = e }) (λ x. f (x ∙ sym room))))
       ∙ ap (λ (x : Observer). step o (gives x))
       (sym (sent_columns w k q t (place_used w q k at) (room_for (n + 1) o (omega (arith, f, w.fits))))
       ∙ ap (λ (i : ℕ). with_rows (put_in i (sent_row q t) (rows o)) o) (sym (place_is w q k at)))
@@ -115,8 +113,7 @@ module _ {o : Observer} (w : Well o) (q t : ℕ) where
       go false true e f = full e (eqb-true n (capacity o) f)
       go false false e f = new e (eqb-false n (capacity o) f)
 
--- the code's call, and its answer
-pub entered_is : (o : Observer) (q t : ℕ) (e : Entry) (r : Recorded) (c : Columns) → well_formed o ≡ true
-    → record { answer = e; columns = c } ≡ entering o.counts.used q t o.columns → r ≡ after_entry o.counts e → recorded r c ≡ record_sent o q t
-entered_is o q t e r c w x y =
-    ap (λ (z : Recorded). recorded z c) y ∙ ap (entry_step o.counts) x ∙ entry_is_sent (well o w) q t
+-- the code's call: what it was answered, and the columns as it left them
+pub entered_is : (o : Observer) (q t : ℕ) (e : Outcome ℕ) (c : Columns) → well_formed o ≡ true
+    → record { answer = e; columns = c } ≡ entering o.counts.used q t o.columns → recorded (taken e) (after_entry o.counts e) c ≡ record_sent o q t
+entered_is o q t e c w x = ap (entry_step o.counts) x ∙ entry_is_sent (well o w) q t

@@ -51,6 +51,13 @@ on_columns o fits =
     let r = rows_are o fits in
     rw (le-leb o.counts.used (capacity o) fits, both_known (rows o), r.sequences, r.marks, r.arrival_timestamps)
 
+-- and the marks and times only where the sequences rise
+pub rising_first : (o : Observer) → o.counts.used ≤ capacity o → (rise : Bool) → rising (take o.counts.used o.columns.sequences) ≡ rise
+    → rise && returns_known (take o.counts.used o.columns.marks) (take o.counts.used o.columns.arrival_timestamps) ≡ well_formed o
+rising_first o fits rise e =
+    ap (λ (b : Bool). b && returns_known (take o.counts.used o.columns.marks) (take o.counts.used o.columns.arrival_timestamps)) (sym e)
+    ∙ sym (on_columns o fits)
+
 -- what an observer has that 21 does not refuse
 pub record Well (o : Observer) : Type 0 where
   pub accepted : well_formed o ≡ true

@@ -1,23 +1,23 @@
 // The observer: document 01's run sheet (leaf 6; `ContinuityObserver` of the Rust's traffic.rs). The Rust's maps are
-// columns here, lent by the caller and sorted by sequence; the used count and the counters go in by value and come back
-// beside the answer. Each call judges the columns first (21); the crate `rows` then changes the row. specs/ defines
-// what a call answers and leaves, and its contract is that one equation (`records`): answer, counts and every column at
-// exit, on refusals too. The crates above have the calls for returns and for whole plans.
+// columns here, lent by the caller and sorted by sequence, and so are the counts beside them. Each call judges the
+// columns first (21); the crate `rows` then changes the row. specs/ defines what a call answers and leaves, and its
+// contract is that one equation (`records`): answer, counts and every column at exit, on refusals too. The crates above
+// have the calls for returns and for whole plans.
 #![tactic(auto)]
 
 ghost use Rattle.std.specs.Prelude.{◌≡◌};
-ghost use Rattle.error.specs.Outcome.{outcome_number};
-ghost use Rattle.rows.specs.Columns.{sheet, written_sheet};
-ghost use Rattle.observer.specs.Counts.{one_duplicate, one_out_of_order, one_error_indication, with_used};
+ghost use Rattle.error.specs.Answer.{answered};
+ghost use Rattle.rows.specs.Columns.{read_sheet, written_sheet, SameWritten};
+ghost use Rattle.observer.specs.Counts.{one_error_indication};
 ghost use Rattle.observer.specs.Judge.{well_formed};
 ghost use Rattle.observer.specs.Sending.{record_sent};
 ghost use Rattle.observer.specs.Claims.{PutBack, MalformedIs, FreshIsWell, CallsKeepWell, RestKept, SearchFinds};
 ghost use Rattle.observer.specs.Claims.{FullOnlyWhenFull, FullAtRow2049, SentAgain, BelowHighestMarked};
 ghost use Rattle.observer.specs.Arrivals.{ArrivalKept, ArrivalKeptForGood, FirstReturnArrives, ResendParts};
-ghost use Rattle.observer.specs.Answer.{recording_means, acceptance, refusal, after_entry, after_arrival, lent};
-ghost use Rattle.observer.specs.Answer.{records};
+ghost use Rattle.observer.specs.Answer.{taken, after_arrival, lent, records};
 
-use rows::{Arrival, Entry};
+use error::Refusal;
+use rows::{Arrival, Sheet, WrittenSheet};
 
 // What stands beside the columns. Fresh: all 0. The used count is last, and the counts are first in each answer: copies
 // then go along the pairs of numbers that were stored, and no load waits for two stores.
@@ -35,174 +35,58 @@ pub struct ObserverCounts {
 }
 
 impl ObserverCounts {
-    fn with_used(mut self, used: usize) -> Self
-        ensures { result ≡ with_used used self }
+    // Counts a return by what became of it, and answers whether it was taken.
+    pub fn returned(&mut self, arrival: Result<Arrival, Refusal>) -> Result<(), Refusal>
+        ensures answer { answered result ≡ taken (answered arrival) }
+        ensures counts { self.new ≡ after_arrival self.old (answered arrival) }
     {
-        self.used = used;
-        self
+        match arrival? {
+            Arrival::InOrder => {}
+            Arrival::OutOfOrder => {
+                self.out_of_order_packets = counter::one_more(self.out_of_order_packets);
+            }
+            Arrival::Duplicate => {
+                self.duplicate_packets = counter::one_more(self.duplicate_packets);
+            }
+        }
+        Ok(())
     }
 
-    fn one_duplicate(mut self) -> Self
-        ensures { result ≡ one_duplicate self }
-    {
-        self.duplicate_packets = counter::one_more(self.duplicate_packets);
-        self
-    }
-
-    fn one_out_of_order(mut self) -> Self
-        ensures { result ≡ one_out_of_order self }
-    {
-        self.out_of_order_packets = counter::one_more(self.out_of_order_packets);
-        self
-    }
-
-    fn one_error_indication(mut self) -> Self
-        ensures { result ≡ one_error_indication self }
+    // Counts an Error Indication whose elements were accepted.
+    pub fn error_indicated(&mut self)
+        ensures { self.new ≡ one_error_indication self.old }
     {
         self.gtpu_error_indications = counter::one_more(self.gtpu_error_indications);
-        self
-    }
-
-    // The answer of a call that was taken, with these counts.
-    fn accepted(self) -> Recorded
-        ensures { result ≡ acceptance self }
-    {
-        Recorded {
-            counts: self,
-            answer: Recording::Accepted,
-        }
-    }
-
-    // The answer of a call that was refused by this number, with these counts.
-    fn refused(self, number: u8) -> Recorded
-        ensures { result ≡ refusal number self }
-    {
-        Recorded {
-            counts: self,
-            answer: Recording::Refused(number),
-        }
-    }
-
-    // The answer to sending, by what became of the packet.
-    pub fn entered(self, entry: Entry) -> Recorded
-        ensures { result ≡ after_entry self entry }
-    {
-        match entry {
-            Entry::Entered(used) => self.with_used(used).accepted(),
-            Entry::Full => self.refused(error::OBSERVER_FULL),
-            Entry::Malformed => self.refused(error::MALFORMED_OBSERVER),
-        }
-    }
-
-    // The answer to a return, by what became of the sequence.
-    pub fn returned(self, arrival: Arrival) -> Recorded
-        ensures { result ≡ after_arrival self arrival }
-    {
-        match arrival {
-            Arrival::InOrder => self.accepted(),
-            Arrival::OutOfOrder => self.one_out_of_order().accepted(),
-            Arrival::Duplicate => self.one_duplicate().accepted(),
-            Arrival::NotSent => self.refused(error::SEQUENCE_WAS_NOT_SENT),
-            Arrival::Reversed => self.refused(error::TIMESTAMP_REVERSED),
-            Arrival::Malformed => self.refused(error::MALFORMED_OBSERVER),
-        }
-    }
-
-    // The answer to an Error Indication whose elements were accepted.
-    pub fn error_indicated(self) -> Recorded
-        ensures { result ≡ acceptance (one_error_indication self) }
-    {
-        self.one_error_indication().accepted()
-    }
-}
-
-// Whether a call was taken.
-#[derive(Clone, Copy)]
-pub enum Recording {
-    Accepted,
-    Refused(u8),
-}
-
-// What a call answers, and the counts as it leaves them.
-#[derive(Clone, Copy)]
-pub struct Recorded {
-    pub counts: ObserverCounts,
-    pub answer: Recording,
-}
-
-// The number of an answer: 0, or the refusal's.
-pub fn answer_number(answer: Recording) -> u8
-    ensures { result ≡ outcome_number (recording_means answer) }
-{
-    match answer {
-        Recording::Accepted => 0,
-        Recording::Refused(number) => number,
     }
 }
 
 // Whether no call refuses the columns and counts by 21: the used rows fit, rise, have marks of 0 or 1, and have arrival
 // time 0 where they have mark 0.
-pub fn well_formed(
-    sequences: &[u64],
-    send_timestamps: &[u64],
-    latencies: &[u64],
-    marks: &[u8],
-    arrival_timestamps: &[u64],
-    counts: ObserverCounts,
-) -> bool
-    ensures { result
-        ≡ well_formed (lent (sheet sequences send_timestamps latencies marks arrival_timestamps) counts) }
+pub fn well_formed(sheet: Sheet, counts: ObserverCounts) -> bool
+    ensures { result ≡ well_formed (lent (read_sheet sheet) counts) }
 {
     let used = counts.used;
-    let room = rows::capacity(
-        sequences.len(),
-        send_timestamps.len(),
-        latencies.len(),
-        marks.len(),
-        arrival_timestamps.len(),
-    );
-    if room < used {
-        return false;
-    }
-    let rise = columns::sequences_rise(sequences, used);
-    let known = columns::returns_known(marks, arrival_timestamps, used);
-    rise & known
+    used <= sheet.capacity()
+        && columns::sequences_rise(sheet.sequences, used)
+        && columns::returns_known(sheet.marks, sheet.arrival_timestamps, used)
 }
 
 // Records a packet as sent: a new row, or the new send time of the row that its sequence has. Refuses by 21, 22.
 pub fn record_sent(
-    sequences: &mut [u64],
-    send_timestamps: &mut [u64],
-    latencies: &mut [u64],
-    marks: &mut [u8],
-    arrival_timestamps: &mut [u64],
-    counts: ObserverCounts,
+    sheet: &mut WrittenSheet,
+    counts: &mut ObserverCounts,
     sequence: u64,
     send_timestamp_ns: u64,
-) -> Recorded
-    ensures { records (written_sheet sequences send_timestamps latencies marks arrival_timestamps) counts result
+) -> Result<(), Refusal>
+    ensures same { SameWritten sheet.old sheet.new }
+    ensures recorded { records (written_sheet sheet) counts result
         (λ o. record_sent o sequence send_timestamp_ns) }
 {
-    if !well_formed(
-        sequences,
-        send_timestamps,
-        latencies,
-        marks,
-        arrival_timestamps,
-        counts,
-    ) {
-        return counts.refused(error::MALFORMED_OBSERVER);
+    if !well_formed(sheet.read(), *counts) {
+        return Err(Refusal::MalformedObserver);
     }
-    counts.entered(rows::enter(
-        sequences,
-        send_timestamps,
-        latencies,
-        marks,
-        arrival_timestamps,
-        counts.used,
-        sequence,
-        send_timestamp_ns,
-    ))
+    counts.used = rows::enter(sheet, counts.used, sequence, send_timestamp_ns)?;
+    Ok(())
 }
 
 // Carries what makes a sheet malformed: one of the four causes of 21, and nothing else.

@@ -69,8 +69,8 @@ columns_written s =
     columns_of s.sequences.now s.send_timestamps.now s.latencies.now s.marks.now s.arrival_timestamps.now
 
 -- All columns of a call that only reads them.
-abbrev pub sheet : Both lent.Sheet lent.Sheet → Sheet
-sheet s = record { entry = columns_lent s.entry; exit = columns_lent s.exit }
+abbrev pub read_sheet : Both lent.Sheet lent.Sheet → Sheet
+read_sheet s = record { entry = columns_lent s.entry; exit = columns_lent s.exit }
 
 -- All columns of a call that marks rows: it only reads sequences and send times.
 abbrev pub marked_sheet : Both (MutBor MarkedSheet) (MutBor MarkedSheet) → Sheet

@@ -1,21 +1,34 @@
--- `observer::well_formed` meets its contract.
-use mathlib.Core.Path.{sym}
+-- The used rows fit, or 21 is due (proofs/Judging.antt); where they fit, the code judges what is left in three columns.
+use mathlib.Core.Path.{sym, ◌∙◌}
+use mathlib.Core.Bool.{true, false}
 use native.Mathlib.Omega.{arith}
+use borrow.Author.Tests.{lt-leb}
+use Rattle.std.proofs.lemmas.Bool.{false≢true}
+use Rattle.rows.specs.Columns.{columns_lent}
 use Rattle.observer.specs.Observer.{capacity}
-use Rattle.rows.specs.Columns.{columns_of}
 use Rattle.observer.specs.Answer.{observer_of}
-use Rattle.observer.proofs.Judging.{overfull, on_columns}
+use Rattle.observer.proofs.Judging.{overfull, rising_first}
 use Rattle.observer.proofs.well_formed.Goals as goal
+use Rattle.observer.proofs.well_formed.Goals.{then-used-capacity, else-used-capacity}
 
-pub returns-then-room-used : goal.returns-then-room-used
+pub returns-then-sequences_rise : goal.returns-then-sequences_rise
 unfolding capacity
-returns-then-room-used c =
-    let o = observer_of (columns_of c.args.sequences.now c.args.send_timestamps.now c.args.latencies.now c.args.marks.now c.args.arrival_timestamps.now) c.args.counts in
-    sym (overfull o (omega arith))
+returns-then-sequences_rise c =
+    let o = observer_of (columns_lent c.args.sheet) c.args.counts in
+    elim c.if-used-capacity.branch [
+      | then-used-capacity w ↦
+          let rises = sym w.sequences_rise.ensures ∙ sym w.value-is ∙ c.if-sequences_rise.true in
+          c.returns_known.ensures ∙ rising_first o (omega (arith, w.if-used-capacity.true)) true rises
+      | else-used-capacity w ↦ absurd (false≢true (sym (w.value-is ∙ lt-leb _ _ w.if-used-capacity.false) ∙ c.if-sequences_rise.true))
+    ]
 
-pub returns : goal.returns
+pub returns-else-sequences_rise : goal.returns-else-sequences_rise
 unfolding capacity
-returns c =
-    let o = observer_of (columns_of c.args.sequences.now c.args.send_timestamps.now c.args.latencies.now c.args.marks.now c.args.arrival_timestamps.now) c.args.counts in
-    rw (c.sequences_rise-rise.ensures, c.returns_known-known.ensures)
-    (sym (on_columns o (omega arith)))
+returns-else-sequences_rise c =
+    let o = observer_of (columns_lent c.args.sheet) c.args.counts in
+    elim c.if-used-capacity.branch [
+      | then-used-capacity w ↦
+          let rises = sym w.sequences_rise.ensures ∙ sym w.value-is ∙ c.if-sequences_rise.false in
+          c.if-sequences_rise.false ∙ rising_first o (omega (arith, w.if-used-capacity.true)) false rises
+      | else-used-capacity w ↦ w.value-is ∙ lt-leb _ _ w.if-used-capacity.false ∙ sym (overfull o (omega (arith, w.if-used-capacity.false)))
+    ]
