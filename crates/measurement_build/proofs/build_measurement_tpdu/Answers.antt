@@ -11,15 +11,15 @@ use Rattle.measurement_packet.specs.Packet.{ip_header, ip_header_length}
 use Rattle.measurement_build.proofs.Whole.{too_short, Headed, ipv4_headed, headed_length, headed_built}
 use borrow.Author.Rules.{rules}
 use Rattle.measurement_build.proofs.build_measurement_tpdu.Goals as goal
-use Rattle.measurement_build.proofs.build_measurement_tpdu.Goals.{Joined-version, in-V4+else-out-lt-IPV4_TPDU_BYTES, in-V6+else-out-lt-IPV6_TPDU_BYTES}
+use Rattle.measurement_build.proofs.build_measurement_tpdu.Goals.{Joined-flow, in-V4+else-out-lt-IPV4_TPDU_BYTES, in-V6+else-out-lt-IPV6_TPDU_BYTES}
 
 -- what is known where the versions meet
-headed : (c : Joined-version)
-    → Headed c.args.flow c.args.out.now c.match-version.out c.match-version.start c.match-version.pseudo
+headed : (c : Joined-flow)
+    → Headed c.args.flow c.args.out.now c.match-flow.out c.match-flow.start c.match-flow.pseudo
 unfolding ip_header ip_header_length address_length
 headed c =
     let a = c.args in
-    elim c.match-version.branch [
+    elim c.match-flow.branch [
       | in-V4+else-out-lt-IPV4_TPDU_BYTES w ↦ record {
         v = V4;
         is = w.in-V4.is;
@@ -64,7 +64,7 @@ write_udp_segment-requires c =
     (simp (length-take, length-drop) (omega (arith, headed_length _ _ _ _ _ h)), h.small)
 
 pub overflow_add-result : goal.overflow_add-result
-overflow_add-result c = elim c.match-version.branch [ in-V4+else-out-lt-IPV4_TPDU_BYTES w ↦ omega (arith, w.start-is) | in-V6+else-out-lt-IPV6_TPDU_BYTES w ↦ omega (arith, w.start-is) ]
+overflow_add-result c = elim c.match-flow.branch [ in-V4+else-out-lt-IPV4_TPDU_BYTES w ↦ omega (arith, w.start-is) | in-V6+else-out-lt-IPV6_TPDU_BYTES w ↦ omega (arith, w.start-is) ]
 
 pub shape_of-out : goal.shape_of-out
 shape_of-out c =
@@ -74,5 +74,5 @@ shape_of-out c =
 pub returns : goal.returns
 returns c =
     let a = c.args in
-    headed_built a.flow a.sequence a.send_timestamp_ns a.out.now c.write_udp_segment.new.out c.match-version.out c.match-version.start c.match-version.pseudo
+    headed_built a.flow a.sequence a.send_timestamp_ns a.out.now c.write_udp_segment.new.out c.match-flow.out c.match-flow.start c.match-flow.pseudo
     (headed c.before.before.before.before.before.before) c.write_udp_segment.ensures
