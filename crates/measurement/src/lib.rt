@@ -96,34 +96,13 @@ impl MeasurementHeader {
     pub fn encode(self) -> [u8; 24]
         ensures { result ≡ probe self.sequence self.send_timestamp_ns }
     {
-        let s = self.sequence;
-        let t = self.send_timestamp_ns;
-        [
-            0x4f,
-            0x50,
-            0x43,
-            0x44,
-            0x50,
-            0x54,
-            0x4b,
-            0x31,
-            ((s >> 56) % 256) as u8,
-            ((s >> 48) % 256) as u8,
-            ((s >> 40) % 256) as u8,
-            ((s >> 32) % 256) as u8,
-            ((s >> 24) % 256) as u8,
-            ((s >> 16) % 256) as u8,
-            ((s >> 8) % 256) as u8,
-            (s % 256) as u8,
-            ((t >> 56) % 256) as u8,
-            ((t >> 48) % 256) as u8,
-            ((t >> 40) % 256) as u8,
-            ((t >> 32) % 256) as u8,
-            ((t >> 24) % 256) as u8,
-            ((t >> 16) % 256) as u8,
-            ((t >> 8) % 256) as u8,
-            (t % 256) as u8,
-        ]
+        let mut probe = [0; layout::PROBE_BYTES];
+        probe[..layout::PROBE_SEQUENCE].copy_from_slice(&MEASUREMENT_MAGIC.to_be_bytes());
+        probe[layout::PROBE_SEQUENCE..layout::PROBE_SEND_TIME].copy_from_slice(
+            &self.sequence.to_be_bytes(),
+        );
+        probe[layout::PROBE_SEND_TIME..].copy_from_slice(&self.send_timestamp_ns.to_be_bytes());
+        probe
     }
 }
 
