@@ -4,13 +4,12 @@
 #![tactic(auto)]
 
 ghost use Rattle.std.specs.Prelude.{◌≡◌, ◌≤◌};
-ghost use Rattle.jitter.specs.Integer.{size};
-ghost use Rattle.jitter.specs.Jitter.{difference, largest_size, size_taken, stepped, after_first, after_later};
+ghost use Rattle.jitter.specs.Jitter.{largest_size, size_taken, stepped, after_first, after_later};
 ghost use Rattle.jitter.specs.Jitter.{jitter_shown};
 ghost use Rattle.jitter.specs.Claims.{DifferenceExact, IsRfc3550, StepFits, Bounded, Reached, FirstOfZero};
 
-// The most that the size of a difference counts as: 2^59.
-pub const LARGEST_SIZE: u64 = 576_460_752_303_423_488;
+// The most that the size of a difference counts as.
+pub const LARGEST_SIZE: u64 = 1 << 59;
 
 // The state beside a run sheet. Fresh: both 0. Every value is taken.
 #[repr(C)]
@@ -22,31 +21,17 @@ pub struct JitterState {
     pub earlier_latency_ns: u64,
 }
 
-// The size of the difference of two latencies.
-fn size_of_difference(earlier: u64, later: u64) -> u64
-    ensures { result ≡ size (difference earlier later) }
-{
-    if earlier < later {
-        later - earlier
-    } else {
-        earlier - later
-    }
-}
-
-// The same, as far as it counts.
+// The size of the difference of two latencies, as far as it counts.
+#[tactic(auto, unfolding(crate::specs::Jitter::size_taken))]
 fn size_taken(earlier: u64, later: u64) -> u64
     ensures { result ≡ size_taken earlier later }
 {
-    let size = size_of_difference(earlier, later);
-    if size < LARGEST_SIZE {
-        size
-    } else {
-        LARGEST_SIZE
-    }
+    later.abs_diff(earlier).min(LARGEST_SIZE)
 }
 
 // The next state. (state + 8) / 16 is worked out in parts, and taken off first, so that no sum passes the top of a u64,
 // whatever the state.
+#[tactic(auto, unfolding(crate::specs::Jitter::stepped))]
 fn step(state: u64, size: u64) -> u64
     requires { size ≤ largest_size }
     ensures { result ≡ stepped state size }
@@ -61,19 +46,21 @@ impl JitterState {
         ensures { result ≡ after_first latency_ns self }
     {
         Self {
-            scaled_jitter_ns: self.scaled_jitter_ns,
             earlier_latency_ns: latency_ns,
+            ..self
         }
     }
 
     // After any later one.
-    pub fn after_later(mut self, latency_ns: u64) -> Self
+    #[tactic(auto, using(crate::proofs::Steps::size_bounded))]
+    pub fn after_later(self, latency_ns: u64) -> Self
         ensures { result ≡ after_later latency_ns self }
     {
         let size = size_taken(self.earlier_latency_ns, latency_ns);
-        self.scaled_jitter_ns = step(self.scaled_jitter_ns, size);
-        self.earlier_latency_ns = latency_ns;
-        self
+        Self {
+            scaled_jitter_ns: step(self.scaled_jitter_ns, size),
+            earlier_latency_ns: latency_ns,
+        }
     }
 
     // The jitter, as a report shows it.
