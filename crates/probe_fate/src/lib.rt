@@ -1,79 +1,107 @@
-// What became of a probe in a rehearsal, as a number, from the best to the worst; and the first Error Indication.
+// What became of the probes of a rehearsal, and the first Error Indication.
 #![tactic(auto)]
 
-ghost use Rattle.std.specs.Prelude.{◌≡◌, ◌<◌};
+ghost use Rattle.std.specs.Prelude.{◌≡◌, Some, MatchOption};
 
-pub const RETURNED: u8 = 0;
+use error::Refusal;
+use gtpu::RefusedTunnel;
 
-pub const DUPLICATE: u8 = 1;
-
-pub const OUT_OF_ORDER: u8 = 2;
-
-// Nothing came back: what every probe starts with.
-pub const LOST: u8 = 3;
-
-pub const ERROR_INDICATION: u8 = 4;
-
-// A return was refused: this plus the card's number.
-const REFUSED: u8 = 64;
-
-// The fate of a probe whose return was refused by a number.
-pub fn refused(number: u8) -> u8 {
-    std::num::wrapping_add_u8(REFUSED, number)
+// What became of a probe, from the best to the worst.
+#[derive(Clone, Copy)]
+pub enum Fate {
+    Returned,
+    Duplicate,
+    OutOfOrder,
+    // Nothing came back: what every probe starts with.
+    Lost,
+    ErrorIndication,
+    // A return was refused.
+    Refused(Refusal),
 }
 
-// The number by which a return was refused, or 0.
-pub fn number_of(fate: u8) -> u8 {
-    if fate < REFUSED { 0 } else { fate - REFUSED }
-}
+impl Fate {
+    // Its place in the order, a refusal's by its number.
+    fn rank(self) -> u16 {
+        match self {
+            Fate::Returned => 0,
+            Fate::Duplicate => 1,
+            Fate::OutOfOrder => 2,
+            Fate::Lost => 3,
+            Fate::ErrorIndication => 4,
+            Fate::Refused(refusal) => 5 + u16::from(refusal.number()),
+        }
+    }
 
-// Notes what came back for a probe: the first return counts, and after it what is worse.
-fn note_fate(fates: &mut [u8], row: usize, fate: u8) {
-    if row < fates.len() {
-        if fates[row] == LOST || fates[row] < fate {
-            fates[row] = fate;
+    // What became of a probe, after one more return of it: the first counts, and after it what is worse.
+    fn after(self, later: Fate) -> Fate {
+        match self {
+            Fate::Lost => later,
+            _ if self.rank() < later.rank() => later,
+            _ => self,
         }
     }
 }
 
-// Counts one more refusal by this number. 0 is no refusal, and is not counted.
-fn count_refusal(refusals: &mut [u64], number: usize) {
-    if 0 < number && number < refusals.len() {
-        refusals[number] = std::num::wrapping_add_u64(refusals[number], 1);
+// A refusal, and how often it came up.
+#[derive(Clone, Copy)]
+pub struct Tally {
+    pub refusal: Refusal,
+    pub times: u64,
+}
+
+// What is noted of the probes and of the refusals, each in the place of its number.
+#[derive(Clone, Copy)]
+pub struct Notes {
+    fates: [Fate; 2048],
+    pub refusals: [Option<Tally>; 64],
+}
+
+impl Notes {
+    // Nothing came back.
+    pub fn fresh() -> Self {
+        Self {
+            fates: [Fate::Lost; 2048],
+            refusals: [None; 64],
+        }
+    }
+
+    // What became of the first `count` probes, if there are so many.
+    pub fn fates(&self, count: usize) -> &[Fate] {
+        self.fates.get(..count).unwrap_or(&[])
+    }
+
+    // Notes what came back for the probe of a row, and counts a refusal.
+    pub fn note(&mut self, row: usize, fate: Fate) {
+        if row < self.fates.len() {
+            self.fates[row] = self.fates[row].after(fate);
+        }
+        if let Fate::Refused(refusal) = fate {
+            self.count(refusal);
+        }
+    }
+
+    fn count(&mut self, refusal: Refusal) {
+        let number = refusal.number() as usize;
+        if number < self.refusals.len() {
+            let times = self.refusals[number].map_or(0, |tally| tally.times);
+            self.refusals[number] = Some(Tally {
+                refusal,
+                times: times.wrapping_add(1),
+            });
+        }
     }
 }
 
-// Notes what came back for the probe of a row, and counts a refusal by its number.
-pub fn note(fates: &mut [u8], refusals: &mut [u64], row: usize, fate: u8) {
-    note_fate(fates, row, fate);
-    count_refusal(refusals, number_of(fate) as usize);
-}
-
-// The first Error Indication of a run that was accepted, in the order of arrival: the probe that it answers, and the
-// tunnel that it names, in numbers. `version` is 4 or 6. Probe 0, and no tunnel, where none has come.
+// An Error Indication of a run that was accepted: the probe that it answers, and the tunnel that it names.
 #[derive(Clone, Copy)]
 pub struct FirstIndication {
     pub probe: u64,
-    pub teid: u32,
-    pub version: u8,
-    pub peer_address: [u8; 16],
+    pub tunnel: RefusedTunnel,
 }
 
-pub fn no_indication() -> FirstIndication {
-    FirstIndication {
-        probe: 0,
-        teid: 0,
-        version: 4,
-        peer_address: [0; 16],
-    }
-}
-
-// What is kept where one more came: a later one never takes the place of the first.
-pub fn keep_first(kept: FirstIndication, later: FirstIndication) -> FirstIndication
-    ensures { (0 < kept.probe → result ≡ kept) × (kept.probe ≡ 0 → result ≡ later) }
+// The first one, in the order of arrival, where one more came: a later one never takes its place.
+pub fn keep_first(kept: Option<FirstIndication>, later: FirstIndication) -> Option<FirstIndication>
+    ensures { MatchOption kept (result ≡ Some later) (λ first. result ≡ Some first) }
 {
-    if kept.probe == 0 {
-        return later;
-    }
-    kept
+    kept.or(Some(later))
 }
