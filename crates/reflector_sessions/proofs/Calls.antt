@@ -1,164 +1,91 @@
--- The two calls that change a table. The answer is decided by value from what a search found, and one row is stored where that answer tells: both are those of the specs.
-use Prim.Native.Nat.{ℕ, ◌+◌, ◌-◌, ◌<◌}
-use mathlib.Core.Path.{◌≡◌, refl, sym, ap, subst, ◌∙◌}
-use mathlib.Core.List.{List, [], ◌∷◌}
-use mathlib.Core.Bool.{Bool, true, false, not}
-use mathlib.Core.Option.{Option, some, none}
-use native.Mathlib.Omega.{arith}
-use lib.Dec.{eqb, ltb}
-use lib.ListN.{length, take, set, get_or}
-use borrow.Author.Tests.{lt-ltb, le-ltb, ltb-true, eqb-false}
-use Rattle.error.specs.Number.{reflector_session_conflict, reflector_session_capacity_exceeded}
-use Rattle.error.specs.Outcome.{Outcome, refused, gives, ◌⇒◌, first_cause}
-use Rattle.error.proofs.Causes.{Passes, past, passed, refuses, refused_gives}
-use Rattle.error.proofs.Tests.{true_not_false}
-use Rattle.reflector_sessions.specs.Judge.{table_causes, session_found}
-use Rattle.reflector_sessions.specs.Register.{session_outcome, register_outcome, register_session, registered_table, registered_of, used_after, Registers}
-use Rattle.reflector_sessions.specs.Remove.{remove_outcome, remove_session, removed_table, removed_of, Removes}
-use Rattle.reflector_sessions.specs.Remove as remove
+-- What each way out of the two calls leaves: the answer and the table are those of the definitions.
+use Rattle.std.proofs.Common.{ℕ, ◌≡◌, ◌-◌, ◌<◌, Bool, true, false, Option, Some, None, Result, Ok, Err, sym, ap, ◌∙◌, arith, length, get_or, set}
+use Rattle.std.proofs.lemmas.List.{get_or_default}
+use borrow.Author.Tests.{eq-eqb, ne_eqb}
+use Rattle.error.specs.Answer.{answered, number_of}
+use Rattle.error.specs.Outcome.{Outcome, refused, gives, first_cause}
+use Rattle.error.specs.declared.Refusal.{Refusal}
+use Rattle.error.specs.declared.Refusal.TheVariants as refusal
+use Rattle.error.proofs.Causes.{refuses, passes}
+use Rattle.reflector_sessions.specs.Register.{invalid_session, session_outcome, register_outcome, register_session, registered_table, registration_means, Registers}
+use Rattle.reflector_sessions.specs.Remove.{remove_outcome, remove_session, removed_table, Removes}
 use Rattle.reflector_sessions.specs.Session.{no_session, same_session}
-use Rattle.reflector_sessions.specs.Table.{table_of, find, place_of, found_in, searched_rows, put_if}
-use Rattle.reflector_sessions.specs.declared.FoundSession.{FoundSession}
-use Rattle.reflector_sessions.specs.declared.Registered.{Registered}
+use Rattle.reflector_sessions.specs.Table.{Table, table_of, used_rows, find, place_of, appended, swap_removed, judged_table}
+use Rattle.reflector_sessions.specs.declared.Registration.{Registration}
+use Rattle.reflector_sessions.specs.declared.Registration.TheVariants.{Added, Unchanged}
 use Rattle.reflector_sessions.specs.declared.ReflectorSession.{ReflectorSession}
-use Rattle.reflector_sessions.specs.declared.RemovedSession.{RemovedSession}
-use Rattle.reflector_sessions.proofs.Judging.{Sound, Judged, unsound, sound, judge, table_sound, searched_all}
-use Rattle.reflector_sessions.proofs.Search.{found_used}
-
--- Where the table is refused by 30 or 31, nothing depends on what comes after.
-after_table : {A : Type 0} (rows used maximum : ℕ) (o o' : Outcome A) → (Sound rows used maximum → o ≡ o') → first_cause (table_causes rows used maximum) o ≡ first_cause (table_causes rows used maximum) o'
-after_table rows used maximum o o' h = go (judge rows used maximum)
-  where
-    go : Judged rows used maximum → first_cause (table_causes rows used maximum) o ≡ first_cause (table_causes rows used maximum) o'
-    go (unsound n r) = sym (refuses o r) ∙ refuses o' r
-    go (sound s) = ap (first_cause (table_causes rows used maximum)) (h s)
-
--- What was given, a table gave that is not refused.
-gives_sound : {A : Type 0} (rows used maximum : ℕ) (o : Outcome A) (x : A) → first_cause (table_causes rows used maximum) o ≡ gives x → Sound rows used maximum × (o ≡ gives x)
-gives_sound rows used maximum o x e = go (judge rows used maximum)
-  where
-    go : Judged rows used maximum → Sound rows used maximum × (o ≡ gives x)
-    go (unsound n r) = absurd (refused_gives (refuses o r ∙ e))
-    go (sound s) = (s, (passed (table_causes rows used maximum) o x e).1)
-
--- What a search of a table finds, as the code has it.
-abbrev pub found : List ReflectorSession → ℕ → ℕ → ℕ → FoundSession
-found rows used maximum teid = found_in (searched_rows rows used maximum) teid no_session
-
--- Where the used count stays, no row is written.
-unwritten : (used place : ℕ) (row : ReflectorSession) (rows : List ReflectorSession) → put_if (ltb used used) place row rows ≡ rows
-unwritten used place row rows = ap (λ (t : Bool). put_if t place row rows) (le-ltb used used (omega arith))
+use Rattle.reflector_sessions.proofs.Judging.{judged_refused, is_sound}
+use Rattle.reflector_sessions.proofs.Search.{SoundTable}
 
 -- ---- registering
-module _ (rows : List ReflectorSession) (used maximum : ℕ) (session : ReflectorSession) where
-  abbrev registered : Outcome Bool
-  registered = register_outcome (length rows) used maximum (session_found used (found rows used maximum session.local_teid)) session
+module _ (t : Table) (session : ReflectorSession) where
+  abbrev existing : Option ReflectorSession
+  existing = find session.local_teid (used_rows t)
 
-  -- the code's answer
-  abbrev pub registration : Registered
-  registration = registered_of registered used
-
-  registered_is : registered ≡ register_outcome (length rows) used maximum (find session.local_teid (take used rows)) session
-  unfolding register_outcome
-  registered_is = after_table (length rows) used maximum _ _ (λ s. ap (λ (e : Option ReflectorSession). session_outcome used maximum e session) (found_used rows used maximum session.local_teid no_session s))
-
-  -- a session is appended only where the count is not the maximum
-  not_full : (e : Option ReflectorSession) → session_outcome used maximum e session ≡ gives true → used ≡ maximum → ⊥
-  unfolding session_outcome
-  not_full e h = go e (passed _ _ true h).1
-    where
-      test : {n : ℕ} → Passes ((eqb used maximum ⇒ n) ∷ []) → used ≡ maximum → ⊥
-      test (past t rest) = eqb-false used maximum t
-
-      go : (e : Option ReflectorSession)
-          → elim e [ some other ↦ first_cause ((not (same_session other session) ⇒ reflector_session_conflict) ∷ []) (gives false) | none ↦ first_cause ((eqb used maximum ⇒ reflector_session_capacity_exceeded) ∷ []) (gives true) ] ≡ gives true
-          → used ≡ maximum → ⊥
-      go (some other) h = let e = (passed _ (gives false) true h).1 in let z : true ≡ false = cc in absurd (true_not_false z)
-      go none h = test (passed _ (gives true) true h).0
-
-  -- what `append` requires
-  pub appends : used < registration.used → used < length rows
-  unfolding register_outcome
-  appends = go registered refl
-    where
-      go : (o : Outcome Bool) → registered ≡ o → used < used_after o used → used < length rows
-      go (refused n) e l = omega arith
-      go (gives false) e l = omega arith
-      go (gives true) e l = let g = gives_sound (length rows) used maximum _ true e in omega (arith, g.0.enough, g.0.room, not_full _ g.1)
-
-  -- the answer, and the rows that `append` leaves
-  abbrev Comes : Outcome Bool → Outcome Bool → Type 0
-  Comes o to = Registers (registered_of o used) (put_if (ltb used (used_after o used)) used session rows) (record { outcome = to; table = registered_table to session (table_of rows used maximum) })
-
-  pub registers : Registers registration (put_if (ltb used registration.used) used session rows) (register_session (table_of rows used maximum) session)
+  -- an answer that means the outcome
+  registers : (r : Result Registration Refusal) → registration_means r ≡ register_outcome (length t.sessions) t.used t.maximum existing session
+      → Registers r (registered_table (registration_means r) session t) (register_session t session)
   unfolding register_session
-  registers = subst (Comes registered) registered_is (go registered)
-    where
-      go : (o : Outcome Bool) → Comes o o
-      go (refused n) = record { outcome = refl; used = refl; sessions = unwritten used used session rows }
-      go (gives false) = record { outcome = refl; used = refl; sessions = unwritten used used session rows }
-      go (gives true) = record { outcome = refl; used = refl; sessions = ap (λ (t : Bool). put_if t used session rows) (lt-ltb used (used + 1) (omega arith)) }
+  registers r e = record { outcome = e; table = ap (λ o. registered_table o session t) e }
+
+  pub unsound_refused : (r : Refusal) → refused (number_of r) ≡ judged_table t → Registers (Err r) t (register_session t session)
+  unfolding register_outcome
+  unsound_refused r e = registers (Err r) (refuses _ (judged_refused (length t.sessions) t.used t.maximum e))
+
+  module _ (sound : SoundTable t) where
+    passed : {o : Outcome Bool} → o ≡ session_outcome t.used t.maximum existing session → o ≡ register_outcome (length t.sessions) t.used t.maximum existing session
+    unfolding register_outcome
+    passed e = e ∙ passes _ (is_sound (length t.sessions) t.used t.maximum sound)
+
+    pub invalid_refused : invalid_session session ≡ true → Registers (Err refusal.InvalidReflectorSession) t (register_session t session)
+    unfolding session_outcome first_cause
+    invalid_refused e = registers (Err refusal.InvalidReflectorSession) (passed (rw (e, session_outcome)))
+
+    module _ (valid : invalid_session session ≡ false) where
+      pub same_kept : (other : ReflectorSession) → existing ≡ Some other → same_session other session ≡ true → Registers (Ok Unchanged) t (register_session t session)
+      unfolding session_outcome first_cause
+      same_kept other f e = registers (Ok Unchanged) (passed (rw (valid, f, e, session_outcome)))
+
+      pub other_refused : (other : ReflectorSession) → existing ≡ Some other → same_session other session ≡ false
+          → Registers (Err refusal.ReflectorSessionConflict) t (register_session t session)
+      unfolding session_outcome first_cause
+      other_refused other f e = registers (Err refusal.ReflectorSessionConflict) (passed (rw (valid, f, e, session_outcome)))
+
+      pub full_refused : existing ≡ None → t.used ≡ t.maximum → Registers (Err refusal.ReflectorSessionCapacityExceeded) t (register_session t session)
+      unfolding session_outcome first_cause
+      full_refused f e = registers (Err refusal.ReflectorSessionCapacityExceeded) (passed (rw (valid, f, eq-eqb t.used t.maximum e, session_outcome)))
+
+      pub added : existing ≡ None → (t.used ≡ t.maximum → ⊥) → Registers (Ok Added) (appended session t) (register_session t session)
+      unfolding session_outcome first_cause
+      added f e = registers (Ok Added) (passed (rw (valid, f, ne_eqb t.used t.maximum e, session_outcome)))
 
 -- ---- removal
-module _ (rows : List ReflectorSession) (used maximum teid : ℕ) where
-  abbrev hole : ℕ
-  hole = (found rows used maximum teid).place
-
-  abbrev removed : Outcome (Option ReflectorSession)
-  removed = remove_outcome (length rows) used maximum (session_found used (found rows used maximum teid))
-
-  -- the code's answer
-  abbrev pub removal : RemovedSession
-  removal = removed_of removed used
-
-  removed_is : removed ≡ remove_outcome (length rows) used maximum (find teid (take used rows))
-  unfolding remove_outcome
-  removed_is = after_table (length rows) used maximum _ _ (λ s. ap gives (found_used rows used maximum teid no_session s))
-
-  -- where a record is removed, its place is that of a used row
-  module _ (session : ReflectorSession) (e : removed ≡ gives (some session)) where
-    given : Sound (length rows) used maximum × (gives (session_found used (found rows used maximum teid)) ≡ gives (some session))
-    unfolding remove_outcome
-    given = gives_sound (length rows) used maximum _ _ e
-
-    hole_used : hole < used
-    unfolding session_found
-    hole_used = go (ltb hole used) refl given.1
-      where
-        go : (t : Bool) → ltb hole used ≡ t → gives (elim t [ true ↦ some (found rows used maximum teid).session | false ↦ none ]) ≡ gives (some session) → hole < used
-        go true t h = ltb-true hole used t
-        go false t h = let z : ◌≡◌ {A = ℕ} 0 1 = cc in omega arith
-
-    hole_is : hole ≡ place_of teid (take used rows)
-    unfolding found_in
-    hole_is = ap (λ (n : ℕ). place_of teid (take n rows)) (sym (searched_all (length rows) used maximum (table_sound (length rows) used maximum given.0)))
-
-  -- what `swap_remove` requires
-  pub moves : removal.used < used → (hole < length rows) × (removal.used < length rows)
-  moves = go removed refl
-    where
-      go : (o : Outcome (Option ReflectorSession)) → removed ≡ o → remove.used_after o used < used → (hole < length rows) × (remove.used_after o used < length rows)
-      go (refused n) e l = absurd (omega arith)
-      go (gives none) e l = absurd (omega arith)
-      go (gives (some session)) e l = let s = (given session e).0 in (omega (arith, s.enough, s.room, hole_used session e), omega (arith, s.enough, s.room))
-
-  -- the answer, and the rows that `swap_remove` leaves
-  abbrev Leaves : Outcome (Option ReflectorSession) → Outcome (Option ReflectorSession) → Type 0
-  Leaves o to =
-      Removes (removed_of o used) (put_if (ltb (remove.used_after o used) used) hole (get_or rows (remove.used_after o used) no_session) rows)
-      (record { outcome = to; table = removed_table to (place_of teid (take used rows)) (table_of rows used maximum) })
-
-  pub removes : Removes removal (put_if (ltb removal.used used) hole (get_or rows removal.used no_session) rows) (remove_session (table_of rows used maximum) teid)
+module _ (t : Table) (teid : ℕ) where
+  removes : (r : Result (Option ReflectorSession) Refusal) → answered r ≡ remove_outcome (length t.sessions) t.used t.maximum (find teid (used_rows t))
+      → Removes r (removed_table (answered r) (place_of teid (used_rows t)) t) (remove_session t teid)
   unfolding remove_session
-  removes = subst (Leaves removed) removed_is (go removed refl)
-    where
-      go : (o : Outcome (Option ReflectorSession)) → removed ≡ o → Leaves o o
-      go (refused n) e = record { outcome = refl; used = refl; session = refl; sessions = unwritten used hole (get_or rows used no_session) rows }
-      go (gives none) e = record { outcome = refl; used = refl; session = refl; sessions = unwritten used hole (get_or rows used no_session) rows }
-      go (gives (some session)) e = record {
-        outcome = refl;
-        used = refl;
-        session = refl;
-        sessions = ap (λ (t : Bool). put_if t hole (get_or rows (used - 1) no_session) rows) (lt-ltb (used - 1) used (omega (arith, hole_used session e)))
-            ∙ ap (λ (place : ℕ). set rows place (get_or rows (used - 1) no_session)) (hole_is session e);
-      }
+  removes r e = record { outcome = e; table = ap (λ o. removed_table o (place_of teid (used_rows t)) t) e }
+
+  pub removal_refused : (r : Refusal) → refused (number_of r) ≡ judged_table t → Removes (Err r) t (remove_session t teid)
+  unfolding remove_outcome
+  removal_refused r e = removes (Err r) (refuses _ (judged_refused (length t.sessions) t.used t.maximum e))
+
+  module _ (sound : SoundTable t) where
+    passes_removal : (o : Option ReflectorSession) → find teid (used_rows t) ≡ o → gives o ≡ remove_outcome (length t.sessions) t.used t.maximum (find teid (used_rows t))
+    unfolding remove_outcome
+    passes_removal o e = ap gives (sym e) ∙ passes _ (is_sound (length t.sessions) t.used t.maximum sound)
+
+    pub none_removed : find teid (used_rows t) ≡ None → Removes (Ok None) t (remove_session t teid)
+    none_removed e = removes (Ok None) (passes_removal None e)
+
+    -- the last used row goes into the hole; past the rows reads any `d`
+    pub removed : (place : ℕ) (session d : ReflectorSession) → place ≡ place_of teid (used_rows t) → place < t.used → find teid (used_rows t) ≡ Some session
+        → Removes (Ok (Some session)) (table_of (set t.sessions place (get_or t.sessions (t.used - 1) d)) (t.used - 1) t.maximum) (remove_session t teid)
+    removed place session d p l e =
+        let r = removes (Ok (Some session)) (passes_removal (Some session) e) in
+        let last : t.used - 1 < length t.sessions = let enough = sound.enough in let room = sound.room in omega arith in
+        record {
+          outcome = r.outcome;
+          table = ap (λ x. table_of (set t.sessions place x) (t.used - 1) t.maximum) (get_or_default t.sessions (t.used - 1) d no_session last)
+              ∙ ap (λ n. swap_removed n t) p ∙ r.table;
+        }

@@ -5,7 +5,7 @@ use mathlib.Core.Path.{◌≡◌, refl, sym, ap, subst, ◌∙◌}
 use mathlib.Core.Logic.{◌⊎◌, inl, inr}
 use mathlib.Core.Bool.{Bool, true, false, not}
 use mathlib.Core.List.{List, [], ◌∷◌}
-use mathlib.Core.Option.{Option, some, none}
+use Rattle.std.specs.Prelude.{Option, Some, None}
 use lib.Dec.{eqb, ltb}
 use lib.ListN.{length, take, set, get_or, length-set}
 use lib.Seq.{length-take-le, get_or-take, get_or-set_same, get_or-set_other}
@@ -27,27 +27,27 @@ Rows = List ReflectorSession
 
 -- ---- what a TEID means, by places
 
-pub not_there : (teid : ℕ) (rows : Rows) → ((i : ℕ) → i < length rows → teid_at i rows ≡ teid → ⊥) → find teid rows ≡ none
+pub not_there : (teid : ℕ) (rows : Rows) → ((i : ℕ) → i < length rows → teid_at i rows ≡ teid → ⊥) → find teid rows ≡ None
 not_there teid [] h = refl
 not_there teid (s ∷ rows) h =
     rw (ne_eqb s.local_teid teid (h 0 (omega arith)), find) (not_there teid rows (λ i l e. h (suc i) (omega arith) e))
 
-pub nowhere : (teid : ℕ) (rows : Rows) → find teid rows ≡ none → (i : ℕ) → i < length rows → teid_at i rows ≡ teid → ⊥
+pub nowhere : (teid : ℕ) (rows : Rows) → find teid rows ≡ None → (i : ℕ) → i < length rows → teid_at i rows ≡ teid → ⊥
 nowhere teid [] e i l = absurd (omega arith)
 nowhere teid (s ∷ rows) e i l = go (eqb s.local_teid teid) refl (nowhere teid rows) i l
   where
-    go : (b : Bool) → eqb s.local_teid teid ≡ b → (find teid rows ≡ none → (i : ℕ) → i < length rows → teid_at i rows ≡ teid → ⊥)
+    go : (b : Bool) → eqb s.local_teid teid ≡ b → (find teid rows ≡ None → (i : ℕ) → i < length rows → teid_at i rows ≡ teid → ⊥)
         → (i : ℕ) → i < length (s ∷ rows) → teid_at i (s ∷ rows) ≡ teid → ⊥
     go true q rest i l h =
-        let x : find teid (s ∷ rows) ≡ some s = rw (q, find) in
-        let y : none ≡ some s = sym e ∙ x in
+        let x : find teid (s ∷ rows) ≡ Some s = rw (q, find) in
+        let y : None ≡ Some s = sym e ∙ x in
         absurd (let z : ◌≡◌ {A = ℕ} 0 1 = cc in omega arith)
     go false q rest zero l h = eqb-false s.local_teid teid q h
     go false q rest (suc i) l h = rest (let x : find teid (s ∷ rows) ≡ find teid rows = rw (q, find) in sym x ∙ e) i (omega arith) h
 
 -- the first row with the TEID
 pub first_at : (teid p : ℕ) (rows : Rows) → p < length rows → teid_at p rows ≡ teid → ((i : ℕ) → i < p → teid_at i rows ≡ teid → ⊥)
-    → find teid rows ≡ some (get_or rows p no_session)
+    → find teid rows ≡ Some (get_or rows p no_session)
 first_at teid p [] l e h = absurd (omega arith)
 first_at teid zero (s ∷ rows) l e h = rw (eq-eqb s.local_teid teid e, find)
 first_at teid (suc p) (s ∷ rows) l e h =
@@ -57,11 +57,11 @@ first_at teid (suc p) (s ∷ rows) l e h =
 abbrev There : ℕ → Rows → Type 0
 There teid rows = (place_of teid rows < length rows) × (teid_at (place_of teid rows) rows ≡ teid)
 
-pub place_there : (teid : ℕ) (rows : Rows) (s : ReflectorSession) → find teid rows ≡ some s → There teid rows
+pub place_there : (teid : ℕ) (rows : Rows) (s : ReflectorSession) → find teid rows ≡ Some s → There teid rows
 place_there teid [] s e = absurd (let z : ◌≡◌ {A = ℕ} 0 1 = cc in omega arith)
 place_there teid (r ∷ rows) s e = go (eqb r.local_teid teid) refl (place_there teid rows s)
   where
-    go : (b : Bool) → eqb r.local_teid teid ≡ b → (find teid rows ≡ some s → There teid rows) → There teid (r ∷ rows)
+    go : (b : Bool) → eqb r.local_teid teid ≡ b → (find teid rows ≡ Some s → There teid rows) → There teid (r ∷ rows)
     go true q rest = rw (q, place_of) (omega arith, eqb-true r.local_teid teid q)
     go false q rest =
         let x : find teid (r ∷ rows) ≡ find teid rows = rw (q, find) in
@@ -104,7 +104,7 @@ teid_set_same l p s h = ap (λ (r : ReflectorSession). r.local_teid) (get_or-set
 
 -- ---- appended
 
-module _ (l : Rows) (n : ℕ) (s : ReflectorSession) (fits : n < length l) (absent : find s.local_teid (take n l) ≡ none) where
+module _ (l : Rows) (n : ℕ) (s : ReflectorSession) (fits : n < length l) (absent : find s.local_teid (take n l) ≡ None) where
   abbrev l' : Rows
   l' = set l n s
 
@@ -116,12 +116,12 @@ module _ (l : Rows) (n : ℕ) (s : ReflectorSession) (fits : n < length l) (abse
       nowhere s.local_teid (take n l) absent i (let c = count_is l n (omega arith) in omega arith)
       (teid_is l n (omega arith) i h ∙ sym (teid_set_other l n i s (λ q. omega arith)) ∙ e)
 
-  pub appended_found : find s.local_teid (take (n + 1) l') ≡ some s
+  pub appended_found : find s.local_teid (take (n + 1) l') ≡ Some s
   appended_found =
       first_at s.local_teid n (take (n + 1) l') (let c = count_is l' (n + 1) fits' in omega arith)
       (teid_is l' (n + 1) fits' n (omega arith) ∙ teid_set_same l n s fits)
       (λ i h e. not_before i h (sym (teid_is l' (n + 1) fits' i (omega arith)) ∙ e))
-      ∙ ap some (row_is l' (n + 1) fits' n (omega arith) ∙ get_or-set_same l n s no_session fits)
+      ∙ ap Some (row_is l' (n + 1) fits' n (omega arith) ∙ get_or-set_same l n s no_session fits)
 
   pub appended_apart : Apart n l → Apart (n + 1) l'
   appended_apart a i j h k e = go (ltb j n) refl
@@ -173,7 +173,7 @@ module _ (l : Rows) (n p : ℕ) (fits : n + 1 ≤ length l) (a : Apart (n + 1) l
       differs (inr b₁) (inl (a₂, b₂)) w = omega arith
       differs (inr b₁) (inr b₂) w = omega arith
 
-  pub moved_absent : (teid : ℕ) → teid_at p l ≡ teid → find teid (take n moved) ≡ none
+  pub moved_absent : (teid : ℕ) → teid_at p l ≡ teid → find teid (take n moved) ≡ None
   moved_absent teid e =
       not_there teid (take n moved) (λ i h q.
       let c = count_is moved n fits_moved in
@@ -197,8 +197,8 @@ module _ (t : Table) where
     abbrev behind : Option ReflectorSession → Outcome Bool
     behind o =
         elim o [
-          | some other ↦ first_cause ((not (same_session other session) ⇒ reflector_session_conflict) ∷ []) (gives false)
-          | none ↦ first_cause ((eqb t.used t.maximum ⇒ reflector_session_capacity_exceeded) ∷ []) (gives true)
+          | Some other ↦ first_cause ((not (same_session other session) ⇒ reflector_session_conflict) ∷ []) (gives false)
+          | None ↦ first_cause ((eqb t.used t.maximum ⇒ reflector_session_capacity_exceeded) ∷ []) (gives true)
         ]
 
     room : Passes ((eqb t.used t.maximum ⇒ reflector_session_capacity_exceeded) ∷ []) → t.used ≡ t.maximum → ⊥
@@ -207,13 +207,13 @@ module _ (t : Table) where
     same : (other : ReflectorSession) → Passes ((not (same_session other session) ⇒ reflector_session_conflict) ∷ []) → same_session other session ≡ true
     same other (past q p) = not-false (same_session other session) q
 
-    behind_true : (o : Option ReflectorSession) → behind o ≡ gives true → (o ≡ none) × (t.used ≡ t.maximum → ⊥)
-    behind_true (some other) h = absurd (false_not_true (passed ((not (same_session other session) ⇒ reflector_session_conflict) ∷ []) (gives false) true h).1)
-    behind_true none h = (refl, room (passed ((eqb t.used t.maximum ⇒ reflector_session_capacity_exceeded) ∷ []) (gives true) true h).0)
+    behind_true : (o : Option ReflectorSession) → behind o ≡ gives true → (o ≡ None) × (t.used ≡ t.maximum → ⊥)
+    behind_true (Some other) h = absurd (false_not_true (passed ((not (same_session other session) ⇒ reflector_session_conflict) ∷ []) (gives false) true h).1)
+    behind_true None h = (refl, room (passed ((eqb t.used t.maximum ⇒ reflector_session_capacity_exceeded) ∷ []) (gives true) true h).0)
 
-    behind_false : (o : Option ReflectorSession) → behind o ≡ gives false → (other : ReflectorSession) × (o ≡ some other) × (same_session other session ≡ true)
-    behind_false (some other) h = (other, refl, same other (passed ((not (same_session other session) ⇒ reflector_session_conflict) ∷ []) (gives false) false h).0)
-    behind_false none h = absurd (false_not_true (sym (passed ((eqb t.used t.maximum ⇒ reflector_session_capacity_exceeded) ∷ []) (gives true) false h).1))
+    behind_false : (o : Option ReflectorSession) → behind o ≡ gives false → (other : ReflectorSession) × (o ≡ Some other) × (same_session other session ≡ true)
+    behind_false (Some other) h = (other, refl, same other (passed ((not (same_session other session) ⇒ reflector_session_conflict) ∷ []) (gives false) false h).0)
+    behind_false None h = absurd (false_not_true (sym (passed ((eqb t.used t.maximum ⇒ reflector_session_capacity_exceeded) ∷ []) (gives true) false h).1))
 
     -- a call that is not refused passed 30 to 32
     register_passed : {b : Bool} → (register_session t session).outcome ≡ gives b → Sound count t.used t.maximum × (behind existing ≡ gives b)
@@ -235,7 +235,7 @@ module _ (t : Table) where
 
     -- what an appended session found: room, and no row of its TEID
     abbrev Fresh : Type 0
-    Fresh = (t.used < count) × (existing ≡ none)
+    Fresh = (t.used < count) × (existing ≡ None)
 
     fresh : (register_session t session).outcome ≡ gives true → Fresh
     fresh e =
@@ -283,15 +283,15 @@ module _ (t : Table) (teid : ℕ) where
   unfolding remove_session
   remove_kept e k = ap (λ (o : Outcome (Option ReflectorSession)). removed_table o (place_of teid (used_rows t)) t) e ∙ k
 
-  taken : {s : ReflectorSession} → (remove_session t teid).outcome ≡ gives (some s) → Taken t teid
+  taken : {s : ReflectorSession} → (remove_session t teid).outcome ≡ gives (Some s) → Taken t teid
   unfolding remove_session remove_outcome
   taken {s} e = go (judge (length t.sessions) t.used t.maximum)
     where
       go : Judged (length t.sessions) t.used t.maximum → Taken t teid
       go (unsound n r) = absurd (refused_gives (refuses (gives (find teid (used_rows t))) r ∙ e))
       go (sound x) =
-          let q = (passed (table_causes (length t.sessions) t.used t.maximum) (gives (find teid (used_rows t))) (some s) e).1 in
-          let f : find teid (used_rows t) ≡ some s = cc in
+          let q = (passed (table_causes (length t.sessions) t.used t.maximum) (gives (find teid (used_rows t))) (Some s) e).1 in
+          let f : find teid (used_rows t) ≡ Some s = cc in
           let there = place_there teid (used_rows t) s f in
           let within : t.used ≤ length t.sessions = let enough = x.enough in let room = x.room in omega arith in
           let c = count_is t.sessions t.used within in
@@ -318,7 +318,7 @@ module _ (t : Table) (teid : ℕ) (u : Unique (used_rows t)) (k : Taken t teid) 
       let e : t.used - 1 ≡ k.left = let h = k.one_more in omega arith in
       ap used_rows k.table ∙ ap (λ (n : ℕ). take n (set t.sessions place (get_or t.sessions n no_session))) e
 
-  pub taken_absent : find teid (used_rows (remove_session t teid).table) ≡ none
+  pub taken_absent : find teid (used_rows (remove_session t teid).table) ≡ None
   taken_absent = ap (find teid) left_is ∙ moved_absent t.sessions k.left place k.within apart k.hole teid k.there
 
   pub taken_unique : Unique (used_rows (remove_session t teid).table)
@@ -338,8 +338,8 @@ remove_unique t u teid = go (remove_session t teid).outcome refl
 
     go : (o : Outcome (Option ReflectorSession)) → (remove_session t teid).outcome ≡ o → Unique (used_rows (remove_session t teid).table)
     go (refused n) e = kept (remove_kept t teid e refl)
-    go (gives none) e = kept (remove_kept t teid e refl)
-    go (gives (some s)) e = taken_unique t teid u (taken t teid e)
+    go (gives None) e = kept (remove_kept t teid e refl)
+    go (gives (Some s)) e = taken_unique t teid u (taken t teid e)
 
 pub stays_unique : StaysUnique
 stays_unique t u = (register_unique t u, remove_unique t u)
@@ -364,8 +364,8 @@ remove_keeps t teid i ne = go (remove_session t teid).outcome
   where
     go : (o : Outcome (Option ReflectorSession)) → Kept i t (removed_table o (place_of teid (used_rows t)) t)
     go (refused n) = refl
-    go (gives none) = refl
-    go (gives (some s)) = get_or-set_other t.sessions (place_of teid (used_rows t)) i (get_or t.sessions (t.used - 1) no_session) no_session ne
+    go (gives None) = refl
+    go (gives (Some s)) = get_or-set_other t.sessions (place_of teid (used_rows t)) i (get_or t.sessions (t.used - 1) no_session) no_session ne
 
 pub other_rows_kept : OtherRowsKept
 other_rows_kept t = (register_keeps t, remove_keeps t)

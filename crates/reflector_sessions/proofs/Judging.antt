@@ -41,14 +41,10 @@ module _ (length used maximum : ℕ) where
       past (first_passes s.above s.most)
       (past (or_none (ltb maximum used) (ltb length maximum) (le-ltb maximum used s.enough) (le-ltb length maximum s.room)) none)
 
-  -- the code's answers
+  -- what is answered
   pub capacity_refused : (maximum ≡ 0) ⊎ (4096 < maximum) → refused invalid_reflector_capacity ≡ table_outcome length used maximum
   unfolding table_outcome
   capacity_refused h = refuses (gives used) (is_30 h)
-
-  pub table_refused : 0 < maximum → maximum ≤ 4096 → (maximum < used) ⊎ (length < maximum) → refused malformed_reflector_table ≡ table_outcome length used maximum
-  unfolding table_outcome
-  table_refused above most h = refuses (gives used) (is_31 above most h)
 
   pub table_sound : Sound length used maximum → gives used ≡ table_outcome length used maximum
   unfolding table_outcome

@@ -1,8 +1,6 @@
--- The laws of the session table, what a search of it finds, what the calls' answers and rows are.
+-- What 30 and 31 say of a table, what `==` says, what a search finds, what the calls leave, and the claims.
 pub mod Judging
 pub mod Same
-pub mod Registering
 pub mod Search
 pub mod Calls
-pub mod Means
 pub mod Claims

@@ -1,63 +1,30 @@
--- Addresses compared byte by byte.
-use Prim.Native.Nat.{ℕ, suc, ◌+◌, ◌-◌, ◌<◌}
-use native.Mathlib.Omega.{arith}
-use mathlib.Core.Path.{◌≡◌, ap, ◌∙◌}
-use mathlib.Core.Bool.{Bool, true, false, ◌&&◌}
-use mathlib.Core.List.{List}
-use lib.Dec.{eqb}
-use lib.ListN.{get_or}
-use borrow.Author.Tests.{eq-eqb, ne_eqb}
-use Rattle.field.specs.Field.{same_bytes, bytes_at}
-use Rattle.measurement.specs.Flow.{address_length, address}
-use Rattle.reflector_sessions.specs.Session.{value_of, same_version, same_address, same_session}
+-- What `==` says of two addresses, and of two sessions, is what the definitions say.
+use Rattle.std.proofs.Common.{ℕ, ◌≡◌, List, [], ◌∷◌, ◌&&◌, refl, ap, bytes_eq, eqb}
+use Rattle.field.specs.Field.{same_bytes}
+use Rattle.measurement.specs.Flow.{version_number, address}
+use Rattle.measurement.specs.declared.IpVersion.{IpVersion}
+use Rattle.measurement.specs.declared.IpVersion.TheVariants.{V4, V6}
+use Rattle.reflector_sessions.specs.Session.{value_of, same_version, same_address, compared, lent_compared, same_session}
 use Rattle.reflector_sessions.specs.declared.ReflectorSession.{ReflectorSession}
 use Rattle.reflector_sessions.specs.declared.SocketAddr.{SocketAddr}
 
-module _ (a b : List ℕ) where
-  abbrev from : ℕ → ℕ → Bool
-  from count i = same_bytes (bytes_at count i a) (bytes_at count i b)
+bytes_same : (a b : List ℕ) → bytes_eq a b ≡ same_bytes a b
+bytes_same [] [] = refl
+bytes_same [] (y ∷ b) = refl
+bytes_same (x ∷ a) [] = refl
+bytes_same (x ∷ a) (y ∷ b) = ap (λ t. eqb x y && t) (bytes_same a b)
 
-  pub from_start : (count : ℕ) → from count 0 ≡ from (count - 0) 0
-  from_start count = ap (λ n. from n 0) (let e : count ≡ count - 0 = omega arith in e)
+pub address_same : (a b : SocketAddr) → bytes_eq (compared a) (compared b) ≡ same_address a b
+unfolding same_address
+address_same a b = by a.version b.version
+  where
+    by : (v w : IpVersion) → bytes_eq (version_number v ∷ a.port ∷ address v a.address) (version_number w ∷ b.port ∷ address w b.address)
+        ≡ (same_version v w && (eqb a.port b.port && same_bytes (address v a.address) (address v b.address)))
+    by V4 V4 = ap (λ t. eqb a.port b.port && t) (bytes_same (address V4 a.address) (address V4 b.address))
+    by V4 V6 = refl
+    by V6 V4 = refl
+    by V6 V6 = ap (λ t. eqb a.port b.port && t) (bytes_same (address V6 a.address) (address V6 b.address))
 
-  -- the byte at i, then those behind it
-  step : (count i : ℕ) → i < count → from (count - i) i ≡ eqb (get_or a i 0) (get_or b i 0) && from (count - (i + 1)) (i + 1)
-  step count i l = ap (λ n. from n i) (let e : count - i ≡ suc (count - (i + 1)) = omega arith in e) ∙ ap (λ j. eqb (get_or a i 0) (get_or b i 0) && from (count - (i + 1)) j) (let e : suc i ≡ i + 1 = omega arith in e)
-
-  pub byte_differs : (count i : ℕ) → i < count → (get_or a i 0 ≡ get_or b i 0 → ⊥) → from (count - i) i ≡ false
-  byte_differs count i l ne = step count i l ∙ ap (λ t. t && from (count - (i + 1)) (i + 1)) (ne_eqb (get_or a i 0) (get_or b i 0) ne)
-
-  pub byte_same : (count i : ℕ) → i < count → get_or a i 0 ≡ get_or b i 0 → from (count - i) i ≡ from (count - (i + 1)) (i + 1)
-  byte_same count i l e = step count i l ∙ ap (λ t. t && from (count - (i + 1)) (i + 1)) (eq-eqb (get_or a i 0) (get_or b i 0) e)
-
-  pub all_same : (count i : ℕ) → count - i ≡ 0 → from (count - i) i ≡ true
-  all_same count i e = ap (λ n. from n i) e
-
--- ---- two socket addresses, two sessions: the first difference decides
-
-module _ (a b : SocketAddr) where
-  pub version_differs : same_version a.version b.version ≡ false → false ≡ same_address a b
-  unfolding same_address
-  version_differs e = rw (e, same_address)
-
-  pub port_differs : same_version a.version b.version ≡ true → (a.port ≡ b.port → ⊥) → false ≡ same_address a b
-  unfolding same_address
-  port_differs e ne = rw (e, ne_eqb a.port b.port ne, same_address)
-
-  pub bytes_decide : {n : ℕ} → same_version a.version b.version ≡ true → a.port ≡ b.port → n ≡ address_length a.version
-      → same_bytes (bytes_at n 0 a.address) (bytes_at n 0 b.address) ≡ same_address a b
-  unfolding same_address address
-  bytes_decide e p h = rw (e, eq-eqb a.port b.port p, h, same_address)
-
-module _ (a b : ReflectorSession) where
-  pub local_differs : (a.local_teid ≡ b.local_teid → ⊥) → false ≡ same_session a b
-  unfolding same_session
-  local_differs ne = rw (ne_eqb a.local_teid b.local_teid ne, same_session)
-
-  pub peer_differs : a.local_teid ≡ b.local_teid → (a.peer_teid ≡ b.peer_teid → ⊥) → false ≡ same_session a b
-  unfolding same_session
-  peer_differs e ne = rw (eq-eqb a.local_teid b.local_teid e, ne_eqb a.peer_teid b.peer_teid ne, same_session)
-
-  pub address_decides : a.local_teid ≡ b.local_teid → a.peer_teid ≡ b.peer_teid → same_address (value_of a.peer_addr) (value_of b.peer_addr) ≡ same_session a b
-  unfolding same_session
-  address_decides e f = rw (eq-eqb a.local_teid b.local_teid e, eq-eqb a.peer_teid b.peer_teid f, same_session)
+pub session_same : (a b : ReflectorSession) → (eqb a.local_teid b.local_teid && (eqb a.peer_teid b.peer_teid && bytes_eq (lent_compared a.peer_addr) (lent_compared b.peer_addr))) ≡ same_session a b
+unfolding same_session
+session_same a b = ap (λ t. eqb a.local_teid b.local_teid && (eqb a.peer_teid b.peer_teid && t)) (address_same (value_of a.peer_addr) (value_of b.peer_addr))

@@ -1,115 +1,116 @@
--- What a search of the session table finds: row by row, as the code goes; what that is by the definitions; and of a table.
-use Prim.Native.Nat.{ℕ, suc, ◌+◌, ◌-◌, ◌<◌, ◌≤◌}
-use mathlib.Core.Path.{◌≡◌, refl, sym, ap, ◌∙◌}
-use mathlib.Core.List.{List, [], ◌∷◌}
-use mathlib.Core.Bool.{Bool, true, false}
-use mathlib.Core.Option.{some}
-use native.Mathlib.Omega.{arith}
-use lib.Dec.{eqb, leb-suc-suc}
-use lib.ListN.{length, take, drop, get_or}
-use lib.Seq.{drop-cons, length-take-le}
-use borrow.Author.Tests.{eq-eqb, ne_eqb, lt-ltb}
-use Rattle.error.specs.Outcome.{gives}
+-- What a search finds, by the place that the code looks for.
+use Rattle.std.proofs.Common.{ℕ, suc, ◌≡◌, ◌+◌, ◌<◌, ◌≤◌, ◌==◌, List, [], ◌∷◌, Bool, true, false, not, Option, Some, None, cond, refl, sym, ap, subst, ◌∙◌, arith, length, take, get_or, position, eqb, nat_lt}
+use Rattle.std.specs.List.{position_or_len}
+use lib.Dec.{leb-suc-suc}
+use borrow.Author.Tests.{lt-ltb, ltb-true}
+use lib.Seq.{length-take-le, get_or-take}
+use Rattle.error.specs.Outcome.{refused, gives}
 use Rattle.error.proofs.Causes.{refuses}
-use Rattle.reflector_sessions.specs.Judge.{table_outcome, session_found}
-use Rattle.reflector_sessions.specs.Table.{find, place_of, found_in, searched_count, searched_rows}
-use Rattle.reflector_sessions.specs.declared.FoundSession.{FoundSession}
+use Rattle.reflector_sessions.specs.Judge.{table_outcome}
+use Rattle.reflector_sessions.specs.Session.{no_session}
+use Rattle.reflector_sessions.specs.Table.{Table, used_rows, find, place_of, searched_count, searched_rows, judged_table}
 use Rattle.reflector_sessions.specs.declared.ReflectorSession.{ReflectorSession}
-use Rattle.reflector_sessions.proofs.Judging.{Sound, Judged, unsound, sound, judge, table_sound, searched_none, searched_all}
+use Rattle.reflector_sessions.proofs.Judging.{Sound, Judged, unsound, sound, judge, table_sound, judged_sound, searched_none, searched_all}
 
--- ---- row by row
--- What a search of these rows finds, where other rows stand before them.
-unfoldable pub found_after : ℕ → List ReflectorSession → ℕ → ReflectorSession → FoundSession
-found_after before rows teid missing = record { place = before + place_of teid rows; session = get_or rows (place_of teid rows) missing }
+abbrev pub of_teid : ℕ → ReflectorSession → Bool
+of_teid teid s = s.local_teid == teid
 
-at_place : {p q : ℕ} (session : ReflectorSession) → p ≡ q → ◌≡◌ {A = FoundSession} (record { place = p; session = session }) (record { place = q; session = session })
-at_place session e = ap (λ (k : ℕ). record { place = k; session = session }) e
-
-module _ (teid : ℕ) (missing : ReflectorSession) where
-  pub found_first : (rows : List ReflectorSession) → found_in rows teid missing ≡ found_after 0 rows teid missing
-  unfolding found_in found_after
-  found_first rows = at_place _ (omega arith)
-
-  pub found_none : (before : ℕ) → found_after before [] teid missing ≡ record { place = before; session = missing }
-  unfolding found_after
-  found_none before = at_place _ (omega arith)
-
-  pub found_here : (before : ℕ) (session : ReflectorSession) (rows : List ReflectorSession) → eqb session.local_teid teid ≡ true
-      → found_after before (session ∷ rows) teid missing ≡ record { place = before; session = session }
-  unfolding found_after
-  found_here before session rows e = rw (e, place_of) (at_place _ (omega arith))
-
-  pub found_later : (before : ℕ) (session : ReflectorSession) (rows : List ReflectorSession) → eqb session.local_teid teid ≡ false
-      → found_after before (session ∷ rows) teid missing ≡ found_after (suc before) rows teid missing
-  unfolding found_after
-  found_later before session rows e = rw (e, place_of) (at_place _ (omega arith))
-
--- the rows from i on: row i, then the rest
-pub rows_from : (ys : List ReflectorSession) (i left : ℕ) (beyond : ReflectorSession) → i < length ys → take (suc left) (drop i ys) ≡ get_or ys i beyond ∷ take left (drop (suc i) ys)
-rows_from ys i left beyond h = ap (take (suc left)) (drop-cons ys i beyond h)
-
--- the rows from i on, of the first `rows`
-left_from : (ys : List ReflectorSession) (rows i : ℕ) (beyond : ReflectorSession) → i < rows → rows ≤ length ys
-    → take (rows - i) (drop i ys) ≡ get_or ys i beyond ∷ take (rows - (i + 1)) (drop (suc i) ys)
-left_from ys rows i beyond l within =
-    ap (λ (n : ℕ). take n (drop i ys)) (let e : rows - i ≡ suc (rows - (i + 1)) = omega arith in e) ∙ rows_from ys i (rows - (i + 1)) beyond (omega arith)
-
--- What the code answers: with i rows passed, what row i and the rows after it decide.
-module _ (ys : List ReflectorSession) (rows teid : ℕ) (missing : ReflectorSession) where
-  pub none_passed : found_in (take rows ys) teid missing ≡ found_after 0 (take (rows - 0) ys) teid missing
-  none_passed =
-      found_first teid missing (take rows ys)
-      ∙ ap (λ (n : ℕ). found_after 0 (take n ys) teid missing) (let e : rows ≡ rows - 0 = omega arith in e)
-
-  module _ (i : ℕ) (beyond : ReflectorSession) (l : i < rows) (within : rows ≤ length ys) where
-    pub row_found : (get_or ys i beyond).local_teid ≡ teid
-        → found_after i (take (rows - i) (drop i ys)) teid missing ≡ record { place = i; session = get_or ys i beyond }
-    row_found e =
-        ap (λ (zs : List ReflectorSession). found_after i zs teid missing) (left_from ys rows i beyond l within)
-        ∙ found_here teid missing i (get_or ys i beyond) _ (eq-eqb _ teid e)
-
-    pub row_passed : ((get_or ys i beyond).local_teid ≡ teid → ⊥)
-        → found_after i (take (rows - i) (drop i ys)) teid missing ≡ found_after (i + 1) (take (rows - (i + 1)) (drop (i + 1) ys)) teid missing
-    row_passed ne =
-        ap (λ (zs : List ReflectorSession). found_after i zs teid missing) (left_from ys rows i beyond l within)
-        ∙ found_later teid missing i (get_or ys i beyond) _ (ne_eqb _ teid ne)
-        ∙ ap (λ (k : ℕ). found_after k (take (rows - (i + 1)) (drop k ys)) teid missing) (let e : suc i ≡ i + 1 = omega arith in e)
-
-  pub all_passed : (i : ℕ) → i ≤ rows → rows ≤ i → found_after i (take (rows - i) (drop i ys)) teid missing ≡ record { place = rows; session = missing }
-  all_passed i l m =
-      ap (λ (n : ℕ). found_after i (take n (drop i ys)) teid missing) (let e : rows - i ≡ 0 = omega arith in e)
-      ∙ found_none teid missing i ∙ at_place missing (omega arith)
-
--- ---- what it found
--- A search's place is a row of its own where the TEID has one, and then its session is that row.
-pub found_is : (rows : List ReflectorSession) (teid : ℕ) (missing : ReflectorSession) → session_found (length rows) (found_in rows teid missing) ≡ find teid rows
-unfolding session_found found_in
-found_is [] teid missing = refl
-found_is (session ∷ rows) teid missing = go (eqb session.local_teid teid) (found_is rows teid missing)
+place_is : (teid : ℕ) (rows : List ReflectorSession) → position_or_len (of_teid teid) rows ≡ place_of teid rows
+place_is teid [] = refl
+place_is teid (s ∷ rows) = by (eqb s.local_teid teid) (place_is teid rows)
   where
-    go : (b : Bool) → session_found (length rows) (found_in rows teid missing) ≡ find teid rows
-        → session_found (length (session ∷ rows)) (record { place = elim b [ true ↦ 0 | false ↦ suc (place_of teid rows) ]; session = get_or (session ∷ rows) (elim b [ true ↦ 0 | false ↦ suc (place_of teid rows) ]) missing }) ≡ elim b [ true ↦ some session | false ↦ find teid rows ]
-    go true h = rw (lt-ltb 0 (suc (length rows)) (omega arith), session_found)
-    go false h = rw (leb-suc-suc (suc (place_of teid rows)) (length rows), session_found) h
+    by : (b : Bool) → position_or_len (of_teid teid) rows ≡ place_of teid rows
+        → cond (not b) (1 + position_or_len (of_teid teid) rows) 0 ≡ elim b [ true ↦ 0 | false ↦ suc (place_of teid rows) ]
+    by true e = refl
+    by false e = omega (arith, e)
 
--- ---- of a table
+-- What the first place of a TEID says, as the code finds it: past the rows reads any `d`.
+module _ (teid : ℕ) (d : ReflectorSession) where
+  found_at : (rows : List ReflectorSession) → find teid rows ≡ cond (nat_lt (place_of teid rows) (length rows)) (Some (get_or rows (place_of teid rows) d)) None
+  found_at [] = refl
+  found_at (s ∷ rows) = by (eqb s.local_teid teid) (found_at rows)
+    where
+      by : (b : Bool) → find teid rows ≡ cond (nat_lt (place_of teid rows) (length rows)) (Some (get_or rows (place_of teid rows) d)) None
+          → elim b [ true ↦ Some s | false ↦ find teid rows ] ≡ cond (nat_lt (elim b [ true ↦ 0 | false ↦ suc (place_of teid rows) ]) (suc (length rows))) (Some (get_or (s ∷ rows) (elim b [ true ↦ 0 | false ↦ suc (place_of teid rows) ]) d)) None
+      by true e = rw (lt-ltb 0 (suc (length rows)) (omega arith))
+      by false e = rw (leb-suc-suc (suc (place_of teid rows)) (length rows)) e
+
+-- no row has it, or this is the first
+data Found (teid : ℕ) (d : ReflectorSession) (rows : List ReflectorSession) : Option ℕ → Type 0 where
+  missing : find teid rows ≡ None → Found teid d rows None
+  here : (place : ℕ) → place ≡ place_of teid rows → place < length rows → find teid rows ≡ Some (get_or rows place d) → Found teid d rows (Some place)
+
+found : (teid : ℕ) (rows : List ReflectorSession) (d : ReflectorSession) {o : Option ℕ} → o ≡ position (of_teid teid) rows → Found teid d rows o
+found teid rows d e = subst (Found teid d rows) (sym e) (rw (place_is teid rows) (by (nat_lt (place_of teid rows) (length rows)) refl (found_at teid d rows)))
+  where
+    by : (b : Bool) → nat_lt (place_of teid rows) (length rows) ≡ b → find teid rows ≡ cond b (Some (get_or rows (place_of teid rows) d)) None → Found teid d rows (cond b (Some (place_of teid rows)) None)
+    by true t q = here (place_of teid rows) refl (ltb-true _ _ t) q
+    by false t q = missing q
+
+-- the first row of a TEID, of the first n rows
+pub record Row (teid n : ℕ) (d : ReflectorSession) (rows : List ReflectorSession) (place : ℕ) : Type 0 where
+  pub is : place ≡ place_of teid (take n rows)
+  pub within : place < n
+  pub found : find teid (take n rows) ≡ Some (get_or rows place d)
+
+pub row : (teid n : ℕ) (d : ReflectorSession) (rows : List ReflectorSession) (place : ℕ) → n ≤ length rows
+    → Some place ≡ position (of_teid teid) (take n rows) → Row teid n d rows place
+row teid n d rows place l e = by (found teid (take n rows) d e)
+  where
+    by : Found teid d (take n rows) (Some place) → Row teid n d rows place
+    by (here p i w f) =
+        let h : place < n = let c = length-take-le n rows l in omega arith in
+        record { is = i; within = h; found = f ∙ ap Some (get_or-take n rows place d h) }
+
+pub no_row : (teid : ℕ) (rows : List ReflectorSession) → None ≡ position (of_teid teid) rows → find teid rows ≡ None
+no_row teid rows e = by (found teid rows no_session e)
+  where
+    by : Found teid no_session rows None → find teid rows ≡ None
+    by (missing f) = f
+
+abbrev pub SoundTable : Table → Type 0
+SoundTable t = Sound (length t.sessions) t.used t.maximum
+
 -- the used rows of a table that is not refused are rows of it
 pub used_within : (rows used maximum : ℕ) → Sound rows used maximum → used ≤ rows
 used_within rows used maximum s = omega (arith, s.enough, s.room)
 
--- No search goes past the table's rows.
-pub searched_within : (rows used maximum : ℕ) → searched_count rows used maximum ≤ rows
-unfolding table_outcome
-searched_within rows used maximum = go (judge rows used maximum)
-  where
-    go : Judged rows used maximum → searched_count rows used maximum ≤ rows
-    go (unsound n h) = omega (arith, searched_none rows used maximum (refuses (gives used) h))
-    go (sound s) = omega (arith, searched_all rows used maximum (table_sound rows used maximum s), used_within rows used maximum s)
+-- a search goes through the used rows, if the table is not refused, and else through none
+module _ (t : Table) where
+  abbrev count : ℕ
+  count = length t.sessions
 
--- What a search of a table that is not refused found is what the TEID means among the used rows.
-pub found_used : (sessions : List ReflectorSession) (used maximum teid : ℕ) (missing : ReflectorSession) → Sound (length sessions) used maximum
-    → session_found used (found_in (searched_rows sessions used maximum) teid missing) ≡ find teid (take used sessions)
-found_used sessions used maximum teid missing s =
-    ap (λ (n : ℕ). session_found used (found_in (take n sessions) teid missing)) (sym (searched_all (length sessions) used maximum (table_sound (length sessions) used maximum s)))
-    ∙ ap (λ (n : ℕ). session_found n (found_in (take used sessions) teid missing)) (sym (length-take-le used sessions (used_within (length sessions) used maximum s)))
-    ∙ found_is (take used sessions) teid missing
+  pub searched_within : searched_count count t.used t.maximum ≤ count
+  unfolding table_outcome
+  searched_within = go (judge count t.used t.maximum)
+    where
+      go : Judged count t.used t.maximum → searched_count count t.used t.maximum ≤ count
+      go (unsound n h) = omega (arith, searched_none count t.used t.maximum (refuses (gives t.used) h))
+      go (sound s) = omega (arith, searched_all count t.used t.maximum (table_sound count t.used t.maximum s), s.enough, s.room)
+
+  pub searched_used : SoundTable t → searched_rows t ≡ used_rows t
+  searched_used s = ap (λ n. take n t.sessions) (sym (searched_all count t.used t.maximum (table_sound count t.used t.maximum s)))
+
+  pub searched_as : {used : ℕ} → gives used ≡ judged_table t → searched_rows t ≡ take used t.sessions
+  searched_as e = ap (λ n. take n t.sessions) (sym (searched_all count t.used t.maximum e))
+
+  pub searched_unsound : {n : ℕ} → refused n ≡ judged_table t → searched_rows t ≡ []
+  searched_unsound e = ap (λ n. take n t.sessions) (sym (searched_none count t.used t.maximum e))
+
+-- What the two calls know: `u` is the table as they read it.
+module _ (t u : Table) (same : u ≡ t) where
+  pub read_refused : {n : ℕ} → refused n ≡ judged_table u → refused n ≡ judged_table t
+  read_refused {n} e = subst (λ x. refused n ≡ judged_table x) same e
+
+  pub read_sound : {used : ℕ} → gives used ≡ judged_table u → SoundTable t × (used ≡ t.used)
+  read_sound {used} e = judged_sound (length t.sessions) t.used t.maximum (subst (λ x. gives used ≡ judged_table x) same e)
+
+  module _ (sound : SoundTable t) (teid : ℕ) where
+    positions : {o : Option ℕ} → o ≡ position (of_teid teid) (searched_rows u) → o ≡ position (of_teid teid) (used_rows t)
+    positions {o} e = subst (λ x. o ≡ position (of_teid teid) (searched_rows x)) same e ∙ ap (position (of_teid teid)) (searched_used t sound)
+
+    pub used_row : (place : ℕ) (d : ReflectorSession) → Some place ≡ position (of_teid teid) (searched_rows u) → Row teid t.used d t.sessions place
+    used_row place d e = row teid t.used d t.sessions place (used_within (length t.sessions) t.used t.maximum sound) (positions e)
+
+    pub no_used_row : None ≡ position (of_teid teid) (searched_rows u) → find teid (used_rows t) ≡ None
+    no_used_row e = no_row teid (used_rows t) (positions e)

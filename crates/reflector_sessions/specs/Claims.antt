@@ -1,6 +1,5 @@
 -- What is claimed of the session table. Proved in proofs/Claims.antt.
-use Rattle.std.specs.Prelude.{ℕ, ◌<◌, ◌≡◌, true, false, List, length, get_or}
-use Rattle.std.proofs.Math.Option.{some, none}
+use Rattle.std.specs.Prelude.{ℕ, ◌<◌, ◌≡◌, true, false, List, length, get_or, Some, None}
 use Rattle.error.specs.Outcome.{gives}
 use Rattle.reflector_sessions.specs.Session.{no_session, same_session}
 use Rattle.reflector_sessions.specs.Table.{Table, used_rows, find, place_of}
@@ -19,20 +18,20 @@ Unique rows = (i j : ℕ) → i < j → j < length rows → teid_at i rows ≡ t
 -- A session that was appended is the one that its TEID means,
 abbrev pub AddedIsFound : Type 0
 AddedIsFound = (t : Table) (session : ReflectorSession) → (register_session t session).outcome ≡ gives true
-    → find session.local_teid (used_rows (register_session t session).table) ≡ some session
+    → find session.local_teid (used_rows (register_session t session).table) ≡ Some session
 
 -- and where nothing was appended, the TEID means the same record.
 abbrev pub UnchangedIsFound : Type 0
 UnchangedIsFound = (t : Table) (session : ReflectorSession) → (register_session t session).outcome ≡ gives false
     → (existing : ReflectorSession)
-    × (find session.local_teid (used_rows (register_session t session).table) ≡ some existing)
+    × (find session.local_teid (used_rows (register_session t session).table) ≡ Some existing)
     × (same_session existing session ≡ true)
 
 -- A session that was removed is not found again, where no other used row had its TEID.
 abbrev pub RemovedIsNotFound : Type 0
 RemovedIsNotFound = (t : Table) (teid : ℕ) (session : ReflectorSession) → Unique (used_rows t)
-    → (remove_session t teid).outcome ≡ gives (some session)
-    → find teid (used_rows (remove_session t teid).table) ≡ none
+    → (remove_session t teid).outcome ≡ gives (Some session)
+    → find teid (used_rows (remove_session t teid).table) ≡ None
 
 -- No call leaves two used rows of one TEID where there were none before.
 abbrev pub StaysUnique : Type 0

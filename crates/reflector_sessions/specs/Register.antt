@@ -1,15 +1,16 @@
 -- Registering (the Rust's `register_session`): document 01, leaf 9, with the card's numbers 30 to 34.
-use Rattle.std.specs.Prelude.{ℕ, ◌+◌, ◌≡◌, List, [], ◌∷◌, Bool, true, false, not, ◌||◌, eqb, length}
-use Rattle.std.proofs.Math.Option.{Option, some, none}
+use Rattle.std.specs.Prelude.{ℕ, ◌≡◌, [], ◌∷◌, Bool, true, false, not, ◌||◌, eqb, length}
+use Rattle.std.specs.Prelude.{Option, Some, None, Result, Ok, Err}
+use Rattle.error.specs.Answer.{number_of}
 use Rattle.error.specs.Number.{invalid_reflector_session, reflector_session_conflict, reflector_session_capacity_exceeded}
 use Rattle.error.specs.Outcome.{Outcome, refused, gives, ◌⇒◌, first_cause}
+use Rattle.error.specs.declared.Refusal.{Refusal}
 use Rattle.reflector_sessions.specs.Judge.{table_causes}
 use Rattle.reflector_sessions.specs.declared.ReflectorSession.{ReflectorSession}
 use Rattle.reflector_sessions.specs.Session.{same_session}
 use Rattle.reflector_sessions.specs.Table.{Table, used_rows, find, appended}
-use Rattle.reflector_sessions.specs.declared.Registered.{Registered}
 use Rattle.reflector_sessions.specs.declared.Registration.{Registration}
-use Rattle.reflector_sessions.specs.declared.Registration.TheVariants.{Added, Unchanged, Refused}
+use Rattle.reflector_sessions.specs.declared.Registration.TheVariants.{Added, Unchanged}
 
 -- "TEID or port 0"
 unfoldable pub invalid_session : ReflectorSession → Bool
@@ -22,9 +23,9 @@ session_outcome used maximum existing session =
     first_cause ((invalid_session session ⇒ invalid_reflector_session) ∷ [])
     (elim existing [
       -- "other record with this local TEID"
-      | some other ↦ first_cause ((not (same_session other session) ⇒ reflector_session_conflict) ∷ []) (gives false)
+      | Some other ↦ first_cause ((not (same_session other session) ⇒ reflector_session_conflict) ∷ []) (gives false)
       -- "used equals maximum"
-      | none ↦ first_cause ((eqb used maximum ⇒ reflector_session_capacity_exceeded) ∷ []) (gives true)
+      | None ↦ first_cause ((eqb used maximum ⇒ reflector_session_capacity_exceeded) ∷ []) (gives true)
     ])
 
 -- "Registering: 30, 31, 32, .."
@@ -49,27 +50,12 @@ register_session t session =
     record { outcome = outcome; table = registered_table outcome session t }
 
 -- What each case of the answer means: whether the session is appended, or a refusal.
-abbrev pub registration_means : Registration → Outcome Bool
-registration_means Added = gives true
-registration_means Unchanged = gives false
-registration_means (Refused number) = refused number
+abbrev pub registration_means : Result Registration Refusal → Outcome Bool
+registration_means (Ok Added) = gives true
+registration_means (Ok Unchanged) = gives false
+registration_means (Err refusal) = refused (number_of refusal)
 
--- And back: the answer to each outcome.
-abbrev pub registration_of : Outcome Bool → Registration
-registration_of (refused number) = Refused number
-registration_of (gives false) = Unchanged
-registration_of (gives true) = Added
-
-abbrev pub used_after : Outcome Bool → ℕ → ℕ
-used_after (refused number) used = used
-used_after (gives false) used = used
-used_after (gives true) used = used + 1
-
-abbrev pub registered_of : Outcome Bool → ℕ → Registered
-registered_of outcome used = record { registration = registration_of outcome; used = used_after outcome used }
-
--- A call's answer and the rows as it leaves them are those of a registering.
-pub record Registers (r : Registered) (rows : List ReflectorSession) (to : Registering) : Type 0 where
-  pub outcome : registration_means r.registration ≡ to.outcome
-  pub used : r.used ≡ to.table.used
-  pub sessions : rows ≡ to.table.sessions
+-- A call's answer and the table as it leaves it are those of a registering.
+pub record Registers (result : Result Registration Refusal) (after : Table) (to : Registering) : Type 0 where
+  pub outcome : registration_means result ≡ to.outcome
+  pub table : after ≡ to.table

@@ -1,7 +1,7 @@
 -- When two sessions are the same record: document 01, leaf 9, "same record (nothing changes) or 33".
-use Rattle.std.specs.Prelude.{Bool, true, false, ◌&&◌, eqb, replicate}
+use Rattle.std.specs.Prelude.{ℕ, List, ◌∷◌, Bool, true, false, ◌&&◌, eqb, replicate}
 use Rattle.field.specs.Field.{same_bytes}
-use Rattle.measurement.specs.Flow.{version_numbered, address}
+use Rattle.measurement.specs.Flow.{version_numbered, version_number, address}
 use Rattle.measurement.specs.declared.IpVersion.{IpVersion}
 use Rattle.measurement.specs.declared.IpVersion.TheVariants.{V4, V6}
 use Rattle.reflector_sessions.specs.declared.LentSocketAddr.{LentSocketAddr}
@@ -31,6 +31,14 @@ unfoldable pub same_address : SocketAddr → SocketAddr → Bool
 same_address a b =
     same_version a.version b.version
     && (eqb a.port b.port && same_bytes (address a.version a.address) (address a.version b.address))
+
+-- What `==` reads of an address: version, port, and the bytes that count. That this is `same_address` is proved in
+-- proofs/Same.antt.
+abbrev pub compared : SocketAddr → List ℕ
+compared a = version_number a.version ∷ a.port ∷ address a.version a.address
+
+abbrev pub lent_compared : LentSocketAddr → List ℕ
+lent_compared a = compared (value_of a)
 
 unfoldable pub same_session : ReflectorSession → ReflectorSession → Bool
 same_session a b = eqb a.local_teid b.local_teid

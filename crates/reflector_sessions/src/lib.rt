@@ -1,20 +1,23 @@
 // The reflector's sessions (leaf 9; the Rust's reflector.rs): a lent slice of records with a used count and a maximum,
-// and the calls that register a session and remove one. The functions over the slice are thin: they look for a row,
-// append one, or move one, and what is answered is decided by value. Each call's contract is one definition of specs/:
-// the answer and the whole table, on refusals too.
+// and the calls that find a session, register one and remove one. Each call's contract is one definition of specs/: the
+// answer and the whole table, on refusals too.
 #![tactic(auto)]
 
-ghost use Rattle.std.specs.Prelude.{◌≡◌, ◌<◌, ◌≤◌, ltb, length, take, get_or};
-ghost use Rattle.field.specs.Field.{same_bytes, bytes_at};
-ghost use Rattle.reflector_sessions.specs.Session.{value_of, no_session, same_version, same_address, same_session};
-ghost use Rattle.reflector_sessions.specs.Judge.{table_outcome, judged_means, session_found};
-ghost use Rattle.reflector_sessions.specs.Table.{table_of, found_in, searched_count, searched_rows, put_if};
-ghost use Rattle.reflector_sessions.specs.Register.{invalid_session, session_outcome, register_outcome};
-ghost use Rattle.reflector_sessions.specs.Register.{register_session, registration_of, registered_of, Registers};
+ghost use Rattle.std.specs.Prelude.{◌≡◌, ◌==◌, position, bytes_eq};
+ghost use Rattle.std.specs.Cmp.{on_per, partial_equiv_from_equiv};
+ghost use Rattle.std.specs.Cmp.Lexicographic.{nat_list_eq_equiv};
+ghost use Rattle.std.specs.Ordering.{on};
+ghost use Rattle.error.specs.Answer.{answered};
+ghost use Rattle.measurement.specs.Flow.{address};
+ghost use Rattle.reflector_sessions.specs.Session.{value_of, compared, lent_compared};
+ghost use Rattle.reflector_sessions.specs.Judge.{table_outcome};
+ghost use Rattle.reflector_sessions.specs.Table.{table_read, table_lent, SameRows, judged_table, find, searched_rows};
+ghost use Rattle.reflector_sessions.specs.Register.{invalid_session, register_session, Registers};
 ghost use Rattle.reflector_sessions.specs.Claims.{AddedIsFound, UnchangedIsFound, RemovedIsNotFound, StaysUnique};
 ghost use Rattle.reflector_sessions.specs.Claims.{OtherRowsKept};
-ghost use Rattle.reflector_sessions.specs.Remove.{remove_outcome, remove_session, removed_of, Removes};
+ghost use Rattle.reflector_sessions.specs.Remove.{remove_session, Removes};
 
+use error::Refusal;
 use measurement::IpVersion;
 
 // A UDP socket address: the Rust's `SocketAddr`, where flow info and scope are 0. Of an IPv4 address only the first 4
@@ -24,6 +27,30 @@ pub struct SocketAddr {
     pub version: IpVersion,
     pub address: [u8; 16],
     pub port: u16,
+}
+
+impl SocketAddr {
+    // The bytes of the address that count.
+    fn counted(&self) -> &[u8]
+        ensures { result.now ≡ address self.now.version self.now.address }
+    {
+        match self.version {
+            IpVersion::V4 => &self.address[..4],
+            IpVersion::V6 => &self.address,
+        }
+    }
+}
+
+impl PartialEq for SocketAddr {
+    ghost eq = { on compared bytes_eq };
+
+    ghost laws = { on_per compared (partial_equiv_from_equiv nat_list_eq_equiv) };
+
+    fn eq(&self, other: &SocketAddr) -> bool {
+        self.version == other.version
+            && self.port == other.port
+            && self.counted() == other.counted()
+    }
 }
 
 // A `SocketAddr` in lent memory, where any byte may stand: the version is a number, 4 for IPv4 and every other for
@@ -36,382 +63,182 @@ pub struct LentSocketAddr {
     pub port: u16,
 }
 
+// The address that it holds.
+impl From<LentSocketAddr> for SocketAddr {
+    ghost from_gives = { λ lent address. address ≡ value_of lent };
+
+    fn from(lent: LentSocketAddr) -> Self {
+        let address = lent.address;
+        Self {
+            version: IpVersion::from(lent.version),
+            address,
+            port: lent.port,
+        }
+    }
+}
+
+impl PartialEq for LentSocketAddr {
+    ghost eq = { on lent_compared bytes_eq };
+
+    ghost laws = { on_per lent_compared (partial_equiv_from_equiv nat_list_eq_equiv) };
+
+    fn eq(&self, other: &LentSocketAddr) -> bool {
+        SocketAddr::from(*self) == SocketAddr::from(*other)
+    }
+}
+
 // A session: under the policy `Echo`, G-PDUs for the local TEID are echoed to the peer's TEID and address.
 #[repr(C)]
-#[derive(Clone, Copy)]
+#[derive(Clone, Copy, PartialEq)]
 pub struct ReflectorSession {
     pub local_teid: u32,
     pub peer_teid: u32,
     pub peer_addr: LentSocketAddr,
 }
 
-impl LentSocketAddr {
-    // The address that it holds.
-    pub fn value(self) -> SocketAddr
-        ensures { result ≡ value_of self }
+impl ReflectorSession {
+    // 32: whether a TEID or the port is 0.
+    #[tactic(auto, unfolding(crate::specs::Register::invalid_session))]
+    fn is_invalid(self) -> bool
+        ensures { result ≡ invalid_session self }
     {
-        let address = self.address;
-        SocketAddr {
-            version: measurement::version_of(self.version),
-            address: address,
-            port: self.port,
-        }
+        self.local_teid == 0 || self.peer_teid == 0 || self.peer_addr.port == 0
     }
 }
 
-// A table judged: how many rows are used, or why it is refused.
+// A session table that is lent to be read: the rows, how many of them are used, and how many may be.
 #[derive(Clone, Copy)]
-pub enum JudgedTable {
-    Used(usize),
-    Refused(u8),
+pub struct Sessions<'a> {
+    pub rows: &'a [ReflectorSession],
+    pub used: usize,
+    pub max_sessions: usize,
 }
 
-// A search's result: the first row of a TEID, and its place. Where there is none, the place is past the rows searched.
-#[derive(Clone, Copy)]
-pub struct FoundSession {
-    pub place: usize,
-    pub session: ReflectorSession,
+// A session table that is lent to be changed.
+#[derive(Drop)]
+pub struct SessionTable<'a> {
+    pub rows: &'a mut [ReflectorSession],
+    pub used: usize,
+    pub max_sessions: usize,
 }
 
-// Whether a session was registered: appended, there already, or refused.
-#[derive(Clone, Copy)]
+// Whether a session was appended, or was there already.
+#[derive(Clone, Copy, Debug, PartialEq, Eq)]
 pub enum Registration {
     Added,
     Unchanged,
-    Refused(u8),
-}
-
-// What registering answers, and the used count that it leaves.
-#[derive(Clone, Copy)]
-pub struct Registered {
-    pub registration: Registration,
-    pub used: usize,
-}
-
-// Whether a session was removed.
-#[derive(Clone, Copy)]
-pub enum Removal {
-    Removed,
-    NotFound,
-    Refused(u8),
-}
-
-// What removal answers, the used count that it leaves, and the session that was removed, or zeros.
-#[derive(Clone, Copy)]
-pub struct RemovedSession {
-    pub removal: Removal,
-    pub used: usize,
-    pub session: ReflectorSession,
-}
-
-// The first of the first `rows` rows that has this TEID, and its place; past the rows and `missing` if none has it.
-fn first_row(
-    sessions: &[ReflectorSession],
-    rows: usize,
-    local_teid: u32,
-    missing: ReflectorSession,
-) -> FoundSession
-    requires { rows ≤ length sessions.now }
-    ensures { result ≡ found_in (take rows sessions.now) local_teid missing }
-{
-    let mut i = 0;
-    while i < rows {
-        if sessions[i].local_teid == local_teid {
-            return FoundSession {
-                place: i,
-                session: sessions[i],
-            };
-        }
-        i += 1;
-    }
-    FoundSession {
-        place: rows,
-        session: missing,
-    }
-}
-
-// Writes the session to the row past the used ones, if the used count is to grow.
-fn append(
-    sessions: &mut [ReflectorSession],
-    used: usize,
-    used_next: usize,
-    session: ReflectorSession,
-)
-    requires { used < used_next → used < length sessions.old }
-    ensures { sessions.new ≡ put_if (ltb used used_next) used session sessions.old }
-{
-    if used < used_next {
-        sessions[used] = session;
-    }
-}
-
-// Moves the last used row into the hole, if the used count is to fall.
-fn swap_remove(sessions: &mut [ReflectorSession], used: usize, used_next: usize, hole: usize)
-    requires { used_next < used → (hole < length sessions.old) × (used_next < length sessions.old) }
-    ensures { sessions.new
-        ≡ put_if (ltb used_next used) hole (get_or sessions.old used_next no_session) sessions.old }
-{
-    if used_next < used {
-        sessions[hole] = sessions[used_next];
-    }
-}
-
-// What stands where there is no session.
-fn no_session() -> ReflectorSession
-    ensures { result ≡ no_session }
-{
-    ReflectorSession {
-        local_teid: 0,
-        peer_teid: 0,
-        peer_addr: LentSocketAddr {
-            version: 0,
-            address: [0; 16],
-            port: 0,
-        },
-    }
 }
 
 // The most sessions that a reflector may be set up for: the Rust's `MAX_REFLECTOR_SESSIONS`.
 pub const MAXIMUM_SESSIONS: usize = 4096;
 
-// Judges 30, then 31, for a table of this length.
-pub fn judge_table(length: usize, used: usize, max_sessions: usize) -> JudgedTable
-    ensures { judged_means result ≡ table_outcome length used max_sessions }
+// Judges 30, then 31, for a table of this length; else it answers how many rows are used.
+pub fn judge_table(length: usize, used: usize, max_sessions: usize) -> Result<usize, Refusal>
+    ensures { answered result ≡ table_outcome length used max_sessions }
 {
     if max_sessions == 0 || MAXIMUM_SESSIONS < max_sessions {
-        return JudgedTable::Refused(error::INVALID_REFLECTOR_CAPACITY);
+        return Err(Refusal::InvalidReflectorCapacity);
     }
     if max_sessions < used || length < max_sessions {
-        return JudgedTable::Refused(error::MALFORMED_REFLECTOR_TABLE);
+        return Err(Refusal::MalformedReflectorTable);
     }
-    JudgedTable::Used(used)
+    Ok(used)
 }
 
-// How many rows a search goes through: none of a table that is refused.
-fn searched_count(length: usize, used: usize, max_sessions: usize) -> usize
-    ensures { result ≡ searched_count length used max_sessions }
+// The place of the first row of this TEID.
+fn place_in(rows: &[ReflectorSession], local_teid: u32) -> Option<usize>
+    ensures { result ≡ position (λ s. s.local_teid == local_teid) rows.now }
 {
-    match judge_table(length, used, max_sessions) {
-        JudgedTable::Refused(_) => 0,
-        JudgedTable::Used(rows) => rows,
-    }
+    rows.iter().position(|row| row.local_teid == local_teid)
 }
 
-fn same_version(a: IpVersion, b: IpVersion) -> bool
-    ensures { result ≡ same_version a b }
-{
-    match a {
-        IpVersion::V4 => match b {
-            IpVersion::V4 => true,
-            IpVersion::V6 => false,
-        },
-        IpVersion::V6 => match b {
-            IpVersion::V4 => false,
-            IpVersion::V6 => true,
-        },
+impl Sessions<'_> {
+    // Judges 30, then 31; else it answers how many rows are used.
+    pub fn judge(self) -> Result<usize, Refusal>
+        ensures { answered result ≡ judged_table (table_read self.entry) }
+    {
+        judge_table(self.rows.len(), self.used, self.max_sessions)
     }
-}
 
-// Whether the first bytes of two addresses are the same.
-fn same_bytes(count: usize, a: [u8; 16], b: [u8; 16]) -> bool
-    requires { count ≤ 16 }
-    ensures { result ≡ same_bytes (bytes_at count 0 a) (bytes_at count 0 b) }
-{
-    let mut i = 0;
-    while i < count {
-        if a[i] != b[i] {
-            return false;
-        }
-        i += 1;
-    }
-    true
-}
-
-fn same_address(a: SocketAddr, b: SocketAddr) -> bool
-    ensures { result ≡ same_address a b }
-{
-    let version = a.version;
-    let other = b.version;
-    if !same_version(version, other) {
-        return false;
-    }
-    if a.port != b.port {
-        return false;
-    }
-    let bytes = a.address;
-    let other_bytes = b.address;
-    match version {
-        IpVersion::V4 => same_bytes(4, bytes, other_bytes),
-        IpVersion::V6 => same_bytes(16, bytes, other_bytes),
+    // The place of the first used row of this TEID. A table that is refused has none.
+    fn place(self, local_teid: u32) -> Option<usize>
+        ensures { result ≡ position (λ s. s.local_teid == local_teid) (searched_rows (table_read self.entry)) }
+    {
+        let Ok(used) = self.judge() else {
+            return None;
+        };
+        place_in(&self.rows[..used], local_teid)
     }
 }
 
-fn same_session(a: ReflectorSession, b: ReflectorSession) -> bool
-    ensures { result ≡ same_session a b }
-{
-    if a.local_teid != b.local_teid {
-        return false;
-    }
-    if a.peer_teid != b.peer_teid {
-        return false;
-    }
-    let address = a.peer_addr;
-    let other = b.peer_addr;
-    same_address(address.value(), other.value())
-}
-
-// 32: whether a TEID or the port is 0.
-fn invalid_session(session: ReflectorSession) -> bool
-    ensures { result ≡ invalid_session session }
-{
-    if session.local_teid == 0 {
-        return true;
-    }
-    if session.peer_teid == 0 {
-        return true;
-    }
-    let address = session.peer_addr;
-    address.port == 0
-}
-
-// The outcome of registering where the table is not refused: 32, then same record or 33, then 34.
-fn judge_session(
-    used: usize,
-    max_sessions: usize,
-    found: FoundSession,
-    session: ReflectorSession,
-) -> Registration
-    ensures { result ≡ registration_of (session_outcome used max_sessions (session_found used found) session) }
-{
-    if invalid_session(session) {
-        return Registration::Refused(error::INVALID_REFLECTOR_SESSION);
-    }
-    if found.place < used {
-        if same_session(found.session, session) {
-            return Registration::Unchanged;
-        }
-        return Registration::Refused(error::REFLECTOR_SESSION_CONFLICT);
-    }
-    if used == max_sessions {
-        return Registration::Refused(error::REFLECTOR_SESSION_CAPACITY_EXCEEDED);
-    }
-    Registration::Added
-}
-
-// What registering answers, given what the search found.
-fn answer_registration(
-    length: usize,
-    used: usize,
-    max_sessions: usize,
-    found: FoundSession,
-    session: ReflectorSession,
-) -> Registered
-    ensures { result ≡ registered_of (register_outcome length used max_sessions (session_found used found) session)
-        used }
-{
-    match judge_table(length, used, max_sessions) {
-        JudgedTable::Refused(number) => Registered {
-            registration: Registration::Refused(number),
-            used: used,
-        },
-        JudgedTable::Used(_) => {
-            let answer = judge_session(used, max_sessions, found, session);
-            match answer {
-                Registration::Added => Registered {
-                    registration: answer,
-                    used: used + 1,
-                },
-                Registration::Unchanged => Registered {
-                    registration: answer,
-                    used: used,
-                },
-                Registration::Refused(_) => Registered {
-                    registration: answer,
-                    used: used,
-                },
-            }
+impl SessionTable<'_> {
+    // The table, to be read.
+    pub fn read(&self) -> Sessions<'_>
+        ensures { table_read result ≡ table_lent self.now }
+    {
+        Sessions {
+            rows: self.rows,
+            used: self.used,
+            max_sessions: self.max_sessions,
         }
     }
 }
 
-// What removal answers, given what the search found.
-fn answer_removal(
-    length: usize,
-    used: usize,
-    max_sessions: usize,
-    found: FoundSession,
-) -> RemovedSession
-    ensures { result ≡ removed_of (remove_outcome length used max_sessions (session_found used found)) used }
+// Looks for the session of a TEID among the used rows. A table that is refused has none.
+pub fn find_session(sessions: Sessions, local_teid: u32) -> Option<ReflectorSession>
+    ensures { result ≡ find local_teid (searched_rows (table_read sessions.entry)) }
 {
-    match judge_table(length, used, max_sessions) {
-        JudgedTable::Refused(number) => RemovedSession {
-            removal: Removal::Refused(number),
-            used: used,
-            session: no_session(),
-        },
-        JudgedTable::Used(_) => {
-            if found.place < used {
-                let session = found.session;
-                return RemovedSession {
-                    removal: Removal::Removed,
-                    used: used - 1,
-                    session: session,
-                };
-            }
-            RemovedSession {
-                removal: Removal::NotFound,
-                used: used,
-                session: no_session(),
-            }
-        }
-    }
-}
-
-// Looks for the session of a TEID among the used rows.
-pub fn find_session(
-    sessions: &[ReflectorSession],
-    used: usize,
-    max_sessions: usize,
-    local_teid: u32,
-) -> FoundSession
-    ensures { result ≡ found_in (searched_rows sessions.now used max_sessions) local_teid no_session }
-{
-    let rows = searched_count(sessions.len(), used, max_sessions);
-    let missing = no_session();
-    first_row(sessions, rows, local_teid, missing)
+    let place = sessions.place(local_teid)?;
+    Some(sessions.rows[place])
 }
 
 // Registers a session: 30, 31, 32; the same record changes nothing, another of its TEID is refused by 33; 34; else it
 // is appended.
 pub fn register_session(
-    sessions: &mut [ReflectorSession],
-    used: usize,
-    max_sessions: usize,
+    table: &mut SessionTable,
     session: ReflectorSession,
-) -> Registered
-    ensures { Registers result sessions.new
-        (register_session (table_of sessions.old used max_sessions) session) }
+) -> Result<Registration, Refusal>
+    ensures registers { Registers result (table_lent table.new)
+        (register_session (table_lent table.old) session) }
+    ensures same { SameRows table.old table.new }
 {
-    let found = find_session(sessions, used, max_sessions, session.local_teid);
-    let answer = answer_registration(sessions.len(), used, max_sessions, found, session);
-    append(sessions, used, answer.used, session);
-    answer
+    let used = table.read().judge()?;
+    if session.is_invalid() {
+        return Err(Refusal::InvalidReflectorSession);
+    }
+    if let Some(place) = table.read().place(session.local_teid) {
+        if table.rows[place] == session {
+            return Ok(Registration::Unchanged);
+        }
+        return Err(Refusal::ReflectorSessionConflict);
+    }
+    if used == table.max_sessions {
+        return Err(Refusal::ReflectorSessionCapacityExceeded);
+    }
+    table.rows[used] = session;
+    table.used = used + 1;
+    Ok(Registration::Added)
 }
 
 // Removes the session of a TEID: 30, 31, then the record or none. The last used row is moved into the hole.
 pub fn remove_session(
-    sessions: &mut [ReflectorSession],
-    used: usize,
-    max_sessions: usize,
+    table: &mut SessionTable,
     local_teid: u32,
-) -> RemovedSession
-    ensures { Removes result sessions.new
-        (remove_session (table_of sessions.old used max_sessions) local_teid) }
+) -> Result<Option<ReflectorSession>, Refusal>
+    ensures removes { Removes result (table_lent table.new)
+        (remove_session (table_lent table.old) local_teid) }
+    ensures same { SameRows table.old table.new }
 {
-    let found = find_session(sessions, used, max_sessions, local_teid);
-    let answer = answer_removal(sessions.len(), used, max_sessions, found);
-    swap_remove(sessions, used, answer.used, found.place);
-    answer
+    let used = table.read().judge()?;
+    match table.read().place(local_teid) {
+        None => Ok(None),
+        Some(hole) => {
+            let removed = table.rows[hole];
+            table.rows[hole] = table.rows[used - 1];
+            table.used = used - 1;
+            Ok(Some(removed))
+        }
+    }
 }
 
 // Carries that a session is found after it was registered, and not after it was removed.
@@ -420,6 +247,7 @@ pub fn registered_until_removed()
 {}
 
 // Carries that a call leaves no two used rows with the same TEID, if there were none before.
+#[tactic(auto, using(crate::proofs::Claims::stays_unique))]
 pub fn teids_stay_unique()
     ensures { StaysUnique }
 {}

@@ -1,21 +1,12 @@
--- `reflector_sessions::find_session` meets its contract.
-use Prim.Native.Nat.{ℕ, ◌≤◌}
-use mathlib.Core.Path.{sym, ap, subst, ◌∙◌}
-use lib.ListN.{length, take}
-use Rattle.reflector_sessions.specs.Table.{found_in, searched_rows}
-use Rattle.reflector_sessions.specs.declared.ReflectorSession.{ReflectorSession}
-use Rattle.reflector_sessions.proofs.Search.{searched_within}
+use Rattle.std.proofs.Common.{sym, ◌∙◌, length}
+use Rattle.reflector_sessions.specs.Table.{table_read, searched_rows, searched_count}
+use Rattle.reflector_sessions.proofs.Search.{row, no_row, searched_within}
 use Rattle.reflector_sessions.proofs.find_session.Goals as goal
 
-pub first_row-requires : goal.first_row-requires
-first_row-requires c =
-    let a = c.args in
-    subst (λ (n : ℕ). n ≤ length a.sessions.now) (sym c.searched_count-rows.ensures)
-    (searched_within (length a.sessions.now) a.used a.max_sessions)
+pub returns-in_err-place : goal.returns-in_err-place
+returns-in_err-place c = c.from_residual.ensures ∙ sym (no_row c.args.local_teid (searched_rows (table_read c.args.sessions)) c.in_err-place.ensures)
 
 pub returns : goal.returns
 returns c =
-    let a = c.args in
-    c.first_row.ensures
-    ∙ ap (λ (n : ℕ). found_in (take n a.sessions.now) a.local_teid c.no_session-missing.result) c.searched_count-rows.ensures
-    ∙ ap (λ (s : ReflectorSession). found_in (searched_rows a.sessions.now a.used a.max_sessions) a.local_teid s) c.no_session-missing.ensures
+    let t = table_read c.args.sessions in
+    sym (row c.args.local_teid (searched_count (length t.sessions) t.used t.maximum) _ t.sessions c.in_ok-place.place (searched_within t) c.in_ok-place.ensures).found

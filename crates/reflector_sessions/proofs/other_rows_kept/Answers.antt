@@ -1,4 +1,3 @@
--- `reflector_sessions::other_rows_kept` meets its contract.
 use Rattle.reflector_sessions.proofs.Claims.{other_rows_kept}
 use Rattle.reflector_sessions.proofs.other_rows_kept.Goals as goal
 

@@ -1,34 +1,59 @@
--- `reflector_sessions::register_session` meets its contract.
-use Prim.Native.Nat.{◌<◌}
-use mathlib.Core.Path.{◌≡◌, sym, ap, subst, ◌∙◌}
-use mathlib.Core.List.{List}
-use lib.Dec.{ltb}
-use lib.ListN.{length}
-use Rattle.reflector_sessions.specs.Judge.{session_found}
-use Rattle.reflector_sessions.specs.Register.{register_outcome, register_session, registered_of, Registers}
-use Rattle.reflector_sessions.specs.Table.{table_of, put_if}
-use Rattle.reflector_sessions.specs.declared.FoundSession.{FoundSession}
-use Rattle.reflector_sessions.specs.declared.Registered.{Registered}
-use Rattle.reflector_sessions.specs.declared.ReflectorSession.{ReflectorSession}
-use Rattle.reflector_sessions.proofs.Calls.{registration, appends, registers}
+use Rattle.std.proofs.Common.{sym, ◌∙◌, arith}
+use Rattle.std.proofs.lemmas.Result.{err_from_is_err_and}
+use Rattle.reflector_sessions.specs.Table.{table_lent}
+use Rattle.reflector_sessions.proofs.Calls.{unsound_refused, invalid_refused, same_kept, other_refused, full_refused, added}
+use Rattle.reflector_sessions.proofs.Same.{session_same}
+use Rattle.reflector_sessions.proofs.Search.{read_refused, read_sound, used_row, no_used_row}
 use Rattle.reflector_sessions.proofs.register_session.Goals as goal
 
-pub append-requires : goal.append-requires
-append-requires c =
-    let a = c.args in
-    let ys = a.sessions.now in
-    let e : c.answer_registration-answer.result ≡ registration ys a.used a.max_sessions a.session =
-    c.answer_registration-answer.ensures
-    ∙ ap (λ (f : FoundSession). registered_of (register_outcome (length ys) a.used a.max_sessions (session_found a.used f) a.session) a.used) c.find_session-found.ensures in
-    subst (λ (r : Registered). a.used < r.used → a.used < length ys) (sym e) (appends ys a.used a.max_sessions a.session)
+pub returns-in_err-used-clause-registers : goal.returns-in_err-used-clause-registers
+returns-in_err-used-clause-registers c =
+    let p = err_from_is_err_and c.from_residual.result c.from_residual.ensures.1 in
+    rw (p.1, p.2) (unsound_refused (table_lent c.args.table.now) c.args.session _ (read_refused _ _ c.read.ensures c.in_err-used.ensures))
 
-pub returns : goal.returns
-returns c =
-    let a = c.args in
-    let ys = a.sessions.now in
-    let e : c.answer_registration-answer.result ≡ registration ys a.used a.max_sessions a.session =
-    c.answer_registration-answer.ensures
-    ∙ ap (λ (f : FoundSession). registered_of (register_outcome (length ys) a.used a.max_sessions (session_found a.used f) a.session) a.used) c.find_session-found.ensures in
-    let to = register_session (table_of ys a.used a.max_sessions) a.session in
-    subst (λ (rows : List ReflectorSession). Registers c.answer_registration-answer.result rows to) (sym c.append.ensures)
-    (subst (λ (r : Registered). Registers r (put_if (ltb a.used r.used) a.used a.session ys) to) (sym e) (registers ys a.used a.max_sessions a.session))
+pub returns-then-is_invalid-clause-registers : goal.returns-then-is_invalid-clause-registers
+returns-then-is_invalid-clause-registers c =
+    let s = read_sound _ _ c.read.ensures c.in_ok-used.ensures in
+    invalid_refused (table_lent c.args.table.now) c.args.session s.0 (sym c.is_invalid.ensures ∙ c.if-is_invalid.true)
+
+pub returns-then-eq-clause-registers : goal.returns-then-eq-clause-registers
+returns-then-eq-clause-registers c =
+    let s = read_sound _ _ c.read.ensures c.in_ok-used.ensures in
+    let r = used_row _ _ c.read-2.ensures s.0 c.args.session.local_teid c.in-Some.place _ c.in-Some.ensures in
+    same_kept (table_lent c.args.table.now) c.args.session s.0 (sym c.is_invalid.ensures ∙ c.if-is_invalid.false) _ r.found
+    (sym (session_same _ _) ∙ sym c.eq.ensures ∙ c.if-eq.true)
+
+pub returns-in-Some-clause-registers : goal.returns-in-Some-clause-registers
+returns-in-Some-clause-registers c =
+    let s = read_sound _ _ c.read.ensures c.in_ok-used.ensures in
+    let r = used_row _ _ c.read-2.ensures s.0 c.args.session.local_teid c.in-Some.place _ c.in-Some.ensures in
+    other_refused (table_lent c.args.table.now) c.args.session s.0 (sym c.is_invalid.ensures ∙ c.if-is_invalid.false) _ r.found
+    (sym (session_same _ _) ∙ sym c.eq.ensures ∙ c.if-eq.false)
+
+pub returns-then-used-table-clause-registers : goal.returns-then-used-table-clause-registers
+returns-then-used-table-clause-registers c =
+    let s = read_sound _ _ c.read.ensures c.in_ok-used.ensures in
+    full_refused (table_lent c.args.table.now) c.args.session s.0 (sym c.is_invalid.ensures ∙ c.if-is_invalid.false)
+    (no_used_row _ _ c.read-2.ensures s.0 c.args.session.local_teid c.in_default.ensures) (sym s.1 ∙ c.if-used-table.true)
+
+pub offset_bounds-table-used : goal.offset_bounds-table-used
+offset_bounds-table-used c =
+    let s = read_sound _ _ c.read.ensures c.in_ok-used.ensures in
+    omega (arith, s.0.enough, s.0.most, s.1)
+
+pub bounds-table-used : goal.bounds-table-used
+bounds-table-used c =
+    let s = read_sound _ _ c.read.ensures c.in_ok-used.ensures in
+    omega (arith, s.0.enough, s.0.room, s.1, c.if-used-table.false)
+
+pub overflow_add-table : goal.overflow_add-table
+overflow_add-table c =
+    let s = read_sound _ _ c.read.ensures c.in_ok-used.ensures in
+    omega (arith, s.0.enough, s.0.most, s.1)
+
+pub returns-clause-registers : goal.returns-clause-registers
+returns-clause-registers c =
+    let s = read_sound _ _ c.read.ensures c.in_ok-used.ensures in
+    rw s.1
+    (added (table_lent c.args.table.now) c.args.session s.0 (sym c.is_invalid.ensures ∙ c.if-is_invalid.false)
+    (no_used_row _ _ c.read-2.ensures s.0 c.args.session.local_teid c.in_default.ensures) (λ e. c.if-used-table.false (s.1 ∙ e)))

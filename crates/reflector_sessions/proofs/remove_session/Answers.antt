@@ -1,38 +1,46 @@
--- `reflector_sessions::remove_session` meets its contract.
-use Prim.Native.Nat.{ℕ, ◌<◌}
-use mathlib.Core.Path.{◌≡◌, sym, ap, subst, ◌∙◌}
-use mathlib.Core.List.{List}
-use lib.Dec.{ltb}
-use lib.ListN.{length, get_or}
-use Rattle.reflector_sessions.specs.Judge.{session_found}
-use Rattle.reflector_sessions.specs.Remove.{remove_outcome, remove_session, removed_of, Removes}
+use Rattle.std.proofs.Common.{arith}
+use Rattle.std.proofs.lemmas.Result.{err_from_is_err_and}
 use Rattle.reflector_sessions.specs.Session.{no_session}
-use Rattle.reflector_sessions.specs.Table.{table_of, put_if}
-use Rattle.reflector_sessions.specs.declared.FoundSession.{FoundSession}
-use Rattle.reflector_sessions.specs.declared.RemovedSession.{RemovedSession}
-use Rattle.reflector_sessions.specs.declared.ReflectorSession.{ReflectorSession}
-use Rattle.reflector_sessions.proofs.Calls.{found, removal, moves, removes}
+use Rattle.reflector_sessions.specs.Table.{table_lent}
+use Rattle.reflector_sessions.proofs.Calls.{removal_refused, none_removed, removed}
+use Rattle.reflector_sessions.proofs.Search.{read_refused, read_sound, used_row, no_used_row}
 use Rattle.reflector_sessions.proofs.remove_session.Goals as goal
 
-pub swap_remove-requires : goal.swap_remove-requires
-swap_remove-requires c =
-    let a = c.args in
-    let ys = a.sessions.now in
-    let e : c.answer_removal-answer.result ≡ removal ys a.used a.max_sessions a.local_teid =
-    c.answer_removal-answer.ensures
-    ∙ ap (λ (f : FoundSession). removed_of (remove_outcome (length ys) a.used a.max_sessions (session_found a.used f)) a.used) c.find_session-found.ensures in
-    subst (λ (f : FoundSession). c.answer_removal-answer.result.used < a.used → (f.place < length ys) × (c.answer_removal-answer.result.used < length ys)) (sym c.find_session-found.ensures)
-    (subst (λ (r : RemovedSession). r.used < a.used → ((found ys a.used a.max_sessions a.local_teid).place < length ys) × (r.used < length ys)) (sym e) (moves ys a.used a.max_sessions a.local_teid))
+pub returns-in_err-used-clause-removes : goal.returns-in_err-used-clause-removes
+returns-in_err-used-clause-removes c =
+    let p = err_from_is_err_and c.from_residual.result c.from_residual.ensures.1 in
+    rw (p.1, p.2) (removal_refused (table_lent c.args.table.now) c.args.local_teid _ (read_refused _ _ c.read.ensures c.in_err-used.ensures))
 
-pub returns : goal.returns
-returns c =
-    let a = c.args in
-    let ys = a.sessions.now in
-    let e : c.answer_removal-answer.result ≡ removal ys a.used a.max_sessions a.local_teid =
-    c.answer_removal-answer.ensures
-    ∙ ap (λ (f : FoundSession). removed_of (remove_outcome (length ys) a.used a.max_sessions (session_found a.used f)) a.used) c.find_session-found.ensures in
-    let to = remove_session (table_of ys a.used a.max_sessions) a.local_teid in
-    let left = λ (r : RemovedSession) (place : ℕ). put_if (ltb r.used a.used) place (get_or ys r.used no_session) ys in
-    subst (λ (rows : List ReflectorSession). Removes c.answer_removal-answer.result rows to) (sym c.swap_remove.ensures)
-    (subst (λ (f : FoundSession). Removes c.answer_removal-answer.result (left c.answer_removal-answer.result f.place) to) (sym c.find_session-found.ensures)
-    (subst (λ (r : RemovedSession). Removes r (left r (found ys a.used a.max_sessions a.local_teid).place) to) (sym e) (removes ys a.used a.max_sessions a.local_teid)))
+pub overflow_sub-table : goal.overflow_sub-table
+overflow_sub-table c =
+    let s = read_sound _ _ c.read.ensures c.in_ok-used.ensures in
+    let r = used_row _ _ c.read-2.ensures s.0 c.args.local_teid c.in-Some.hole no_session c.in-Some.ensures in
+    omega (arith, r.within, s.1)
+
+pub offset_bounds-table-used : goal.offset_bounds-table-used
+offset_bounds-table-used c =
+    let s = read_sound _ _ c.read.ensures c.in_ok-used.ensures in
+    omega (arith, s.0.enough, s.0.most, s.1)
+
+pub bounds-table-used : goal.bounds-table-used
+bounds-table-used c =
+    let s = read_sound _ _ c.read.ensures c.in_ok-used.ensures in
+    let r = used_row _ _ c.read-2.ensures s.0 c.args.local_teid c.in-Some.hole no_session c.in-Some.ensures in
+    omega (arith, s.0.enough, s.0.room, r.within, s.1)
+
+pub overflow_sub-table-in-Some : goal.overflow_sub-table-in-Some
+overflow_sub-table-in-Some c =
+    let s = read_sound _ _ c.read.ensures c.in_ok-used.ensures in
+    let r = used_row _ _ c.read-2.ensures s.0 c.args.local_teid c.in-Some.hole no_session c.in-Some.ensures in
+    omega (arith, r.within, s.1)
+
+pub returns-in-None-clause-removes : goal.returns-in-None-clause-removes
+returns-in-None-clause-removes c =
+    let s = read_sound _ _ c.read.ensures c.in_ok-used.ensures in
+    none_removed (table_lent c.args.table.now) c.args.local_teid s.0 (no_used_row _ _ c.read-2.ensures s.0 c.args.local_teid c.in-None.ensures)
+
+pub returns-in-Some-clause-removes : goal.returns-in-Some-clause-removes
+returns-in-Some-clause-removes c =
+    let s = read_sound _ _ c.read.ensures c.in_ok-used.ensures in
+    let r = used_row _ _ c.read-2.ensures s.0 c.args.local_teid c.in-Some.hole _ c.in-Some.ensures in
+    rw s.1 (removed (table_lent c.args.table.now) c.args.local_teid s.0 c.in-Some.hole _ _ r.is r.within r.found)
