@@ -1,4 +1,3 @@
--- `measurement_decode::is_fragment` meets its contract.
 use Prim.Native.Nat.{◌%◌}
 use native.Mathlib.Omega.{arith}
 use Rattle.measurement_reading.proofs.Rows.{fragment_tested}

@@ -1,4 +1,3 @@
--- `measurement_decode::judge_ipv4` meets its contract.
 use Prim.Native.Nat.{◌*◌}
 use mathlib.Core.Path.{ap, sym, ◌∙◌}
 use native.Mathlib.Omega.{arith}

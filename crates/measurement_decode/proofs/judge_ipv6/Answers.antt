@@ -1,4 +1,3 @@
--- `measurement_decode::judge_ipv6` meets its contract.
 use mathlib.Core.Path.{ap, ◌∙◌}
 use Rattle.std.proofs.Common.{rules}
 use native.Mathlib.Omega.{arith}

@@ -1,4 +1,3 @@
--- `measurement_decode::low_half` meets its contract.
 use native.Mathlib.Omega.{arith}
 use lib.Bits.{and_mask}
 use Rattle.measurement_decode.proofs.low_half.Goals as goal

@@ -1,4 +1,3 @@
--- `measurement_decode::read_u16` meets its contract.
 use Rattle.measurement_decode.proofs.Laws.{two}
 use Rattle.measurement_decode.proofs.read_u16.Goals as goal
 

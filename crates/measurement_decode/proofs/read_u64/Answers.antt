@@ -1,4 +1,3 @@
--- `measurement_decode::read_u64` meets its contract.
 use Rattle.measurement_decode.proofs.Laws.{eight}
 use Rattle.measurement_decode.proofs.read_u64.Goals as goal
 

@@ -1,4 +1,3 @@
--- `measurement_decode::sum_wrong` meets its contract.
 use mathlib.Core.Path.{sym}
 use native.Mathlib.Omega.{arith}
 use lib.Seq.{length-take-le}

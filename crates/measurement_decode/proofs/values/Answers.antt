@@ -1,4 +1,3 @@
--- `measurement_decode::values` meets its contract.
 use native.Mathlib.Omega.{arith}
 use Rattle.measurement_reading.proofs.Rows.{length_right}
 use Rattle.measurement_decode.proofs.Laws.{values_are}
