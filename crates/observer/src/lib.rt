@@ -22,7 +22,7 @@ use rows::{Arrival, Sheet, WrittenSheet};
 // What stands beside the columns. Fresh: all 0. The used count is last, and the counts are first in each answer: copies
 // then go along the pairs of numbers that were stored, and no load waits for two stores.
 #[repr(C)]
-#[derive(Clone, Copy)]
+#[derive(Clone, Copy, Debug, PartialEq, Eq)]
 pub struct ObserverCounts {
     // Returns of a sequence that had returned before.
     pub duplicate_packets: u64,
