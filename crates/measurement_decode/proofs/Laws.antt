@@ -91,8 +91,16 @@ judged_given p = go (read_of p) refl
     go (refused n) e j = absurd (refused_gives (sym j))
     go (gives t) e j = record { tpdu = t; is = e }
 
+pub ipv4_width : address_length V4 ≡ 4
+unfolding address_length
+ipv4_width = refl
+
+pub ipv6_width : address_length V6 ≡ 16
+unfolding address_length
+ipv6_width = refl
+
 -- the rows of every judge: a `search` goes by them from a way out back to the first test
-pub ruleset judging = (refuses, tpdu_rows, row_1, past_1, row_2, past_2_ipv4, past_2_ipv6, ipv4_rows, row_3, past_3, row_4, past_4, row_39, past_39, row_5_low, row_5_past, past_5, row_6_ipv4, past_6_ipv4, row_7, past_7, row_38, past_38, ipv6_rows, row_8, past_8, row_6_ipv6, past_6_ipv6, row_9_low, row_9_past, past_9, udp_rows, row_10, past_10, row_11, past_11, past_11_unsummed, row_12, past_12, past_12_unsummed, probe_rows, row_13, past_13, row_14, past_14)
+pub ruleset judging = (refuses, ipv4_width, ipv6_width, tpdu_rows, row_1, past_1, row_2, past_2_ipv4, past_2_ipv6, ipv4_rows, row_3, past_3, row_4, past_4, row_39, past_39, row_5_low, row_5_past, past_5, row_6_ipv4, past_6_ipv4, row_7, past_7, row_38, past_38, ipv6_rows, row_8, past_8, row_6_ipv6, past_6_ipv6, row_9_low, row_9_past, past_9, udp_rows, row_10, past_10, row_11, past_11, past_11_unsummed, row_12, past_12, past_12_unsummed, probe_rows, row_13, past_13, row_14, past_14)
 
 -- a part of at most this many bytes
 pub part_short : (m : ℕ) (l : List ℕ) → m < 65536 → length (take m l) < 65536

@@ -163,7 +163,7 @@ fn is_fragment(tpdu: &[u8]) -> bool
 }
 
 // IPv4: options are stepped over, and what lies past the total length is ignored.
-#[tactic(auto, unfolding(measurement::specs::Flow::address_length, measurement_reading::specs::Read::ihl), using(crate::proofs::Laws::judging))]
+#[tactic(auto, unfolding(measurement_reading::specs::Read::ihl), using(crate::proofs::Laws::judging))]
 fn judge_ipv4(tpdu: &[u8]) -> Result<(), Refusal>
     ensures { answered result ≡ verdict (read_ipv4 tpdu.now) }
 {
@@ -201,7 +201,7 @@ fn judge_ipv4(tpdu: &[u8]) -> Result<(), Refusal>
     judge_udp(IpVersion::V4, addresses, &tpdu[start..end])
 }
 
-#[tactic(auto, unfolding(measurement::specs::Flow::address_length), using(crate::proofs::Laws::judging))]
+#[tactic(auto, using(crate::proofs::Laws::judging))]
 fn judge_ipv6(tpdu: &[u8]) -> Result<(), Refusal>
     ensures { answered result ≡ verdict (read_ipv6 tpdu.now) }
 {
