@@ -3,15 +3,16 @@
 // answer and the whole table, on refusals too.
 #![tactic(auto)]
 
-ghost use Rattle.std.specs.Prelude.{◌≡◌, ◌==◌, position, bytes_eq};
+ghost use Rattle.std.specs.Prelude.{◌≡◌, ◌<◌, ◌≤◌, ◌==◌, length, get_or, position, bytes_eq};
 ghost use Rattle.std.specs.Cmp.{on_per, partial_equiv_from_equiv};
 ghost use Rattle.std.specs.Cmp.Lexicographic.{nat_list_eq_equiv};
 ghost use Rattle.std.specs.Ordering.{on};
 ghost use Rattle.error.specs.Answer.{answered};
 ghost use Rattle.measurement.specs.Flow.{address};
-ghost use Rattle.reflector_sessions.specs.Session.{value_of, compared, lent_compared};
+ghost use Rattle.reflector_sessions.specs.Session.{value_of, no_session, compared, lent_compared};
 ghost use Rattle.reflector_sessions.specs.Judge.{table_outcome};
 ghost use Rattle.reflector_sessions.specs.Table.{table_read, table_lent, SameRows, judged_table, find, searched_rows};
+ghost use Rattle.reflector_sessions.specs.Table.{appended, swap_removed};
 ghost use Rattle.reflector_sessions.specs.Register.{invalid_session, register_session, Registers};
 ghost use Rattle.reflector_sessions.specs.Claims.{AddedIsFound, UnchangedIsFound, RemovedIsNotFound, StaysUnique};
 ghost use Rattle.reflector_sessions.specs.Claims.{OtherRowsKept};
@@ -31,7 +32,7 @@ pub struct SocketAddr {
 
 impl SocketAddr {
     // The bytes of the address that count.
-    fn counted(&self) -> &[u8]
+    pub fn counted(&self) -> &[u8]
         ensures { result.now ≡ address self.now.version self.now.address }
     {
         match self.version {
@@ -182,6 +183,29 @@ impl SessionTable<'_> {
             max_sessions: self.max_sessions,
         }
     }
+
+    // Writes a session behind the used rows.
+    fn append(&mut self, session: ReflectorSession)
+        requires { self.old.used < length self.old.rows.now }
+        ensures table { table_lent self.new ≡ appended session (table_lent self.old) }
+        ensures same { SameRows self.old self.new }
+    {
+        self.rows[self.used] = session;
+        self.used += 1;
+    }
+
+    // Moves the last used row into a hole, and gives what stood there.
+    fn swap_remove(&mut self, hole: usize) -> ReflectorSession
+        requires { (hole < self.old.used) × (self.old.used ≤ length self.old.rows.now) }
+        ensures table { table_lent self.new ≡ swap_removed hole (table_lent self.old) }
+        ensures removed { result ≡ get_or self.old.rows.now hole no_session }
+        ensures same { SameRows self.old self.new }
+    {
+        let removed = self.rows[hole];
+        self.rows[hole] = self.rows[self.used - 1];
+        self.used -= 1;
+        removed
+    }
 }
 
 // Looks for the session of a TEID among the used rows. A table that is refused has none.
@@ -202,7 +226,7 @@ pub fn register_session(
         (register_session (table_lent table.old) session) }
     ensures same { SameRows table.old table.new }
 {
-    let used = table.read().judge()?;
+    table.read().judge()?;
     if session.is_invalid() {
         return Err(Refusal::InvalidReflectorSession);
     }
@@ -212,11 +236,10 @@ pub fn register_session(
         }
         return Err(Refusal::ReflectorSessionConflict);
     }
-    if used == table.max_sessions {
+    if table.used == table.max_sessions {
         return Err(Refusal::ReflectorSessionCapacityExceeded);
     }
-    table.rows[used] = session;
-    table.used = used + 1;
+    table.append(session);
     Ok(Registration::Added)
 }
 
@@ -229,15 +252,10 @@ pub fn remove_session(
         (remove_session (table_lent table.old) local_teid) }
     ensures same { SameRows table.old table.new }
 {
-    let used = table.read().judge()?;
+    table.read().judge()?;
     match table.read().place(local_teid) {
         None => Ok(None),
-        Some(hole) => {
-            let removed = table.rows[hole];
-            table.rows[hole] = table.rows[used - 1];
-            table.used = used - 1;
-            Ok(Some(removed))
-        }
+        Some(hole) => Ok(Some(table.swap_remove(hole))),
     }
 }
 

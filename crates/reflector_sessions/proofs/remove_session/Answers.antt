@@ -6,41 +6,24 @@ use Rattle.reflector_sessions.proofs.Calls.{removal_refused, none_removed, remov
 use Rattle.reflector_sessions.proofs.Search.{read_refused, read_sound, used_row, no_used_row}
 use Rattle.reflector_sessions.proofs.remove_session.Goals as goal
 
-pub returns-in_err-used-clause-removes : goal.returns-in_err-used-clause-removes
-returns-in_err-used-clause-removes c =
+pub returns-in_err-judge-clause-removes : goal.returns-in_err-judge-clause-removes
+returns-in_err-judge-clause-removes c =
     let p = err_from_is_err_and c.from_residual.result c.from_residual.ensures.1 in
-    rw (p.1, p.2) (removal_refused (table_lent c.args.table.now) c.args.local_teid _ (read_refused _ _ c.read.ensures c.in_err-used.ensures))
+    rw (p.1, p.2) (removal_refused (table_lent c.args.table.now) c.args.local_teid _ (read_refused _ _ c.read.ensures c.in_err-judge.ensures))
 
-pub overflow_sub-table : goal.overflow_sub-table
-overflow_sub-table c =
-    let s = read_sound _ _ c.read.ensures c.in_ok-used.ensures in
+pub swap_remove-requires : goal.swap_remove-requires
+swap_remove-requires c =
+    let s = read_sound _ _ c.read.ensures c.in_ok-judge.ensures in
     let r = used_row _ _ c.read-2.ensures s.0 c.args.local_teid c.in-Some.hole no_session c.in-Some.ensures in
-    omega (arith, r.within, s.1)
-
-pub offset_bounds-table-used : goal.offset_bounds-table-used
-offset_bounds-table-used c =
-    let s = read_sound _ _ c.read.ensures c.in_ok-used.ensures in
-    omega (arith, s.0.enough, s.0.most, s.1)
-
-pub bounds-table-used : goal.bounds-table-used
-bounds-table-used c =
-    let s = read_sound _ _ c.read.ensures c.in_ok-used.ensures in
-    let r = used_row _ _ c.read-2.ensures s.0 c.args.local_teid c.in-Some.hole no_session c.in-Some.ensures in
-    omega (arith, s.0.enough, s.0.room, r.within, s.1)
-
-pub overflow_sub-table-in-Some : goal.overflow_sub-table-in-Some
-overflow_sub-table-in-Some c =
-    let s = read_sound _ _ c.read.ensures c.in_ok-used.ensures in
-    let r = used_row _ _ c.read-2.ensures s.0 c.args.local_teid c.in-Some.hole no_session c.in-Some.ensures in
-    omega (arith, r.within, s.1)
+    (r.within, omega (arith, s.0.enough, s.0.room))
 
 pub returns-in-None-clause-removes : goal.returns-in-None-clause-removes
 returns-in-None-clause-removes c =
-    let s = read_sound _ _ c.read.ensures c.in_ok-used.ensures in
+    let s = read_sound _ _ c.read.ensures c.in_ok-judge.ensures in
     none_removed (table_lent c.args.table.now) c.args.local_teid s.0 (no_used_row _ _ c.read-2.ensures s.0 c.args.local_teid c.in-None.ensures)
 
 pub returns-in-Some-clause-removes : goal.returns-in-Some-clause-removes
 returns-in-Some-clause-removes c =
-    let s = read_sound _ _ c.read.ensures c.in_ok-used.ensures in
+    let s = read_sound _ _ c.read.ensures c.in_ok-judge.ensures in
     let r = used_row _ _ c.read-2.ensures s.0 c.args.local_teid c.in-Some.hole _ c.in-Some.ensures in
-    rw s.1 (removed (table_lent c.args.table.now) c.args.local_teid s.0 c.in-Some.hole _ _ r.is r.within r.found)
+    rw (c.swap_remove.ensures.table, c.swap_remove.ensures.removed) (removed (table_lent c.args.table.now) c.args.local_teid s.0 c.in-Some.hole _ _ r.is r.within r.found)
