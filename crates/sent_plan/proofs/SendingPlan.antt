@@ -23,11 +23,15 @@ use Rattle.columns.specs.Place.{place, holds}
 use Rattle.observer.specs.Place.{place_of, was_sent, row_of}
 use Rattle.observer.specs.Sending.{resent, record_sent}
 use Rattle.rows.specs.Columns.{Columns}
-use Rattle.observer.specs.Answer.{observer_of, recorded}
+use Rattle.std.specs.Prelude as code
+use Rattle.std.specs.Result.{result_unwrap_or}
+use Rattle.error.specs.Answer.{answered}
+use Rattle.error.specs.declared.Refusal.{Refusal}
+use Rattle.observer.specs.Counts.{with_used}
+use Rattle.observer.specs.Answer.{observer_of, after_entry, recorded}
 use Rattle.sent_plan.specs.SendingPlan.{send_in_turn, rows_needed, free_rows, entering_causes, entering, record_sent_plan}
 use Rattle.observer.specs.Claims.{sending}
 use Rattle.observer.specs.declared.ObserverCounts.{ObserverCounts}
-use Rattle.observer.specs.declared.Recorded.{Recorded}
 use Rattle.columns.proofs.Search.{both_right, rising_at, place_at, place_within, held_within}
 use Rattle.observer.proofs.Rows.{rows_are, rows_with, counts_with, capacity_with, put_in, length_put, map_put}
 use Rattle.observer.proofs.Judging.{Well}
@@ -343,6 +347,11 @@ module _ (o : Observer) (plan : TrafficPlan) (next : ℕ) where
 
 -- ---- the packets one after the other
 
+-- the code takes the rows in use from the answer, or leaves them where that is a refusal
+pub used_after : (r : code.Result ℕ Refusal) (c : ObserverCounts) → after_entry c (answered r) ≡ with_used (result_unwrap_or r c.used) c
+used_after (code.Ok n) c = refl
+used_after (code.Err e) c = refl
+
 module _ (plan : TrafficPlan) (next : ℕ) where
   -- the packets from packet k on
   abbrev pub left_from : ℕ → List MeasurementHeader
@@ -363,12 +372,12 @@ module _ (plan : TrafficPlan) (next : ℕ) where
       ap (λ (n : ℕ). packets_from plan next n k) e ∙ ap (λ (x : ℕ). packet_at plan next k ∷ packets_from plan next (plan.packet_count - (k + 1)) x) (sym (add-one k))
 
   -- packet k is sent
-  module _ (r : Recorded) (c : Columns) (o : Observer) (k time : ℕ) (e : recorded r c ≡ record_sent o (next + k) time) where
-    pub sent_well : well_formed o ≡ true → well_formed (observer_of c r.counts) ≡ true
+  module _ (outcome : Outcome (Unit {0})) (counts : ObserverCounts) (c : Columns) (o : Observer) (k time : ℕ) (e : recorded outcome counts c ≡ record_sent o (next + k) time) where
+    pub sent_well : well_formed o ≡ true → well_formed (observer_of c counts) ≡ true
     sent_well w = ap (λ (s : Step). well_formed s.observer) e ∙ calls_keep_well o (sending (next + k) time ∷ []) w
 
     pub sent_on_lem : time ≡ time_at plan k → k < plan.packet_count → (whole : Observer) → (send_in_turn o (left_from k)).observer ≡ whole
-        → (send_in_turn (observer_of c r.counts) (left_from (k + 1))).observer ≡ whole
+        → (send_in_turn (observer_of c counts) (left_from (k + 1))).observer ≡ whole
     sent_on_lem et h whole on =
         ap (λ (s : Step). (send_in_turn s.observer (left_from (k + 1))).observer) e
         ∙ ap (λ (x : ℕ). (send_in_turn (record_sent o (next + k) x).observer (left_from (k + 1))).observer) et

@@ -7,13 +7,15 @@ ghost use Rattle.std.specs.Prelude.{◌≡◌, true, ◌+◌, ◌≤◌, length,
 ghost use Rattle.plan.specs.Plan.{top};
 ghost use Rattle.columns.specs.Columns.{rising};
 ghost use Rattle.columns.specs.Place.{place};
-ghost use Rattle.rows.specs.Columns.{written_sheet};
+ghost use Rattle.rows.specs.Columns.{written_sheet, SameWritten};
 ghost use Rattle.observer.specs.Answer.{records};
 ghost use Rattle.sent_plan.specs.SendingPlan.{record_sent_plan};
 ghost use Rattle.sent_plan.specs.PlanClaims.{AllOrNothing, PlanBeforeRoom};
 
-use observer::{ObserverCounts, Recorded, Recording};
-use plan::{Interval, TrafficPlan};
+use error::Refusal;
+use observer::ObserverCounts;
+use plan::TrafficPlan;
+use rows::WrittenSheet;
 
 // How many rows the packets of an accepted plan need. The rows rise, so those with a sequence of the plan stand
 // together, from the place of the first up to the place of the sequence behind the last; these need none.
@@ -31,75 +33,40 @@ fn rows_needed(sequences: &[u64], used: usize, first: u64, count: u64) -> usize
 // Records the packets of a plan as sent, all or none, the first with this sequence. Refuses by 21, then as the
 // generator judges the plan (16 to 20), then by 22.
 pub fn record_sent_plan(
-    sequences: &mut [u64],
-    send_timestamps: &mut [u64],
-    latencies: &mut [u64],
-    marks: &mut [u8],
-    arrival_timestamps: &mut [u64],
-    counts: ObserverCounts,
+    sheet: &mut WrittenSheet,
+    counts: &mut ObserverCounts,
     plan: TrafficPlan,
     next_sequence: u64,
-) -> Recorded
-    ensures { records (written_sheet sequences send_timestamps latencies marks arrival_timestamps) counts result
+) -> Result<(), Refusal>
+    ensures same { SameWritten sheet.old sheet.new }
+    ensures recorded { records (written_sheet sheet) counts result
         (λ o. record_sent_plan o plan next_sequence) }
 {
-    if !observer::well_formed(
-        sequences,
-        send_timestamps,
-        latencies,
-        marks,
-        arrival_timestamps,
-        counts,
-    ) {
-        return Recorded {
-            counts: counts,
-            answer: Recording::Refused(error::MALFORMED_OBSERVER),
-        };
+    let lent = sheet.read();
+    if !observer::well_formed(lent, *counts) {
+        return Err(Refusal::MalformedObserver);
     }
-    let judged = plan::judge_plan(plan, next_sequence);
-    let answer = judged.interval;
-    match answer {
-        Interval::Refused(number) => Recorded {
-            counts: counts,
-            answer: Recording::Refused(number),
-        },
-        Interval::Nanoseconds(interval) => {
-            let used = counts.used;
-            let room = rows::capacity(
-                sequences.len(),
-                send_timestamps.len(),
-                latencies.len(),
-                marks.len(),
-                arrival_timestamps.len(),
-            );
-            if room - used < rows_needed(sequences, used, next_sequence, plan.packet_count) {
-                return Recorded {
-                    counts: counts,
-                    answer: Recording::Refused(error::OBSERVER_FULL),
-                };
-            }
-            let mut so_far = counts;
-            let mut k = 0;
-            while k < plan.packet_count {
-                let step = so_far.entered(rows::enter(
-                    sequences,
-                    send_timestamps,
-                    latencies,
-                    marks,
-                    arrival_timestamps,
-                    so_far.used,
-                    next_sequence + k,
-                    plan.first_send_timestamp_ns + k * interval,
-                ));
-                so_far = step.counts;
-                k += 1;
-            }
-            Recorded {
-                counts: so_far,
-                answer: Recording::Accepted,
-            }
-        }
+    let interval = plan::judge_plan(plan, next_sequence).interval?;
+    let needed = rows_needed(
+        lent.sequences,
+        counts.used,
+        next_sequence,
+        plan.packet_count,
+    );
+    if lent.capacity() - counts.used < needed {
+        return Err(Refusal::ObserverFull);
     }
+    for k in 0..plan.packet_count {
+        // None is refused: the rows that they need are free.
+        counts.used = rows::enter(
+            sheet,
+            counts.used,
+            next_sequence + k,
+            plan.first_send_timestamp_ns + k * interval,
+        )
+        .unwrap_or(counts.used);
+    }
+    Ok(())
 }
 
 // A plan is entered whole or not at all, and one that the generator refuses is refused so before 22 is looked at.
