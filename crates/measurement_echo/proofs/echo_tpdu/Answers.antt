@@ -1,4 +1,4 @@
-use mathlib.Core.Path.{refl, ◌∙◌}
+use mathlib.Core.Path.{◌∙◌}
 use Rattle.std.proofs.lemmas.Result.{err_from_is_err_and}
 use Rattle.measurement_decode.proofs.Callers.{read_refused, read_given}
 use Rattle.measurement_echo.proofs.Block.{echo_refused, echo_given}
