@@ -6,6 +6,7 @@ use mathlib.Core.List.{List, ◌++◌}
 use lib.ListN.{length, take, drop, replicate}
 use lib.Seq.{take_at}
 use borrow.Author.Tests.{lt-ltb}
+use Rattle.std.proofs.lemmas.Result.{err_from_is_err_and}
 use Rattle.error.specs.Outcome.{Outcome, refused, gives}
 use Rattle.error.proofs.Causes.{refused_gives}
 use Rattle.measurement.specs.Answer.{Writing, writing, writing_of}
@@ -17,8 +18,9 @@ use Rattle.measurement_packet.specs.Packet.{ip_header_length, build_of}
 use Rattle.measurement_reading.specs.Read.{read_of}
 use Rattle.measurement_damage.specs.Echo.{echo_of}
 use Rattle.measurement_build.proofs.Whole.{build_length, writing_fits}
-use Rattle.measurement_decode.specs.Numbers.{values_of, source_left, destination_left}
+use Rattle.measurement_decode.specs.Numbers.{values_of, tpdu_numbers, source_left, destination_left}
 use Rattle.measurement_decode.specs.declared.TpduNumbers.{TpduNumbers}
+use Rattle.measurement_decode.proofs.Callers.{read_refused, read_given}
 
 module _ (f : InnerIpFlow) (s t : ℕ) where
   pub built_fits : length (build_of f s t) ≤ 72
@@ -84,3 +86,15 @@ module _ (tpdu out : List ℕ) where
         built : TpduNumbers → IpVersion → List ℕ → List ℕ → Writing
         built x v src dst =
             writing (build_of (record { version = v; src = dst; dst = src; src_port = x.dst_port; dst_port = x.src_port }) x.sequence x.send_timestamp_ns) out
+
+  -- by the reader's answer
+  pub echo_not_read : {n : ℕ} → refused n ≡ tpdu_numbers (read_of tpdu) → record { outcome = refused n; buffer = out } ≡ writing_of (echo_of tpdu) out
+  echo_not_read e = echo_refused (read_refused tpdu e)
+
+  pub echo_read : {x : TpduNumbers} {v : IpVersion} {src dst : List ℕ} → gives x ≡ tpdu_numbers (read_of tpdu) → x.version ≡ v
+      → src ≡ source_left (read_of tpdu) (replicate 16 0) → dst ≡ destination_left (read_of tpdu) (replicate 16 0)
+      → writing (build_of (record { version = v; src = dst; dst = src; src_port = x.dst_port; dst_port = x.src_port }) x.sequence x.send_timestamp_ns) out
+      ≡ writing_of (echo_of tpdu) out
+  echo_read e ev es ed = let r = read_given tpdu e in echo_given r.is r.values ev es ed
+
+pub ruleset echoing = (echo_not_read, echo_read, err_from_is_err_and)

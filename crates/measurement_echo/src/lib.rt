@@ -78,6 +78,7 @@ fn write_ipv4_from_block(
 }
 
 // Reads a T-PDU and writes its echo to the front of `out`: source and destination exchanged, sequence and time kept.
+#[tactic(auto, using(crate::proofs::Block::echoing))]
 pub fn echo_tpdu(tpdu: &[u8], out: &mut [u8]) -> Result<usize, Refusal>
     ensures { wrote result out.new ≡ writing_of (echo_of tpdu.now) out.old }
 {
