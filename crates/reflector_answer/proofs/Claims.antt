@@ -1,12 +1,12 @@
 -- The claims of specs/Claims.antt: the laws of elements and of echoes, at the reflector's answers.
-use Rattle.std.proofs.Common.{◌≡◌, ℕ, Bool, true, false, eqb, ◌⊎◌, List, [], length, sym, refl, ap, ◌∙◌, inl, inr, append-nil, arith, eq-eqb}
-use mathlib.Core.Option.{Option, some, none}
+use Rattle.std.proofs.Common.{◌≡◌, ℕ, Bool, true, false, eqb, List, [], sym, refl, ap, ◌∙◌, append-nil, arith, eq-eqb}
+use Rattle.std.specs.Prelude.{Option, Some, None}
 use Rattle.error.specs.Number.{output_too_short, unsupported_message_type}
 use Rattle.error.specs.Outcome.{Outcome, refused, gives}
 use Rattle.error.proofs.Causes.{refused_gives, not_by}
 use Rattle.error.proofs.Tests.{true_not_false}
 use Rattle.field.specs.Field.{big_endian}
-use Rattle.field.proofs.Fields.{length_big_endian, length_bytes_at}
+use Rattle.field.proofs.Fields.{length_big_endian}
 use Rattle.measurement.specs.Flow.{address_length, address, padded, reversed_of}
 use Rattle.measurement.specs.declared.IpVersion.{IpVersion}
 use Rattle.measurement.specs.declared.IpVersion.TheVariants.{V4, V6}
@@ -29,22 +29,16 @@ use Rattle.reflector_answer.specs.declared.ReflectorPolicy.{ReflectorPolicy}
 use Rattle.reflector_answer.specs.declared.ReflectorPolicy.TheVariants.{Echo, SinkAndCount, Route}
 use Rattle.reflector_answer.specs.declared.ReflectorState.{ReflectorState}
 use Rattle.reflector_answer.specs.Handle.{placed}
-use Rattle.reflector_answer.proofs.Answers.{handling_short, handling_passed}
+use Rattle.reflector_answer.proofs.Answers.{octets_are, handling_short, handling_passed}
 use Rattle.reflector_answer.specs.declared.ReflectorSendReason.TheVariants.{ReflectedGpdu, ErrorIndication}
-use Rattle.gtpu.specs.declared.SequenceNumber.TheVariants.{Present, Absent}
 use Rattle.reflector_answer.specs.Claims.{Sends, one_more_received, ReceivedHasRisen, IndicationAccepted, IndicationNamesTheTunnel, EchoReadsBack, LeastOutput}
-
-pub address_of : (v : IpVersion) (bytes : List ℕ) → (length (address v bytes) ≡ 4) ⊎ (length (address v bytes) ≡ 16)
-unfolding address address_length
-address_of V4 bytes = inl (length_bytes_at 4 0 bytes)
-address_of V6 bytes = inr (length_bytes_at 16 0 bytes)
 
 -- what is sent to a G-PDU of an unknown TEID
 module _ (config : MultiSessionReflectorConfig) (state : ReflectorState) (source : SocketAddr) (message : GtpuMessage) (payload : List ℕ) where
-  indicates : message.message_type ≡ 255 → Sends (answer config state none source message payload) ErrorIndication source (error_indication_to message.teid source)
+  indicates : message.message_type ≡ 255 → Sends (answer config state None source message payload) ErrorIndication source (error_indication_to message.teid source)
   unfolding answer gpdu_unknown
   indicates e = record {
-    message = record { reason = ErrorIndication; destination = source; teid = 0; message_type = 26; sequence = Present state.next_error_sequence; payload = written (error_indication_to message.teid source) };
+    message = record { reason = ErrorIndication; destination = source; teid = 0; message_type = 26; sequence = Some state.next_error_sequence; payload = written (error_indication_to message.teid source) };
     sent = rw (eq-eqb message.message_type 255 e, answer);
     why = refl;
     to = refl;
@@ -55,7 +49,7 @@ pub indication_accepted : IndicationAccepted
 indication_accepted config state source message payload e = (
   error_indication_to message.teid source,
   indicates config state source message payload e,
-  error_indication_accepted (big_endian 4 message.teid) (address source.version source.address) (length_big_endian 4 message.teid) (address_of source.version source.address),
+  error_indication_accepted (big_endian 4 message.teid) (address source.version source.address) (length_big_endian 4 message.teid) (octets_are source.version source.address),
 )
 
 tunnel_to_lem : (teid : ℕ) (v : IpVersion) (bytes : List ℕ) → tunnel_to teid (address v bytes) ≡ record { teid = teid; version = v; peer_address = padded (address v bytes) }
@@ -68,16 +62,16 @@ unfolding ErrorIndicationNames
 indication_names_the_tunnel config state source message payload e h = (
   error_indication_to message.teid source,
   indicates config state source message payload e,
-  error_indication_names message.teid (address source.version source.address) h (address_of source.version source.address)
+  error_indication_names message.teid (address source.version source.address) h (octets_are source.version source.address)
       ∙ ap gives (tunnel_to_lem message.teid source.version source.address),
 )
 
 pub received_has_risen : ReceivedHasRisen
 unfolding answer gpdu_known gpdu_outcome
 received_has_risen rows used k config e p state session source message payload output n l g r =
-    let is : answer config state (some session) source message payload ≡ record { outcome = refused n; state = one_more_received state } =
+    let is : answer config state (Some session) source message payload ≡ record { outcome = refused n; state = one_more_received state } =
     rw (eq-eqb message.message_type 255 g, p, echo_refused payload n r, answer) in
-    let whole = sym (handling_passed rows used config state (some session) source message payload output (sym e) l) ∙ is in
+    let whole = sym (handling_passed rows used config state (Some session) source message payload output (sym e) l) ∙ is in
     (whole, ap (λ (a : Answer). placed a.outcome output) whole)
 
 pub echo_reads_back : EchoReadsBack
@@ -85,7 +79,7 @@ unfolding answer gpdu_known gpdu_outcome
 echo_reads_back config state session source message e p flow sequence time g behind = (
   build_of (reversed_of flow) sequence time,
   record {
-    message = record { reason = ReflectedGpdu; destination = value_of session.peer_addr; teid = session.peer_teid; message_type = 255; sequence = Absent; payload = written (build_of (reversed_of flow) sequence time) };
+    message = record { reason = ReflectedGpdu; destination = value_of session.peer_addr; teid = session.peer_teid; message_type = 255; sequence = None; payload = written (build_of (reversed_of flow) sequence time) };
     sent = rw (eq-eqb message.message_type 255 e, p, echo_is_reversed flow sequence time g behind, answer);
     why = refl;
     to = refl;
@@ -137,12 +131,12 @@ module _ (config : MultiSessionReflectorConfig) (state : ReflectorState) (source
       by : (p : ReflectorPolicy) → config.policy ≡ p → NotShort (gpdu_outcome config session payload)
       by Echo e = rw (e, gpdu_outcome) (echo session payload)
       by SinkAndCount e = rw (e, gpdu_outcome) given
-      by Route e = rw (e, gpdu_outcome) given
+      by (Route target) e = rw (e, gpdu_outcome) given
 
   of_gpdu : (session : Option ReflectorSession) → Of (gpdu_answer config state session source message.teid payload)
   unfolding gpdu_known gpdu_unknown
-  of_gpdu (some session) = known session
-  of_gpdu none = given
+  of_gpdu (Some session) = known session
+  of_gpdu None = given
 
   answered : (session : Option ReflectorSession) → Of (answer config state session source message payload)
   unfolding answer

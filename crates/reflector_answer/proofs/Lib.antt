@@ -1,5 +1,4 @@
 -- The reflector's answers at each way out.
 pub mod Answers
 pub mod Meant
-pub mod Payload
 pub mod Claims

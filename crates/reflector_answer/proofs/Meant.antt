@@ -1,7 +1,9 @@
 -- What holds of every outcome of a message, from what holds of refusals, of messages that nothing is done with, of G-PDUs of a known session, and of messages that are none. So the case
 -- of every answer means its outcome.
 use Rattle.std.proofs.Common.{◌≡◌, ℕ, Bool, true, false, eqb, ltb, List, [], ◌∷◌, ◌++◌, length, drop, refl, ap, ◌∙◌}
-use mathlib.Core.Option.{Option, some, none}
+use Rattle.std.specs.Prelude.{Option, Some, None, Result}
+use Rattle.error.specs.declared.Refusal.{Refusal}
+use Rattle.reflector_answer.specs.declared.ReflectorAction.{ReflectorAction}
 use lib.Seq.{take-append_seam}
 use Rattle.error.specs.Number.{output_too_short}
 use Rattle.error.specs.Outcome.{Outcome, refused, gives, Cause, ◌⇒◌, first_cause}
@@ -12,8 +14,7 @@ use Rattle.reflector_sessions.specs.Session.{value_of}
 use Rattle.reflector_sessions.specs.declared.ReflectorSession.{ReflectorSession}
 use Rattle.reflector_sessions.specs.declared.SocketAddr.{SocketAddr}
 use Rattle.reflector_answer.specs.Answer.{Payload, written, Outbound, Action, noop, send, Answer, gpdu, reflected, gpdu_outcome, gpdu_known, gpdu_unknown, gpdu_answer, echo_request_outcome, echo_request, other_message, answer}
-use Rattle.reflector_answer.specs.Handle.{action_means, action_of, message_of, placed, Answers, HandledAs, reflector_bytes, handle_found}
-use Rattle.reflector_answer.specs.declared.Handled.{Handled}
+use Rattle.reflector_answer.specs.Handle.{action_means, action_of, placed, Answers, HandledAs, reflector_bytes, handle_found}
 use Rattle.reflector_answer.specs.declared.MultiSessionReflectorConfig.{MultiSessionReflectorConfig}
 use Rattle.reflector_answer.specs.declared.ReflectorNoopReason.{ReflectorNoopReason}
 use Rattle.reflector_answer.specs.declared.ReflectorPolicy.{ReflectorPolicy}
@@ -53,8 +54,8 @@ module _ (rows used : ℕ) (config : MultiSessionReflectorConfig) (state : Refle
 
     of_gpdu : (known : Option ReflectorSession) → Of (gpdu_answer config state known source message.teid payload)
     unfolding gpdu_known gpdu_unknown
-    of_gpdu (some known) = gpdus known
-    of_gpdu none = others _ (indication _ refl refl refl)
+    of_gpdu (Some known) = gpdus known
+    of_gpdu None = others _ (indication _ refl refl refl)
 
     of_answer : Of (answer config state session source message payload)
     unfolding answer echo_request
@@ -74,7 +75,7 @@ module _ (rows used : ℕ) (config : MultiSessionReflectorConfig) (state : Refle
         go (gives u) = of_answer
 
   abbrev Meant : Outcome Action → Type 0
-  Meant o = action_means (action_of o) (message_of o) (placed o out) ≡ o
+  Meant o = action_means (action_of o) (placed o out) ≡ o
 
   meant_echo : (known : ReflectorSession) (o : Outcome (List ℕ)) → Meant (reflected known o)
   meant_echo known (refused n) = refl
@@ -87,7 +88,7 @@ module _ (rows used : ℕ) (config : MultiSessionReflectorConfig) (state : Refle
       go : (p : ReflectorPolicy) → config.policy ≡ p → Meant (gpdu_outcome config known payload)
       go Echo e = rw (e, gpdu_outcome) (meant_echo known (echo_of payload))
       go SinkAndCount e = rw (e, gpdu_outcome)
-      go Route e = rw (e, gpdu_outcome)
+      go (Route target) e = rw (e, gpdu_outcome)
 
   abbrev sends : Outbound → Payload → Outcome Action
   sends m p = gives (send (record { reason = m.reason; destination = m.destination; teid = m.teid; message_type = m.message_type; sequence = m.sequence; payload = p }))
@@ -102,5 +103,5 @@ module _ (rows used : ℕ) (config : MultiSessionReflectorConfig) (state : Refle
   meant : Meant to.outcome
   meant = every Meant (λ n. refl) (λ reason. refl) meant_gpdu meant_other
 
-  pub handled_as : {r : Handled} {after : List ℕ} → Answers r after to out → HandledAs r after to out
-  handled_as (e, l) = ((λ i. action_means (e i).action (e i).message (l i)) ∙ meant, (e, l))
+  pub handled_as : (r : Result ReflectorAction Refusal) {after_state : ReflectorState} {after : List ℕ} → Answers r after_state after to out → HandledAs r after_state after to out
+  handled_as r (e, s, l) = ((λ i. action_means (e i) (l i)) ∙ meant, (e, s, l))

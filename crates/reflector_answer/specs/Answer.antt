@@ -1,23 +1,21 @@
 -- What the reflector answers to a message whose TEID means this session, or none: document 01, leaf 9, with the card's
 -- numbers 35 to 37. The output buffer is not spoken of here: an answer has a payload, and specs/Handle.antt says where
 -- it stands.
-use Rattle.std.specs.Prelude.{ℕ, Bool, true, false, not, List, [], ◌∷◌, ◌++◌, ◌==◌}
-use Rattle.std.proofs.Math.Option.{Option, some, none}
+use Rattle.std.specs.Prelude.{ℕ, true, false, not, List, [], ◌∷◌, ◌++◌, Option, Some, None, is_none, ◌==◌}
 use Rattle.error.specs.Number.{echo_request_teid_not_zero, echo_request_missing_sequence, unsupported_message_type}
 use Rattle.error.specs.Outcome.{Outcome, refused, gives, ◌⇒◌, first_cause}
-use Rattle.field.specs.Field.{big_endian, bytes_at}
+use Rattle.field.specs.Field.{big_endian}
 use Rattle.measurement.specs.Flow.{address}
 use Rattle.measurement_damage.specs.Echo.{echo_of}
 use Rattle.gtpu.specs.Element.{teid_data_i, gtpu_peer_address, error_indication}
 use Rattle.gtpu.specs.Message.{gtpu_msg_echo_request, gtpu_msg_echo_response, gtpu_msg_error_indication}
 use Rattle.gtpu.specs.Message.{gtpu_msg_supported_extension_headers_notification, gtpu_msg_end_marker, gtpu_msg_gpdu}
 use Rattle.reflector_sessions.specs.Session.{value_of}
+use Rattle.reflector_answer.specs.State.{GpduReceived, GpduForwarded, EchoRequestsAnswered, MalformedRejected}
 use Rattle.reflector_answer.specs.State.{state_counted, error_indication_sent}
+use Rattle.reflector_answer.specs.State as counter
 use Rattle.gtpu.specs.declared.GtpuMessage.{GtpuMessage}
 use Rattle.reflector_answer.specs.declared.MultiSessionReflectorConfig.{MultiSessionReflectorConfig}
-use Rattle.reflector_answer.specs.declared.ReflectorCounter.TheVariants.{GpduReceived, GpduForwarded}
-use Rattle.reflector_answer.specs.declared.ReflectorCounter.TheVariants.{EchoRequestsAnswered, MalformedRejected}
-use Rattle.reflector_answer.specs.declared.ReflectorCounter.TheVariants as counter
 use Rattle.reflector_answer.specs.declared.ReflectorNoopReason.{ReflectorNoopReason}
 use Rattle.reflector_answer.specs.declared.ReflectorNoopReason.TheVariants.{GpduSunk, EchoResponseObserved}
 use Rattle.reflector_answer.specs.declared.ReflectorNoopReason.TheVariants.{ErrorIndicationObserved}
@@ -29,8 +27,6 @@ use Rattle.reflector_answer.specs.declared.ReflectorSendReason.TheVariants.{Refl
 use Rattle.reflector_answer.specs.declared.ReflectorSendReason.TheVariants.{EchoResponse, ErrorIndication}
 use Rattle.reflector_sessions.specs.declared.ReflectorSession.{ReflectorSession}
 use Rattle.reflector_answer.specs.declared.ReflectorState.{ReflectorState}
-use Rattle.gtpu.specs.declared.SequenceNumber.{SequenceNumber}
-use Rattle.gtpu.specs.declared.SequenceNumber.TheVariants.{Present, Absent}
 use Rattle.reflector_sessions.specs.declared.SocketAddr.{SocketAddr}
 
 -- The payload of an answer: bytes that the reflector writes, or the received payload. "Route hands on the payload
@@ -50,7 +46,7 @@ pub record Outbound : Type 0 where
   pub destination : SocketAddr
   pub teid : ℕ
   pub message_type : ℕ
-  pub sequence : SequenceNumber
+  pub sequence : Option ℕ
   pub payload : Payload
 
 -- What is done with a message that is not refused.
@@ -71,7 +67,7 @@ gpdu reason destination teid payload =
       destination = destination;
       teid = teid;
       message_type = gtpu_msg_gpdu;
-      sequence = Absent;
+      sequence = None;
       payload = payload;
     })
 
@@ -88,7 +84,7 @@ gpdu_outcome config session payload =
     elim config.policy [
       | Echo ↦ reflected session (echo_of payload)
       | SinkAndCount ↦ gives (noop GpduSunk)
-      | Route ↦ gives (gpdu RoutedGpdu config.target.destination config.target.teid handed_on)
+      | Route target ↦ gives (gpdu RoutedGpdu target.destination target.teid handed_on)
     ]
 
 -- "success raises the forwarded or sunk count"; a refusal of the echo raises neither.
@@ -109,10 +105,9 @@ gpdu_known config state session payload =
 abbrev pub error_indication_to : ℕ → SocketAddr → List ℕ
 error_indication_to teid source = error_indication (big_endian 4 teid) (address source.version source.address)
 
--- `error_indication_to` with all 16 bytes of the address; `counted` says how many of them count.
-abbrev pub error_indication_block : ℕ → ℕ → List ℕ → List ℕ
-error_indication_block teid counted bytes =
-    teid_data_i ∷ (big_endian 4 teid ++ (gtpu_peer_address ∷ 0 ∷ counted ∷ bytes_at 16 0 bytes))
+-- What of it stands before an address of so many bytes.
+abbrev pub before_address : ℕ → ℕ → List ℕ
+before_address teid octets = teid_data_i ∷ (big_endian 4 teid ++ (gtpu_peer_address ∷ big_endian 2 octets))
 
 -- "255 with unknown TEID yields an Error Indication .. as type 26 with TEID 0 and the error sequence, to the sender".
 unfoldable pub gpdu_unknown : ReflectorState → SocketAddr → ℕ → Answer
@@ -123,15 +118,11 @@ gpdu_unknown state source teid =
         destination = source;
         teid = 0;
         message_type = gtpu_msg_error_indication;
-        sequence = Present state.next_error_sequence;
+        sequence = Some state.next_error_sequence;
         payload = written (error_indication_to teid source);
       }));
       state = error_indication_sent state;
     }
-
-abbrev pub is_absent : SequenceNumber → Bool
-is_absent Absent = true
-is_absent (Present n) = false
 
 -- "1 is judged 35, 36, then answered to the sender as type 2 with TEID 0, the request's sequence and the bytes 14 and
 -- recovery counter".
@@ -139,7 +130,7 @@ unfoldable pub echo_request_outcome : MultiSessionReflectorConfig → SocketAddr
 echo_request_outcome config source message =
     first_cause
     ((not (message.teid == 0) ⇒ echo_request_teid_not_zero)
-    ∷ (is_absent message.sequence_number ⇒ echo_request_missing_sequence)
+    ∷ (is_none message.sequence_number ⇒ echo_request_missing_sequence)
     ∷ [])
     (gives (send (record {
       reason = EchoResponse;
@@ -189,8 +180,8 @@ other_message state message_type =
 abbrev pub gpdu_answer : MultiSessionReflectorConfig → ReflectorState → Option ReflectorSession → SocketAddr → ℕ
     → List ℕ
     → Answer
-gpdu_answer config state (some session) source teid payload = gpdu_known config state session payload
-gpdu_answer config state none source teid payload = gpdu_unknown state source teid
+gpdu_answer config state (Some session) source teid payload = gpdu_known config state session payload
+gpdu_answer config state None source teid payload = gpdu_unknown state source teid
 
 -- A message, by its type.
 unfoldable pub answer : MultiSessionReflectorConfig → ReflectorState → Option ReflectorSession → SocketAddr

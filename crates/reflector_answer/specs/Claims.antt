@@ -1,6 +1,5 @@
 -- What is claimed of the reflector's answers. Proved in proofs/Claims.antt.
-use Rattle.std.specs.Prelude.{◌≡◌, ℕ, ◌^◌, ◌<◌, ◌≤◌, List, ◌++◌, length, ◌≢◌}
-use Rattle.std.proofs.Math.Option.{Option, some, none}
+use Rattle.std.specs.Prelude.{◌≡◌, ℕ, ◌^◌, ◌<◌, ◌≤◌, List, ◌++◌, length, ◌≢◌, Option, Some, None}
 use Rattle.counter.specs.Counter.{one_more}
 use Rattle.error.specs.Number.{output_too_short}
 use Rattle.error.specs.Outcome.{refused, gives}
@@ -38,7 +37,7 @@ abbrev pub IndicationAccepted : Type 0
 IndicationAccepted = (config : MultiSessionReflectorConfig) (state : ReflectorState) (source : SocketAddr)
     (message : GtpuMessage) (payload : List ℕ)
     → message.message_type ≡ gtpu_msg_gpdu
-    → (bytes : List ℕ) × Sends (answer config state none source message payload) ErrorIndication source bytes
+    → (bytes : List ℕ) × Sends (answer config state None source message payload) ErrorIndication source bytes
     × (elements_of bytes ≡ gives tt)
 
 -- And its elements name the TEID that was not known, and the sender's address (document 02, job 7); of an IPv4 address
@@ -47,7 +46,7 @@ abbrev pub IndicationNamesTheTunnel : Type 0
 IndicationNamesTheTunnel = (config : MultiSessionReflectorConfig) (state : ReflectorState) (source : SocketAddr)
     (message : GtpuMessage) (payload : List ℕ)
     → message.message_type ≡ gtpu_msg_gpdu → message.teid < 2 ^ 32
-    → (bytes : List ℕ) × Sends (answer config state none source message payload) ErrorIndication source bytes
+    → (bytes : List ℕ) × Sends (answer config state None source message payload) ErrorIndication source bytes
     × (indication_of bytes ≡ gives (record {
       teid = message.teid;
       version = source.version;
@@ -78,7 +77,7 @@ ReceivedHasRisen = (rows used k : ℕ) (config : MultiSessionReflectorConfig)
     → (state : ReflectorState) (session : ReflectorSession) (source : SocketAddr) (message : GtpuMessage)
     (payload output : List ℕ) (n : ℕ)
     → 72 ≤ length output → message.message_type ≡ gtpu_msg_gpdu → read_of payload ≡ refused n
-    → let a : Answer = handle_found rows used config state (some session) source message payload output in
+    → let a : Answer = handle_found rows used config state (Some session) source message payload output in
     (a ≡ record { outcome = refused n; state = one_more_received state }) × (placed a.outcome output ≡ output)
 
 -- A built T-PDU for a known session, whatever stands behind it, is echoed to the session's peer; the echo, read back,
@@ -89,7 +88,7 @@ EchoReadsBack = (config : MultiSessionReflectorConfig) (state : ReflectorState) 
     → message.message_type ≡ gtpu_msg_gpdu → config.policy ≡ Echo
     → (flow : InnerIpFlow) (sequence time : ℕ) → InRange flow sequence time → (behind : List ℕ)
     → (bytes : List ℕ)
-    × Sends (answer config state (some session) source message (build_of flow sequence time ++ behind)) ReflectedGpdu
+    × Sends (answer config state (Some session) source message (build_of flow sequence time ++ behind)) ReflectedGpdu
     (value_of session.peer_addr) bytes
     × (read_of bytes ≡ gives (tpdu_built (reversed_of flow) sequence time))
 

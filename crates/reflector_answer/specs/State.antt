@@ -1,10 +1,6 @@
 -- The reflector's state: its counts, and the sequence number of the next Error Indication (document 01, leaf 9).
 use Rattle.std.specs.Prelude.{ℕ, ◌+◌, true, false, ◌==◌}
 use Rattle.counter.specs.Counter.{one_more}
-use Rattle.reflector_answer.specs.declared.ReflectorCounter.{ReflectorCounter}
-use Rattle.reflector_answer.specs.declared.ReflectorCounter.TheVariants.{GpduReceived, GpduForwarded, GpduSunk}
-use Rattle.reflector_answer.specs.declared.ReflectorCounter.TheVariants.{EchoRequestsAnswered}
-use Rattle.reflector_answer.specs.declared.ReflectorCounter.TheVariants.{ErrorIndicationsSent, MalformedRejected}
 use Rattle.reflector_answer.specs.declared.ReflectorState.{ReflectorState}
 use Rattle.reflector_answer.specs.declared.ReflectorStats.{ReflectorStats}
 
@@ -21,6 +17,10 @@ fresh = record {
   };
   next_error_sequence = 1;
 }
+
+-- One of the counts.
+pub data ReflectorCounter : Type 0 where
+  GpduReceived GpduForwarded GpduSunk EchoRequestsAnswered ErrorIndicationsSent MalformedRejected : ReflectorCounter
 
 -- One more of one count: "The counts saturate."
 abbrev pub counted : ReflectorCounter → ReflectorStats → ReflectorStats

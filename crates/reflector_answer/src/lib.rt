@@ -4,21 +4,19 @@
 // definition: the answer, the counts, the error sequence and every byte of the output, on refusals too.
 #![tactic(auto)]
 
-ghost use Rattle.std.specs.Prelude.{◌≡◌, ◌≤◌, ◌++◌, length, drop};
-ghost use Rattle.error.specs.Outcome.{refused};
-ghost use Rattle.measurement.specs.Flow.{address_length};
-ghost use Rattle.reflector_sessions.specs.Judge.{session_found};
-ghost use Rattle.reflector_answer.specs.State.{counted, next_error_sequence, state_counted};
-ghost use Rattle.reflector_answer.specs.Answer.{error_indication_block, error_indication_to, ignored, gpdu_known};
+ghost use Rattle.std.specs.Prelude.{◌≡◌, ◌≤◌, ◌++◌, length, drop, Ok, Err};
+ghost use Rattle.counter.specs.Counter.{one_more};
+ghost use Rattle.reflector_answer.specs.State.{GpduForwarded, MalformedRejected, state_counted, next_error_sequence};
+ghost use Rattle.reflector_answer.specs.Answer.{before_address, error_indication_to, gpdu_known};
 ghost use Rattle.reflector_answer.specs.Answer.{gpdu_unknown, echo_request, other_message, answer};
 ghost use Rattle.reflector_answer.specs.Claims.{ReceivedHasRisen, IndicationAccepted, IndicationNamesTheTunnel};
 ghost use Rattle.reflector_answer.specs.Claims.{EchoReadsBack, LeastOutput};
-ghost use Rattle.reflector_answer.specs.Handle.{nothing_sent, handled_of, forwarded, Answers, HandledAs, EchoFits};
-ghost use Rattle.reflector_answer.specs.Handle.{reflector_bytes, handle_found};
+ghost use Rattle.reflector_answer.specs.Handle.{Answered, Answers, HandledAs, EchoFits, reflector_bytes};
+ghost use Rattle.reflector_answer.specs.Handle.{handle_found, gpdu_sent};
 
-use gtpu::{GtpuMessage, SequenceNumber};
-use measurement::{IpVersion, Written};
-use reflector_sessions::{FoundSession, JudgedTable, ReflectorSession, SocketAddr};
+use error::Refusal;
+use gtpu::GtpuMessage;
+use reflector_sessions::{ReflectorSession, SocketAddr};
 
 // Where the policy `Route` sends G-PDUs.
 #[derive(Clone, Copy)]
@@ -27,21 +25,20 @@ pub struct RouteTarget {
     pub teid: u32,
 }
 
-// What is done with a G-PDU of a known session. The target of `Route` stands beside it, since an enum holds no arrays.
+// What is done with a G-PDU of a known session.
 #[derive(Clone, Copy)]
 pub enum ReflectorPolicy {
     Echo,
     SinkAndCount,
-    Route,
+    Route(RouteTarget),
 }
 
-// What a reflector is set up with. `target` counts under the policy `Route` alone.
+// What a reflector is set up with.
 #[derive(Clone, Copy)]
 pub struct MultiSessionReflectorConfig {
     pub max_sessions: usize,
     pub recovery_counter: u8,
     pub policy: ReflectorPolicy,
-    pub target: RouteTarget,
 }
 
 // The reflector's counts.
@@ -56,17 +53,6 @@ pub struct ReflectorStats {
     pub malformed_rejected: u64,
 }
 
-// One of the counts.
-#[derive(Clone, Copy)]
-pub enum ReflectorCounter {
-    GpduReceived,
-    GpduForwarded,
-    GpduSunk,
-    EchoRequestsAnswered,
-    ErrorIndicationsSent,
-    MalformedRejected,
-}
-
 // What changes from message to message: the counts, and the sequence number of the next Error Indication.
 #[repr(C)]
 #[derive(Clone, Copy)]
@@ -76,7 +62,7 @@ pub struct ReflectorState {
 }
 
 // Why a message is sent.
-#[derive(Clone, Copy)]
+#[derive(Clone, Copy, Debug, PartialEq, Eq)]
 pub enum ReflectorSendReason {
     ReflectedGpdu,
     RoutedGpdu,
@@ -85,7 +71,7 @@ pub enum ReflectorSendReason {
 }
 
 // Why nothing is sent.
-#[derive(Clone, Copy)]
+#[derive(Clone, Copy, Debug, PartialEq, Eq)]
 pub enum ReflectorNoopReason {
     GpduSunk,
     EchoResponseObserved,
@@ -94,166 +80,90 @@ pub enum ReflectorNoopReason {
     SupportedExtensionHeadersNotificationIgnored,
 }
 
-// What is done with a message. `Send` tells how many bytes at the front of the output are the payload; a routed G-PDU
+// The message to send: why and where to, and how many bytes at the front of the output are its payload. A routed G-PDU
 // has none there, since its payload is the received one, uncopied.
 #[derive(Clone, Copy)]
-pub enum ReflectorAction {
-    Refused(u8),
-    Noop(ReflectorNoopReason),
-    Send(ReflectorSendReason, usize),
-}
-
-// The message to send: where to, and its header's values. Where nothing is sent: version 4, zeros and no sequence.
-#[derive(Clone, Copy)]
 pub struct OutboundMessage {
+    pub reason: ReflectorSendReason,
     pub destination: SocketAddr,
-    pub teid: u32,
-    pub message_type: u8,
-    pub sequence_number: SequenceNumber,
+    pub message: GtpuMessage,
+    pub bytes: usize,
 }
 
-// The answer to a message, and the state that it leaves.
+// What is done with a message that is not refused.
 #[derive(Clone, Copy)]
-pub struct Handled {
-    pub action: ReflectorAction,
-    pub message: OutboundMessage,
-    pub state: ReflectorState,
+pub enum ReflectorAction {
+    Noop(ReflectorNoopReason),
+    Send(OutboundMessage),
 }
 
 // The least output that a message is handled with.
 pub const REFLECTOR_BYTES: usize = 72;
 
-impl ReflectorStats {
-    // One more of one count.
-    fn counted(mut self, counter: ReflectorCounter) -> Self
-        ensures { result ≡ counted counter self }
-    {
-        match counter {
-            ReflectorCounter::GpduReceived => {
-                self.gpdu_received = counter::one_more(self.gpdu_received);
-            }
-            ReflectorCounter::GpduForwarded => {
-                self.gpdu_forwarded = counter::one_more(self.gpdu_forwarded);
-            }
-            ReflectorCounter::GpduSunk => {
-                self.gpdu_sunk = counter::one_more(self.gpdu_sunk);
-            }
-            ReflectorCounter::EchoRequestsAnswered => {
-                self.echo_requests_answered = counter::one_more(self.echo_requests_answered);
-            }
-            ReflectorCounter::ErrorIndicationsSent => {
-                self.error_indications_sent = counter::one_more(self.error_indications_sent);
-            }
-            ReflectorCounter::MalformedRejected => {
-                self.malformed_rejected = counter::one_more(self.malformed_rejected);
-            }
-        }
-        self
-    }
+// One more of a count.
+fn raise(count: &mut u64)
+    ensures { count.new ≡ one_more count.old }
+{
+    *count = counter::one_more(*count);
 }
 
 impl ReflectorState {
-    // The state with one count raised.
-    fn counted(self, counter: ReflectorCounter) -> Self
-        ensures { result ≡ state_counted counter self }
+    // Refuses a message that counts as malformed.
+    fn reject(&mut self, refusal: Refusal) -> Result<ReflectorAction, Refusal>
+        ensures { (result ≡ Err refusal) × (self.new ≡ state_counted MalformedRejected self.old) }
     {
-        let stats = self.stats;
-        Self {
-            stats: stats.counted(counter),
-            next_error_sequence: self.next_error_sequence,
-        }
+        raise(&mut self.stats.malformed_rejected);
+        Err(refusal)
     }
 
-    // The answer that refuses by this number.
-    fn refuse(self, number: u8) -> Handled
-        ensures { result ≡ handled_of (record { outcome = refused number; state = self }) }
+    // Sends a G-PDU on, to this address and TEID, without a sequence.
+    fn forward(
+        &mut self,
+        reason: ReflectorSendReason,
+        destination: SocketAddr,
+        teid: u32,
+        bytes: usize,
+    ) -> ReflectorAction
+        ensures { (result ≡ gpdu_sent reason destination teid bytes)
+            × (self.new ≡ state_counted GpduForwarded self.old) }
     {
-        Handled {
-            action: ReflectorAction::Refused(number),
-            message: nothing_sent(),
-            state: self,
-        }
-    }
-
-    // The answer that sends nothing, for this reason.
-    fn do_nothing(self, reason: ReflectorNoopReason) -> Handled
-        ensures { result ≡ handled_of (ignored self reason) }
-    {
-        Handled {
-            action: ReflectorAction::Noop(reason),
-            message: nothing_sent(),
-            state: self,
-        }
+        raise(&mut self.stats.gpdu_forwarded);
+        ReflectorAction::Send(OutboundMessage {
+            reason,
+            destination,
+            message: GtpuMessage {
+                message_type: gtpu::GTPU_MSG_GPDU,
+                teid,
+                sequence_number: None,
+            },
+            bytes,
+        })
     }
 }
 
-// What stands beside an action that sends nothing.
-fn nothing_sent() -> OutboundMessage
-    ensures { result ≡ nothing_sent }
-{
-    OutboundMessage {
-        destination: SocketAddr {
-            version: IpVersion::V4,
-            address: [0; 16],
-            port: 0,
-        },
-        teid: 0,
-        message_type: 0,
-        sequence_number: SequenceNumber::Absent,
-    }
-}
-
-// The error sequence after this one: a wrapping add, with a wrapped zero replaced by one.
+// The error sequence after this one: 65,535 is followed by 1.
+#[tactic(auto, unfolding(crate::specs::State::next_error_sequence))]
 fn next_error_sequence(sequence: u16) -> u16
     ensures { result ≡ next_error_sequence sequence }
 {
-    let next = std::num::wrapping_add_u16(sequence, 1);
-    if next == 0 {
-        return 1;
-    }
-    next
+    sequence.checked_add(1).unwrap_or(1)
 }
 
-// How many bytes of an address count.
-fn address_length(version: IpVersion) -> u8
-    ensures { result ≡ address_length version }
+// What stands before the address in the payload of an Error Indication: TEID Data I, and the type and the length of the
+// GTP-U Peer Address.
+fn before_address(teid: u32, octets: u8) -> [u8; 8]
+    ensures { result ≡ before_address teid octets }
 {
-    match version {
-        IpVersion::V4 => 4,
-        IpVersion::V6 => 16,
-    }
-}
-
-// The payload of an Error Indication with all 16 bytes of the address: TEID Data I, and the GTP-U Peer Address, of
-// which `length` bytes, 4 or 16, count.
-fn error_indication(teid: u32, length: u8, address: [u8; 16]) -> [u8; 24]
-    ensures { result ≡ error_indication_block teid length address }
-{
+    let [first, second, third, fourth] = teid.to_be_bytes();
     [
         gtpu::TEID_DATA_I,
-        ((teid >> 24) % 256) as u8,
-        ((teid >> 16) % 256) as u8,
-        ((teid >> 8) % 256) as u8,
-        (teid % 256) as u8,
+        first,
+        second,
+        third,
+        fourth,
         gtpu::GTPU_PEER_ADDRESS,
         0,
-        length,
-        address[0],
-        address[1],
-        address[2],
-        address[3],
-        address[4],
-        address[5],
-        address[6],
-        address[7],
-        address[8],
-        address[9],
-        address[10],
-        address[11],
-        address[12],
-        address[13],
-        address[14],
-        address[15],
+        octets,
     ]
 }
 
@@ -264,188 +174,146 @@ fn write_error_indication(teid: u32, peer: SocketAddr, out: &mut [u8]) -> usize
         × (out.new ≡ error_indication_to teid peer ++ drop (length (error_indication_to teid peer))
         out.old) }
 {
-    let version = peer.version;
-    let address = peer.address;
-    let n = address_length(version);
-    let payload = error_indication(teid, n, address);
-    let size = 8 + (n as usize);
-    out[..size].copy_from_slice(&payload[..size]);
-    size
+    let address = peer.counted();
+    let octets = address.len();
+    let (front, rest) = out.split_at_mut(8);
+    front.copy_from_slice(&before_address(teid, octets as u8));
+    rest[..octets].copy_from_slice(address);
+    8 + octets
 }
 
 // A G-PDU of an unknown TEID: an Error Indication to its sender.
-fn answer_unknown(state: ReflectorState, source: SocketAddr, teid: u32, out: &mut [u8]) -> Handled
-    requires { 24 ≤ length out.old }
-    ensures { Answers result out.new (gpdu_unknown state source teid) out.old }
-{
-    let sequence = state.next_error_sequence;
-    let stats = state.stats;
-    let written = write_error_indication(teid, source, out);
-    Handled {
-        action: ReflectorAction::Send(ReflectorSendReason::ErrorIndication, written),
-        message: OutboundMessage {
-            destination: source,
-            teid: 0,
-            message_type: gtpu::GTPU_MSG_ERROR_INDICATION,
-            sequence_number: SequenceNumber::Present(sequence),
-        },
-        state: ReflectorState {
-            stats: stats.counted(ReflectorCounter::ErrorIndicationsSent),
-            next_error_sequence: next_error_sequence(sequence),
-        },
-    }
-}
-
-// A G-PDU sent on: to this address and TEID, without a sequence.
-fn forward(
-    state: ReflectorState,
-    reason: ReflectorSendReason,
-    destination: SocketAddr,
+fn answer_unknown(
+    state: &mut ReflectorState,
+    source: SocketAddr,
     teid: u32,
-    written: usize,
-) -> Handled
-    ensures { result ≡ forwarded state reason destination teid written }
+    out: &mut [u8],
+) -> ReflectorAction
+    requires { 24 ≤ length out.old }
+    ensures { Answers (Ok result) state.new out.new (gpdu_unknown state.old source teid) out.old }
 {
-    Handled {
-        action: ReflectorAction::Send(reason, written),
-        message: OutboundMessage {
-            destination: destination,
-            teid: teid,
-            message_type: gtpu::GTPU_MSG_GPDU,
-            sequence_number: SequenceNumber::Absent,
+    let bytes = write_error_indication(teid, source, out);
+    let sequence = state.next_error_sequence;
+    raise(&mut state.stats.error_indications_sent);
+    state.next_error_sequence = next_error_sequence(sequence);
+    ReflectorAction::Send(OutboundMessage {
+        reason: ReflectorSendReason::ErrorIndication,
+        destination: source,
+        message: GtpuMessage {
+            message_type: gtpu::GTPU_MSG_ERROR_INDICATION,
+            teid: 0,
+            sequence_number: Some(sequence),
         },
-        state: state.counted(ReflectorCounter::GpduForwarded),
-    }
+        bytes,
+    })
 }
 
 // A G-PDU of a known session, by policy. The received count rises in every case.
 fn answer_known(
     config: MultiSessionReflectorConfig,
-    state: ReflectorState,
+    state: &mut ReflectorState,
     session: ReflectorSession,
     payload: &[u8],
     out: &mut [u8],
-) -> Handled
+) -> Result<ReflectorAction, Refusal>
     requires { EchoFits payload.now out.old }
-    ensures { Answers result out.new (gpdu_known config state session payload.now)
-        out.old }
+    ensures { Answers result state.new out.new
+        (gpdu_known config state.old session payload.now) out.old }
 {
-    let received = state.counted(ReflectorCounter::GpduReceived);
-    let policy = config.policy;
-    match policy {
-        ReflectorPolicy::Echo => match measurement_echo::echo_tpdu(payload, out) {
-            Written::Refused(number) => received.refuse(number),
-            Written::Bytes(n) => {
-                let peer = session.peer_addr;
-                forward(
-                    received,
-                    ReflectorSendReason::ReflectedGpdu,
-                    peer.value(),
-                    session.peer_teid,
-                    n,
-                )
-            }
-        },
+    raise(&mut state.stats.gpdu_received);
+    match config.policy {
+        ReflectorPolicy::Echo => {
+            let bytes = measurement_echo::echo_tpdu(payload, out)?;
+            Ok(state.forward(
+                ReflectorSendReason::ReflectedGpdu,
+                SocketAddr::from(session.peer_addr),
+                session.peer_teid,
+                bytes,
+            ))
+        }
         ReflectorPolicy::SinkAndCount => {
-            let sunk = received.counted(ReflectorCounter::GpduSunk);
-            sunk.do_nothing(ReflectorNoopReason::GpduSunk)
+            raise(&mut state.stats.gpdu_sunk);
+            Ok(ReflectorAction::Noop(ReflectorNoopReason::GpduSunk))
         }
-        ReflectorPolicy::Route => {
-            let target = config.target;
-            forward(
-                received,
-                ReflectorSendReason::RoutedGpdu,
-                target.destination,
-                target.teid,
-                0,
-            )
-        }
+        ReflectorPolicy::Route(target) => Ok(state.forward(
+            ReflectorSendReason::RoutedGpdu,
+            target.destination,
+            target.teid,
+            0,
+        )),
     }
 }
 
 // An Echo Request: 35, 36, or an Echo Response with the recovery counter.
 fn answer_echo_request(
     config: MultiSessionReflectorConfig,
-    state: ReflectorState,
+    state: &mut ReflectorState,
     source: SocketAddr,
     message: GtpuMessage,
     out: &mut [u8],
-) -> Handled
+) -> Result<ReflectorAction, Refusal>
     requires { 2 ≤ length out.old }
-    ensures { Answers result out.new (echo_request config state source message) out.old }
+    ensures { Answers result state.new out.new
+        (echo_request config state.old source message) out.old }
 {
     if message.teid != 0 {
-        let malformed = state.counted(ReflectorCounter::MalformedRejected);
-        return malformed.refuse(error::ECHO_REQUEST_TEID_NOT_ZERO);
+        return state.reject(Refusal::EchoRequestTeidNotZero);
     }
-    let sequence = message.sequence_number;
-    match sequence {
-        SequenceNumber::Absent => {
-            let malformed = state.counted(ReflectorCounter::MalformedRejected);
-            malformed.refuse(error::ECHO_REQUEST_MISSING_SEQUENCE)
-        }
-        SequenceNumber::Present(_) => {
-            out[0] = 14;
-            out[1] = config.recovery_counter;
-            Handled {
-                action: ReflectorAction::Send(ReflectorSendReason::EchoResponse, 2),
-                message: OutboundMessage {
-                    destination: source,
-                    teid: 0,
-                    message_type: gtpu::GTPU_MSG_ECHO_RESPONSE,
-                    sequence_number: sequence,
-                },
-                state: state.counted(ReflectorCounter::EchoRequestsAnswered),
-            }
-        }
+    if message.sequence_number.is_none() {
+        return state.reject(Refusal::EchoRequestMissingSequence);
     }
+    out[0] = 14;
+    out[1] = config.recovery_counter;
+    raise(&mut state.stats.echo_requests_answered);
+    Ok(ReflectorAction::Send(OutboundMessage {
+        reason: ReflectorSendReason::EchoResponse,
+        destination: source,
+        message: GtpuMessage {
+            message_type: gtpu::GTPU_MSG_ECHO_RESPONSE,
+            teid: 0,
+            sequence_number: message.sequence_number,
+        },
+        bytes: 2,
+    }))
 }
 
 // A message of a type other than 255 and 1.
-fn answer_other(state: ReflectorState, message_type: u8) -> Handled
-    ensures { result ≡ handled_of (other_message state message_type) }
+fn answer_other(state: &mut ReflectorState, message_type: u8) -> Result<ReflectorAction, Refusal>
+    ensures { Answered result state.new (other_message state.old message_type) }
 {
-    match message_type {
-        gtpu::GTPU_MSG_ECHO_RESPONSE => state.do_nothing(ReflectorNoopReason::EchoResponseObserved),
-        gtpu::GTPU_MSG_ERROR_INDICATION => state.do_nothing(
-            ReflectorNoopReason::ErrorIndicationObserved,
-        ),
-        gtpu::GTPU_MSG_END_MARKER => state.do_nothing(ReflectorNoopReason::EndMarkerIgnored),
-        gtpu::GTPU_MSG_SUPPORTED_EXTENSION_HEADERS_NOTIFICATION => state.do_nothing(
-            ReflectorNoopReason::SupportedExtensionHeadersNotificationIgnored,
-        ),
-        _ => {
-            let malformed = state.counted(ReflectorCounter::MalformedRejected);
-            malformed.refuse(error::UNSUPPORTED_MESSAGE_TYPE)
+    let reason = match message_type {
+        gtpu::GTPU_MSG_ECHO_RESPONSE => ReflectorNoopReason::EchoResponseObserved,
+        gtpu::GTPU_MSG_ERROR_INDICATION => ReflectorNoopReason::ErrorIndicationObserved,
+        gtpu::GTPU_MSG_END_MARKER => ReflectorNoopReason::EndMarkerIgnored,
+        gtpu::GTPU_MSG_SUPPORTED_EXTENSION_HEADERS_NOTIFICATION => {
+            ReflectorNoopReason::SupportedExtensionHeadersNotificationIgnored
         }
-    }
+        _ => return state.reject(Refusal::UnsupportedMessageType),
+    };
+    Ok(ReflectorAction::Noop(reason))
 }
 
-// A message, by its type; the session is the one that the search found among the used rows.
+// A message, by its type; the session is the one that its TEID means.
 fn answer_message(
-    used: usize,
     config: MultiSessionReflectorConfig,
-    state: ReflectorState,
-    found: FoundSession,
+    state: &mut ReflectorState,
+    session: Option<ReflectorSession>,
     source: SocketAddr,
     message: GtpuMessage,
     payload: &[u8],
     out: &mut [u8],
-) -> Handled
+) -> Result<ReflectorAction, Refusal>
     requires { reflector_bytes ≤ length out.old }
-    ensures { Answers result out.new
-        (answer config state (session_found used found) source message payload.now) out.old }
+    ensures { Answers result state.new out.new
+        (answer config state.old session source message payload.now) out.old }
 {
-    let message_type = message.message_type;
-    match message_type {
-        gtpu::GTPU_MSG_GPDU => {
-            if found.place < used {
-                return answer_known(config, state, found.session, payload, out);
-            }
-            answer_unknown(state, source, message.teid, out)
-        }
+    match message.message_type {
+        gtpu::GTPU_MSG_GPDU => match session {
+            Some(known) => answer_known(config, state, known, payload, out),
+            None => Ok(answer_unknown(state, source, message.teid, out)),
+        },
         gtpu::GTPU_MSG_ECHO_REQUEST => answer_echo_request(config, state, source, message, out),
-        _ => answer_other(state, message_type),
+        other => answer_other(state, other),
     }
 }
 
@@ -455,50 +323,50 @@ pub fn handle_found(
     length: usize,
     used: usize,
     config: MultiSessionReflectorConfig,
-    state: ReflectorState,
-    found: FoundSession,
+    state: &mut ReflectorState,
+    session: Option<ReflectorSession>,
     source: SocketAddr,
     message: GtpuMessage,
     payload: &[u8],
     out: &mut [u8],
-) -> Handled
-    ensures { HandledAs result out.new
-        (handle_found length used config state (session_found used found) source message payload.now
-        out.old)
+) -> Result<ReflectorAction, Refusal>
+    ensures { HandledAs result state.new out.new
+        (handle_found length used config state.old session source message payload.now out.old)
         out.old }
 {
-    match reflector_sessions::judge_table(length, used, config.max_sessions) {
-        JudgedTable::Refused(number) => state.refuse(number),
-        JudgedTable::Used(_) => {
-            if out.len() < REFLECTOR_BYTES {
-                return state.refuse(error::OUTPUT_TOO_SHORT);
-            }
-            answer_message(used, config, state, found, source, message, payload, out)
-        }
+    reflector_sessions::judge_table(length, used, config.max_sessions)?;
+    if out.len() < REFLECTOR_BYTES {
+        return Err(Refusal::OutputTooShort);
     }
+    answer_message(config, state, session, source, message, payload, out)
 }
 
 // Carries that the walk accepts every Error Indication that the reflector answers with.
+#[tactic(auto, using(crate::proofs::Claims::indication_accepted))]
 pub fn indications_accepted()
     ensures { IndicationAccepted }
 {}
 
 // Carries that the walk gives back the TEID and the sender's address from each of them.
+#[tactic(auto, using(crate::proofs::Claims::indication_names_the_tunnel))]
 pub fn indications_name_the_tunnel()
     ensures { IndicationNamesTheTunnel }
 {}
 
 // Carries that an echo which the reflector answers with reads back to the reversed flow, with sequence and time kept.
+#[tactic(auto, using(crate::proofs::Claims::echo_reads_back))]
 pub fn echoes_read_back()
     ensures { EchoReadsBack }
 {}
 
 // Carries the card's (*): a T-PDU that the echo refuses has raised the received count, and nothing else.
+#[tactic(auto, using(crate::proofs::Claims::received_has_risen))]
 pub fn refused_echo_is_received()
     ensures { ReceivedHasRisen }
 {}
 
 // Carries that 15 means an output under 72 bytes, and nothing else.
+#[tactic(auto, using(crate::proofs::Claims::least_output))]
 pub fn least_output_is_72()
     ensures { LeastOutput }
 {}
