@@ -14,12 +14,10 @@ use Rattle.observer.specs.Observer.{Observer}
 use Rattle.observer.specs.Judge.{well_formed, judged, Step, step, after_reading}
 use Rattle.observer.specs.Returning.{record_return, record_error_indication}
 use Rattle.observer.proofs.Calls.{judged_malformed, judged_well, return_malformed, indication_malformed, refusing_malformed, refusing_well}
-use Rattle.return_calls.specs.Kinds.{message_type_of, message_kind}
+use Rattle.return_calls.specs.Kinds.{Kind, MeasurementTpdu, ErrorIndication, EchoResponse, Ignored, message_type_of, message_kind}
 use Rattle.return_calls.specs.Returns.{sequence_read, record_received_tpdu, record_elements, MessageStep, as_message, record_return_message}
 use Rattle.return_calls.specs.Claims.{KindIsOfType, RefusedAsRead, TunnelOfIndication, NoOtherTunnel}
 use Rattle.return_calls.specs.Tunnel.{tunnel_handed_on}
-use Rattle.return_calls.specs.declared.GtpuReturnDatagramOutcome.{GtpuReturnDatagramOutcome}
-use Rattle.return_calls.specs.declared.GtpuReturnDatagramOutcome.TheVariants.{MeasurementTpdu, ErrorIndication, EchoResponse, Ignored}
 use Rattle.return_calls.proofs.Laws.{kind_is, record_as, message_as, message_26}
 
 -- what is given after 21 was given before it
@@ -30,18 +28,18 @@ judged_gives o x y e = go (well_formed o) refl
     go true w = judged_well o x w ∙ e
     go false w = let f = judged_malformed o x w in absurd (let z : ◌≡◌ {A = ℕ} 0 1 = cc in omega arith)
 
-given_kind : (kind found : GtpuReturnDatagramOutcome) (s : Step) → (as_message kind s).outcome ≡ gives found → kind ≡ found
+given_kind : (kind found : Kind) (s : Step) → (as_message kind s).outcome ≡ gives found → kind ≡ found
 given_kind kind found s e = go s.outcome e
   where
-    go : (x : Outcome (Unit {0})) → ◌≡◌ {A = Outcome GtpuReturnDatagramOutcome} (elim x [ refused n ↦ refused n | gives u ↦ gives kind ]) (gives found) → kind ≡ found
+    go : (x : Outcome (Unit {0})) → ◌≡◌ {A = Outcome Kind} (elim x [ refused n ↦ refused n | gives u ↦ gives kind ]) (gives found) → kind ≡ found
     go (refused n) e = absurd (let z : ◌≡◌ {A = ℕ} 0 1 = cc in omega arith)
     go (gives u) e = cc
 
-same_kind : (kind found : GtpuReturnDatagramOutcome) → ◌≡◌ {A = Outcome GtpuReturnDatagramOutcome} (gives kind) (gives found) → kind ≡ found
+same_kind : (kind found : Kind) → ◌≡◌ {A = Outcome Kind} (gives kind) (gives found) → kind ≡ found
 same_kind kind found e = cc
 
-module _ (o : Observer) (time t : ℕ) (payload : List ℕ) (found : GtpuReturnDatagramOutcome) where
-  found_kind : (x : Outcome GtpuReturnDatagramOutcome) → (record_as t payload o time x).outcome ≡ gives found → x ≡ gives found
+module _ (o : Observer) (time t : ℕ) (payload : List ℕ) (found : Kind) where
+  found_kind : (x : Outcome Kind) → (record_as t payload o time x).outcome ≡ gives found → x ≡ gives found
   found_kind (refused n) e = judged_gives o (refused n) found e
   found_kind (gives MeasurementTpdu) e = ap gives (given_kind MeasurementTpdu found (record_received_tpdu o time payload) e)
   found_kind (gives ErrorIndication) e = ap gives (given_kind ErrorIndication found (record_elements o payload) e)
@@ -78,7 +76,7 @@ tunnel_of_indication o time payload tunnel w e =
     ap (λ (x : Outcome Observer). (as_message ErrorIndication (step o x)).outcome) (sym (judged_well o _ w)) in
     let outcome = ap (λ (s : MessageStep). s.outcome) is ∙ given in (
       outcome,
-      ap (λ (x : Outcome GtpuReturnDatagramOutcome). tunnel_handed_on x payload) outcome ∙ ap tunnel_named e,
+      ap (λ (x : Outcome Kind). tunnel_handed_on x payload) outcome ∙ ap tunnel_named e,
       ap (λ (s : MessageStep). s.observer) is,
     )
 
@@ -92,7 +90,7 @@ message_malformed : (o : Observer) (time t : ℕ) (payload : List ℕ) → well_
 unfolding record_received_tpdu
 message_malformed o time t payload w = go (message_kind t) ∙ ap (λ (s : MessageStep). s.outcome) (sym (message_as t payload o time))
   where
-    go : (x : Outcome GtpuReturnDatagramOutcome) → refused 21 ≡ (record_as t payload o time x).outcome
+    go : (x : Outcome Kind) → refused 21 ≡ (record_as t payload o time x).outcome
     go (refused n) = judged_malformed o (refused n) w
     go (gives MeasurementTpdu) =
         ap (λ (s : Step). (as_message MeasurementTpdu s).outcome) (after_malformed o (sequence_read payload) (record_return o time) (λ q. return_malformed o time q w) w)
@@ -105,17 +103,17 @@ pub no_other_tunnel : NoOtherTunnel
 no_other_tunnel o time t payload = (
   (λ other. by other (record_return_message o time t payload).outcome (λ kind e. (kind_is_of_type o time t payload kind e).type)),
   (λ n e. refused_elements n e (record_return_message o time t payload).outcome),
-  (λ w. ap (λ (x : Outcome GtpuReturnDatagramOutcome). tunnel_handed_on x payload) (sym (message_malformed o time t payload w))),
+  (λ w. ap (λ (x : Outcome Kind). tunnel_handed_on x payload) (sym (message_malformed o time t payload w))),
 )
   where
-    refused_elements : (n : ℕ) → indication_of payload ≡ refused n → (x : Outcome GtpuReturnDatagramOutcome) → tunnel_handed_on x payload ≡ no_tunnel
+    refused_elements : (n : ℕ) → indication_of payload ≡ refused n → (x : Outcome Kind) → tunnel_handed_on x payload ≡ no_tunnel
     refused_elements n e (refused m) = refl
     refused_elements n e (gives MeasurementTpdu) = refl
     refused_elements n e (gives ErrorIndication) = ap tunnel_named e
     refused_elements n e (gives EchoResponse) = refl
     refused_elements n e (gives (Ignored m)) = refl
 
-    by : (t ≡ 26 → ⊥) → (x : Outcome GtpuReturnDatagramOutcome) → ((kind : GtpuReturnDatagramOutcome) → x ≡ gives kind → message_type_of kind ≡ t) → tunnel_handed_on x payload ≡ no_tunnel
+    by : (t ≡ 26 → ⊥) → (x : Outcome Kind) → ((kind : Kind) → x ≡ gives kind → message_type_of kind ≡ t) → tunnel_handed_on x payload ≡ no_tunnel
     by other (refused n) of = refl
     by other (gives MeasurementTpdu) of = refl
     by other (gives ErrorIndication) of = absurd (other (sym (of ErrorIndication refl)))

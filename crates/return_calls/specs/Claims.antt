@@ -10,21 +10,19 @@ use Rattle.gtpu.specs.declared.RefusedTunnel.{RefusedTunnel}
 use Rattle.observer.specs.Observer.{Observer}
 use Rattle.observer.specs.Judge.{well_formed}
 use Rattle.observer.specs.Returning.{record_error_indication}
-use Rattle.return_calls.specs.Kinds.{message_type_of}
+use Rattle.return_calls.specs.Kinds.{Kind, ErrorIndication, Ignored, message_type_of}
 use Rattle.return_calls.specs.Returns.{record_received_tpdu, record_return_message}
 use Rattle.return_calls.specs.Tunnel.{tunnel_handed_on}
-use Rattle.return_calls.specs.declared.GtpuReturnDatagramOutcome.{GtpuReturnDatagramOutcome}
-use Rattle.return_calls.specs.declared.GtpuReturnDatagramOutcome.TheVariants.{ErrorIndication, Ignored}
 
 -- The kind has this type, and it is one of the five.
-pub record OfType (message_type : ℕ) (kind : GtpuReturnDatagramOutcome) : Type 0 where
+pub record OfType (message_type : ℕ) (kind : Kind) : Type 0 where
   pub type : message_type_of kind ≡ message_type
   pub ignored : (t : ℕ) → kind ≡ Ignored t
       → (t ≡ gtpu_msg_end_marker) ⊎ (t ≡ gtpu_msg_supported_extension_headers_notification)
 
 -- A message that is accepted is of a kind that has its type.
 abbrev pub KindIsOfType : Type 0
-KindIsOfType = (o : Observer) (time message_type : ℕ) (payload : List ℕ) (kind : GtpuReturnDatagramOutcome)
+KindIsOfType = (o : Observer) (time message_type : ℕ) (payload : List ℕ) (kind : Kind)
     → (record_return_message o time message_type payload).outcome ≡ gives kind → OfType message_type kind
 
 -- Where 21 is not due, a T-PDU that reading refuses, by whichever number, is refused by that number, alone and in a

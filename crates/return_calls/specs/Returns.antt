@@ -7,10 +7,7 @@ use Rattle.gtpu.specs.Element.{elements_of}
 use Rattle.observer.specs.Observer.{Observer}
 use Rattle.observer.specs.Judge.{judged, Step, after_reading}
 use Rattle.observer.specs.Returning.{record_return, record_error_indication}
-use Rattle.return_calls.specs.Kinds.{message_kind}
-use Rattle.return_calls.specs.declared.GtpuReturnDatagramOutcome.{GtpuReturnDatagramOutcome}
-use Rattle.return_calls.specs.declared.GtpuReturnDatagramOutcome.TheVariants.{MeasurementTpdu, ErrorIndication}
-use Rattle.return_calls.specs.declared.GtpuReturnDatagramOutcome.TheVariants.{EchoResponse, Ignored}
+use Rattle.return_calls.specs.Kinds.{Kind, MeasurementTpdu, ErrorIndication, EchoResponse, Ignored, message_kind}
 
 -- What a T-PDU is to the observer: a sequence, or the reader's refusal. Its flow and send time are not used.
 unfoldable pub sequence_read : List ℕ → Outcome ℕ
@@ -27,20 +24,20 @@ record_elements o elements = after_reading o (elements_of elements) (λ accepted
 
 -- A message recorded: what it was, or a refusal; and the observer as it leaves it.
 pub record MessageStep : Type 0 where
-  pub outcome : Outcome GtpuReturnDatagramOutcome
+  pub outcome : Outcome Kind
   pub observer : Observer
 
 -- A step of the observer, as a message of this kind.
-abbrev pub as_message : GtpuReturnDatagramOutcome → Step → MessageStep
+abbrev pub as_message : Kind → Step → MessageStep
 as_message kind s =
     record { outcome = elim s.outcome [ refused n ↦ refused n | gives u ↦ gives kind ]; observer = s.observer }
 
 -- A message that changes nothing: only 21 is judged before its outcome.
-abbrev pub unchanged : Observer → Outcome GtpuReturnDatagramOutcome → MessageStep
+abbrev pub unchanged : Observer → Outcome Kind → MessageStep
 unchanged o outcome = record { outcome = judged o outcome; observer = o }
 
 -- What a message of each kind does, with this payload at this time.
-abbrev pub record_kind : Observer → ℕ → List ℕ → GtpuReturnDatagramOutcome → MessageStep
+abbrev pub record_kind : Observer → ℕ → List ℕ → Kind → MessageStep
 record_kind o time payload MeasurementTpdu = as_message MeasurementTpdu (record_received_tpdu o time payload)
 record_kind o time payload ErrorIndication = as_message ErrorIndication (record_elements o payload)
 record_kind o time payload EchoResponse = unchanged o (gives EchoResponse)

@@ -5,18 +5,16 @@ use Rattle.error.specs.Outcome.{Outcome, refused, gives}
 use Rattle.gtpu.specs.Answer.{no_tunnel, tunnel_named}
 use Rattle.gtpu.specs.Indication.{indication_of}
 use Rattle.gtpu.specs.declared.RefusedTunnel.{RefusedTunnel}
-use Rattle.return_calls.specs.declared.GtpuReturnDatagramOutcome.{GtpuReturnDatagramOutcome}
-use Rattle.return_calls.specs.declared.GtpuReturnDatagramOutcome.TheVariants.{MeasurementTpdu, ErrorIndication}
-use Rattle.return_calls.specs.declared.GtpuReturnDatagramOutcome.TheVariants.{EchoResponse, Ignored}
+use Rattle.return_calls.specs.Kinds.{Kind, MeasurementTpdu, ErrorIndication, EchoResponse, Ignored}
 
 -- Of an accepted message of each kind, with this payload: only an Error Indication names a tunnel.
-abbrev pub tunnel_of_kind : GtpuReturnDatagramOutcome → List ℕ → RefusedTunnel
+abbrev pub tunnel_of_kind : Kind → List ℕ → RefusedTunnel
 tunnel_of_kind MeasurementTpdu payload = no_tunnel
 tunnel_of_kind ErrorIndication payload = tunnel_named (indication_of payload)
 tunnel_of_kind EchoResponse payload = no_tunnel
 tunnel_of_kind (Ignored message_type) payload = no_tunnel
 
 -- By the answer: beside a refusal there is none.
-abbrev pub tunnel_handed_on : Outcome GtpuReturnDatagramOutcome → List ℕ → RefusedTunnel
+abbrev pub tunnel_handed_on : Outcome Kind → List ℕ → RefusedTunnel
 tunnel_handed_on (refused n) payload = no_tunnel
 tunnel_handed_on (gives kind) payload = tunnel_of_kind kind payload
