@@ -3,27 +3,28 @@ use Prim.Native.Nat.{ℕ, ◌+◌, ◌-◌, ◌*◌, ◌^◌, ◌<◌, ◌≤◌
 use native.Mathlib.Omega.{arith}
 use mathlib.Core.Path.{◌≡◌, ap₂, ◌∙◌}
 use mathlib.Core.Option.{some}
+use Rattle.error.specs.Answer.{number_of}
 use Rattle.error.specs.Outcome.{gives}
 use Rattle.measurement.specs.declared.IpVersion.{IpVersion}
 use Rattle.measurement_packet.specs.Packet.{ip_header_length}
 use Rattle.plan.specs.Plan.{top, judge_plan}
 use Rattle.plan.specs.Judge.{Judges, Planned}
-use Rattle.plan.specs.declared.Interval.TheVariants as interval
+use Rattle.std.specs.Prelude as code
+use Rattle.error.specs.declared.Refusal.{Refusal}
 use Rattle.plan.specs.declared.JudgedPlan.{JudgedPlan}
 use Rattle.plan.specs.declared.TrafficPlan.{TrafficPlan}
 use Rattle.plan.proofs.Answers.{answer_refused, answer_accepted, answer_planned, planned_time, planned_fits}
 use Rattle.traffic.proofs.Answers.{all_within}
 use Rattle.forecast.specs.Answer.{forecast_means}
 use Rattle.forecast.specs.Forecast.{forecast_of}
-use Rattle.forecast.specs.declared.PlanForecast.TheVariants as answer
 use Rattle.forecast.proofs.Figures.{some_last, forecast_refused, forecast_accepted, forecast_empty}
 
 module _ (version : IpVersion) (plan : TrafficPlan) (next : ℕ) (r : JudgedPlan) (e : Judges plan r (judge_plan plan next)) where
-  pub answer_refuses : (n : ℕ) → r.interval ≡ interval.Refused n → forecast_means (answer.Refused n) ≡ forecast_of version plan next
-  answer_refuses n a = forecast_refused plan next version n (answer_refused plan next r e n a)
+  pub answer_refuses : (why : Refusal) → r.interval ≡ code.Err why → forecast_means (code.Err why) ≡ forecast_of version plan next
+  answer_refuses why a = forecast_refused plan next version (number_of why) (answer_refused plan next r e why a)
 
-  module _ (i : ℕ) (a : r.interval ≡ interval.Nanoseconds i) where
-    pub answer_empty : plan.packet_count ≡ 0 → forecast_means answer.Empty ≡ forecast_of version plan next
+  module _ (i : ℕ) (a : r.interval ≡ code.Ok i) where
+    pub answer_empty : plan.packet_count ≡ 0 → forecast_means (code.Ok code.None) ≡ forecast_of version plan next
     answer_empty z = forecast_empty plan next version z (answer_accepted plan next r e i a).2
 
     planned : next ≤ top → Planned plan i next
@@ -39,13 +40,13 @@ module _ (version : IpVersion) (plan : TrafficPlan) (next : ℕ) (r : JudgedPlan
     time_fits low k h = planned_fits (planned low) k h
 
     pub answer_packets : (s : ℕ) → s ≡ ip_header_length version + 32 → next ≤ top → 0 < plan.packet_count
-        → forecast_means (answer.Packets (record {
+        → forecast_means (code.Ok (code.Some (record {
           bytes = plan.packet_count * s;
           last = record {
             sequence = next + (plan.packet_count - 1);
             send_timestamp_ns = plan.first_send_timestamp_ns + (plan.packet_count - 1) * i;
           };
-        })) ≡ forecast_of version plan next
+        }))) ≡ forecast_of version plan next
     answer_packets s es low h =
         ap₂ (λ (x t : ℕ). gives (record { bytes = plan.packet_count * x; last = some (record { sequence = next + (plan.packet_count - 1); send_timestamp_ns = t }) }))
         es (planned_time (planned low) (plan.packet_count - 1))

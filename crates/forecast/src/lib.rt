@@ -9,8 +9,9 @@ ghost use Rattle.forecast.specs.Answer.{forecast_means};
 ghost use Rattle.forecast.specs.Claims.{LastOfPackets, NoPackets, EnoughForEvery};
 ghost use Rattle.forecast.specs.Claims.{ForecastNumbers, Examples};
 
+use error::Refusal;
 use measurement::{IpVersion, MeasurementHeader};
-use plan::{Interval, TrafficPlan};
+use plan::TrafficPlan;
 
 // All packets of a plan: how many bytes they have together, and what the last of them carries.
 #[derive(Clone, Copy)]
@@ -19,40 +20,26 @@ pub struct PlannedPackets {
     pub last: MeasurementHeader,
 }
 
-// What a plan will be: packets, none (count 0), or refused.
-#[derive(Clone, Copy)]
-pub enum PlanForecast {
-    Packets(PlannedPackets),
-    Empty,
-    Refused(u8),
-}
-
-// How big a plan will be. Refuses by 16 to 20, in the generator's order.
-pub fn forecast(version: IpVersion, plan: TrafficPlan, next_sequence: u64) -> PlanForecast
+// How big a plan will be, or none where its count is 0. Refuses by 16 to 20, in the generator's order.
+pub fn forecast(
+    version: IpVersion,
+    plan: TrafficPlan,
+    next_sequence: u64,
+) -> Result<Option<PlannedPackets>, Refusal>
     ensures { forecast_means result ≡ forecast_of version plan next_sequence }
 {
-    let judged = plan::judge_plan(plan, next_sequence);
-    let answer = judged.interval;
-    match answer {
-        Interval::Refused(number) => PlanForecast::Refused(number),
-        Interval::Nanoseconds(interval) => {
-            let count = plan.packet_count;
-            if count == 0 {
-                return PlanForecast::Empty;
-            }
-            let last = count - 1;
-            let bytes = (count as usize) * traffic::packet_length(version);
-            let sequence = next_sequence + last;
-            let time = plan.first_send_timestamp_ns + last * interval;
-            PlanForecast::Packets(PlannedPackets {
-                bytes: bytes,
-                last: MeasurementHeader {
-                    sequence: sequence,
-                    send_timestamp_ns: time,
-                },
-            })
-        }
+    let interval = plan::judge_plan(plan, next_sequence).interval?;
+    if plan.packet_count == 0 {
+        return Ok(None);
     }
+    let last = plan.packet_count - 1;
+    Ok(Some(PlannedPackets {
+        bytes: plan.packet_count as usize * traffic::packet_length(version),
+        last: MeasurementHeader {
+            sequence: next_sequence + last,
+            send_timestamp_ns: plan.first_send_timestamp_ns + last * interval,
+        },
+    }))
 }
 
 // Carries the figures of an accepted plan in numbers, that a plan without packets has no last one, how many bytes are

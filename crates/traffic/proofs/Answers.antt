@@ -6,17 +6,19 @@ use mathlib.Core.Path.{◌≡◌, sym, ap, ap₂, ◌∙◌}
 use mathlib.Core.List.{List, ◌++◌}
 use lib.ListN.{length, drop}
 use borrow.Author.Tests.{lt-ltb, le-ltb}
+use Rattle.error.specs.Answer.{number_of}
 use Rattle.error.specs.Outcome.{refused, gives}
 use Rattle.measurement.specs.Answer.{writing}
 use Rattle.measurement.specs.declared.InnerIpFlow.{InnerIpFlow}
 use Rattle.measurement.specs.declared.IpVersion.{IpVersion}
 use Rattle.measurement.specs.declared.IpVersion.TheVariants.{V4, V6}
-use Rattle.measurement.specs.declared.Written.TheVariants as written
+use Rattle.std.specs.Prelude as code
+use Rattle.error.specs.declared.Refusal.{Refusal}
+use Rattle.error.specs.declared.Refusal.TheVariants.{OutputTooShort}
 use Rattle.measurement_packet.specs.Packet.{ip_header_length}
 use Rattle.plan.specs.Plan.{top, Judged, packets_of, judge_plan}
 use Rattle.plan.specs.Judge.{Judges}
 use Rattle.plan.specs.Claims.{accepted}
-use Rattle.plan.specs.declared.Interval.TheVariants as answer
 use Rattle.plan.specs.declared.JudgedPlan.{JudgedPlan}
 use Rattle.plan.specs.declared.TrafficPlan.{TrafficPlan}
 use Rattle.plan.proofs.Answers.{next_is, answer_refused, answer_accepted, answer_planned}
@@ -67,12 +69,12 @@ module _ (flow : InnerIpFlow) (plan : TrafficPlan) (next : ℕ) (buffer : List �
 
   -- the code's answers
   module _ (r : JudgedPlan) (e : Judges plan r (judge_plan plan next)) where
-    pub answer_refuses : (n : ℕ) → r.interval ≡ answer.Refused n
-        → generated (written.Refused n) r.next_sequence buffer ≡ generate_of flow plan next buffer
-    answer_refuses n a =
-        ap (λ (x : ℕ). record { outcome = refused n; next = x; buffer = buffer }) (next_is plan next r e) ∙ generate_refused n (answer_refused plan next r e n a)
+    pub answer_refuses : (why : Refusal) → r.interval ≡ code.Err why
+        → generated (code.Err why) r.next_sequence buffer ≡ generate_of flow plan next buffer
+    answer_refuses why a =
+        ap (λ (x : ℕ). record { outcome = refused (number_of why); next = x; buffer = buffer }) (next_is plan next r e) ∙ generate_refused (number_of why) (answer_refused plan next r e why a)
 
-    module _ (i : ℕ) (a : r.interval ≡ answer.Nanoseconds i) where
+    module _ (i : ℕ) (a : r.interval ≡ code.Ok i) where
       count_fits : plan.packet_count ≤ 2048
       count_fits = (answer_accepted plan next r e i a).1.count_within
 
@@ -80,7 +82,7 @@ module _ (flow : InnerIpFlow) (plan : TrafficPlan) (next : ℕ) (buffer : List �
       length_fits s es = omega (arith, all_within flow.version 2048 plan.packet_count s count_fits es)
 
       pub answer_short : (s : ℕ) → s ≡ size flow → length buffer < plan.packet_count * s
-          → generated (written.Refused 15) next buffer ≡ generate_of flow plan next buffer
+          → generated (code.Err OutputTooShort) next buffer ≡ generate_of flow plan next buffer
       answer_short s es h =
           placing_short bytes_of next (next + plan.packet_count) buffer (omega (arith, bytes_length, ap (λ (x : ℕ). plan.packet_count * x) es))
           ∙ generate_accepted (answer_accepted plan next r e i a).2
@@ -91,7 +93,7 @@ module _ (flow : InnerIpFlow) (plan : TrafficPlan) (next : ℕ) (buffer : List �
 
       pub answer_written : (s : ℕ) (whole : List ℕ) → s ≡ size flow → plan.packet_count * s ≤ length buffer
           → whole ≡ bytes_of ++ drop (plan.packet_count * size flow) buffer
-          → generated (written.Bytes (plan.packet_count * s)) r.next_sequence whole ≡ generate_of flow plan next buffer
+          → generated (code.Ok (plan.packet_count * s)) r.next_sequence whole ≡ generate_of flow plan next buffer
       answer_written s whole es h ew =
           let t = (answer_accepted plan next r e i a).2 in
           let n : plan.packet_count * s ≡ plan.packet_count * size flow = ap (λ (x : ℕ). plan.packet_count * x) es in

@@ -10,7 +10,8 @@ use Rattle.field.proofs.Parts.{laid}
 use Rattle.measurement.specs.Answer.{Writing, writing, wrote}
 use Rattle.measurement.specs.declared.InnerIpFlow.{InnerIpFlow}
 use Rattle.measurement.specs.declared.MeasurementHeader.{MeasurementHeader}
-use Rattle.measurement.specs.declared.Written.{Written}
+use Rattle.std.specs.Prelude.{Result}
+use Rattle.error.specs.declared.Refusal.{Refusal}
 use Rattle.measurement_packet.specs.Packet.{ip_header_length, build_of}
 use Rattle.measurement_build.proofs.Whole.{build_length, writing_fits}
 use Rattle.plan.specs.Plan.{time_at, packet_at, packets_from, packets_of}
@@ -71,7 +72,7 @@ module _ (plan : TrafficPlan) (next : ℕ) where
     time_is i k out f = planned_time f.planned k
 
     -- packet k is built behind those before it
-    pub turn : (k at s time : ℕ) (out whole part : List ℕ) (r : Written) → time ≡ time_at plan k → s ≡ size flow → at ≡ k * s → at + s ≤ length out
+    pub turn : (k at s time : ℕ) (out whole part : List ℕ) (r : Result ℕ Refusal) → time ≡ time_at plan k → s ≡ size flow → at ≡ k * s → at + s ≤ length out
         → whole ≡ front k ++ drop at out
         → wrote r part ≡ writing (build_of flow (next + k) time) (take (length whole - at) (drop at whole))
         → take at whole ++ (part ++ drop (length whole - at) (drop at whole)) ≡ front (k + 1) ++ drop (at + s) out

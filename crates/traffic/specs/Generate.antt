@@ -1,10 +1,11 @@
 -- What the generator leaves: its outcome, the next sequence and the lent buffer (document 01, leaf 5, and the card).
-use Rattle.std.specs.Prelude.{ℕ, List, [], ◌∷◌, ◌++◌}
+use Rattle.std.specs.Prelude.{ℕ, List, [], ◌∷◌, ◌++◌, Result}
+use Rattle.error.specs.Answer.{answered}
 use Rattle.error.specs.Outcome.{Outcome, refused, gives}
-use Rattle.measurement.specs.Answer.{written_means, Writing, writing}
+use Rattle.error.specs.declared.Refusal.{Refusal}
+use Rattle.measurement.specs.Answer.{Writing, writing}
 use Rattle.measurement.specs.declared.InnerIpFlow.{InnerIpFlow}
 use Rattle.measurement.specs.declared.MeasurementHeader.{MeasurementHeader}
-use Rattle.measurement.specs.declared.Written.{Written}
 use Rattle.measurement_packet.specs.Packet.{build_of}
 use Rattle.plan.specs.Plan.{judge_plan}
 use Rattle.plan.specs.declared.TrafficPlan.{TrafficPlan}
@@ -43,5 +44,5 @@ generate_of flow plan next buffer =
     ]
 
 -- What the code answered, and the next sequence and the buffer as it left them.
-abbrev pub generated : Written → ℕ → List ℕ → Generating
-generated written next buffer = record { outcome = written_means written; next = next; buffer = buffer }
+abbrev pub generated : Result ℕ Refusal → ℕ → List ℕ → Generating
+generated written next buffer = record { outcome = answered written; next = next; buffer = buffer }

@@ -9,10 +9,12 @@ ghost use Rattle.traffic.specs.Claims.{SuccessIsComplete, RoomDecides, RefusalLe
 ghost use Rattle.traffic.specs.Generate.{first_sequence, end_to_end, generated, generate_of};
 ghost use Rattle.traffic.specs.Fits.{Fits};
 
-use measurement::{InnerIpFlow, IpVersion, Written};
-use plan::{Interval, TrafficPlan};
+use error::Refusal;
+use measurement::{InnerIpFlow, IpVersion};
+use plan::TrafficPlan;
 
 // The length of each packet.
+#[tactic(auto, unfolding(measurement_packet::specs::Packet::ip_header_length))]
 pub fn packet_length(version: IpVersion) -> usize
     ensures { result ≡ ip_header_length version + 32 }
 {
@@ -22,7 +24,8 @@ pub fn packet_length(version: IpVersion) -> usize
     }
 }
 
-// The packets of an accepted plan, end to end.
+// The packets of an accepted plan, end to end. (c: what std promises of `chunks_exact_mut` tells nothing of the bytes
+// once its borrow is over, so each packet is a part of `out`.)
 fn write_packets(
     flow: InnerIpFlow,
     plan: TrafficPlan,
@@ -34,78 +37,46 @@ fn write_packets(
     ensures { out.new ≡ end_to_end flow (packets_of plan next_sequence)
         ++ drop (plan.packet_count * (ip_header_length flow.version + 32)) out.old }
 {
-    let version = flow.version;
-    let size = packet_length(version);
+    let size = packet_length(flow.version);
     let mut at = 0;
-    let mut k = 0;
-    while k < plan.packet_count {
+    for k in 0..plan.packet_count {
         let sequence = next_sequence + k;
         let time = plan.first_send_timestamp_ns + k * interval;
-        measurement_build::build_measurement_tpdu(flow, sequence, time, &mut out[at..]);
+        let _ = measurement_build::build_measurement_tpdu(flow, sequence, time, &mut out[at..]);
         at += size;
-        k += 1;
     }
 }
 
-// How many bytes were written, or why none; and the next sequence.
-#[derive(Clone, Copy)]
-struct Generated {
-    written: Written,
-    next_sequence: u64,
-}
-
-// The packets of a plan, end to end at the front of `out`. Every cause is judged before the first byte is written.
-fn generate_packets(
-    flow: InnerIpFlow,
-    plan: TrafficPlan,
-    next_sequence: u64,
-    out: &mut [u8],
-) -> Generated
-    ensures { generated result.written result.next_sequence out.new
-        ≡ generate_of flow plan next_sequence out.old }
-{
-    let judged = plan::judge_plan(plan, next_sequence);
-    let answer = judged.interval;
-    match answer {
-        Interval::Refused(number) => Generated {
-            written: Written::Refused(number),
-            next_sequence: judged.next_sequence,
-        },
-        Interval::Nanoseconds(interval) => {
-            let version = flow.version;
-            let length = (plan.packet_count as usize) * packet_length(version);
-            if out.len() < length {
-                return Generated {
-                    written: Written::Refused(error::OUTPUT_TOO_SHORT),
-                    next_sequence: next_sequence,
-                };
-            }
-            write_packets(flow, plan, interval, next_sequence, out);
-            Generated {
-                written: Written::Bytes(length),
-                next_sequence: judged.next_sequence,
-            }
-        }
-    }
-}
-
-// The packets of a plan, from the next sequence in the caller's record. It is changed there, by 19 and 20 too (leaf 5).
+// The packets of a plan, from the next sequence in the caller's record, end to end at the front of `out`. Every cause
+// is judged before the first byte is written. The record is changed, by 19 and 20 too (leaf 5).
 pub fn generate_from(
     next_sequence: &mut u64,
     flow: InnerIpFlow,
     plan: TrafficPlan,
     out: &mut [u8],
-) -> Written
+) -> Result<usize, Refusal>
     ensures { generated result next_sequence.new out.new
         ≡ generate_of flow plan next_sequence.old out.old }
 {
-    let answer = generate_packets(flow, plan, *next_sequence, out);
-    *next_sequence = answer.next_sequence;
-    answer.written
+    let judged = plan::judge_plan(plan, *next_sequence);
+    let interval = match judged.interval {
+        Ok(interval) => interval,
+        Err(why) => {
+            *next_sequence = judged.next_sequence;
+            return Err(why);
+        }
+    };
+    let length = plan.packet_count as usize * packet_length(flow.version);
+    if out.len() < length {
+        return Err(Refusal::OutputTooShort);
+    }
+    write_packets(flow, plan, interval, *next_sequence, out);
+    *next_sequence = judged.next_sequence;
+    Ok(length)
 }
 
 // The generator's own record: the sequence of the next packet.
-#[derive(Clone, Copy)]
+#[derive(Clone, Copy, Debug, PartialEq, Eq)]
 pub struct TrafficEngine {
     pub next_sequence: u64,
 }
@@ -128,7 +99,12 @@ impl TrafficEngine {
     }
 
     // `generate_from`, with the engine's own next sequence.
-    pub fn generate(&mut self, flow: InnerIpFlow, plan: TrafficPlan, out: &mut [u8]) -> Written
+    pub fn generate(
+        &mut self,
+        flow: InnerIpFlow,
+        plan: TrafficPlan,
+        out: &mut [u8],
+    ) -> Result<usize, Refusal>
         ensures { generated result self.new.next_sequence out.new
             ≡ generate_of flow plan self.old.next_sequence out.old }
     {

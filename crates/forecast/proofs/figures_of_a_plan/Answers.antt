@@ -1,4 +1,3 @@
--- `forecast::figures_of_a_plan` meets its contract.
 use Rattle.forecast.proofs.Claims.{last_of_packets, no_packets, enough_for_every, forecast_numbers_lem}
 use Rattle.forecast.proofs.figures_of_a_plan.Goals as goal
 

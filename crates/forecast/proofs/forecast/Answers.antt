@@ -1,47 +1,45 @@
--- `forecast::forecast` meets its contract.
 use Prim.Native.Nat.{◌-◌}
+use mathlib.Core.Path.{ap, ◌∙◌}
 use native.Mathlib.Omega.{arith}
+use Rattle.std.specs.Prelude.{Err}
+use Rattle.std.proofs.lemmas.Result.{err_from_is_err_and}
+use Rattle.error.specs.declared.Refusal.{Refusal}
+use Rattle.forecast.specs.Answer.{forecast_means}
 use Rattle.forecast.proofs.Answers.{answer_refuses, answer_empty, answer_packets, bytes_fit, sequence_fits, time_fits}
 use Rattle.forecast.proofs.forecast.Goals as goal
 
-pub returns-then-count-eq0 : goal.returns-then-count-eq0
-returns-then-count-eq0 c =
+pub returns-in_err-interval : goal.returns-in_err-interval
+returns-in_err-interval c =
     let a = c.args in
-    let j = c.judge_plan-judged in
-    answer_empty a.version a.plan a.next_sequence j.result j.ensures c.in-Nanoseconds.interval c.in-Nanoseconds.is c.if-count-eq0.true
+    let passed = err_from_is_err_and c.from_residual.result c.from_residual.ensures.1 in
+    ap forecast_means (passed.1 ∙ ap (λ (e : Refusal). Err e) passed.2) ∙ answer_refuses a.version a.plan a.next_sequence _ c.judge_plan.ensures _ c.in_err-interval.was
 
-pub overflow_mul-bytes : goal.overflow_mul-bytes
-overflow_mul-bytes c =
+pub returns-then-plan-eq0 : goal.returns-then-plan-eq0
+returns-then-plan-eq0 c =
     let a = c.args in
-    let j = c.judge_plan-judged in
-    omega (arith, bytes_fit a.version a.plan a.next_sequence j.result j.ensures c.in-Nanoseconds.interval c.in-Nanoseconds.is c.packet_length.result c.packet_length.ensures)
+    answer_empty a.version a.plan a.next_sequence _ c.judge_plan.ensures _ c.in_ok-interval.was c.if-plan-eq0.true
 
-pub overflow_add-sequence : goal.overflow_add-sequence
-overflow_add-sequence c =
+pub overflow_mul-result : goal.overflow_mul-result
+overflow_mul-result c =
     let a = c.args in
-    let j = c.judge_plan-judged in
-    omega (arith, sequence_fits a.version a.plan a.next_sequence j.result j.ensures c.in-Nanoseconds.interval c.in-Nanoseconds.is (omega arith))
+    omega (arith, bytes_fit a.version a.plan a.next_sequence _ c.judge_plan.ensures _ c.in_ok-interval.was c.packet_length.result c.packet_length.ensures)
 
-pub overflow_mul-time : goal.overflow_mul-time
-overflow_mul-time c =
+pub overflow_add-result : goal.overflow_add-result
+overflow_add-result c =
     let a = c.args in
-    let j = c.judge_plan-judged in
-    omega (arith, time_fits a.version a.plan a.next_sequence j.result j.ensures c.in-Nanoseconds.interval c.in-Nanoseconds.is (omega arith) (a.plan.packet_count - 1) (omega arith))
+    omega (arith, sequence_fits a.version a.plan a.next_sequence _ c.judge_plan.ensures _ c.in_ok-interval.was (omega arith))
 
-pub overflow_add-time : goal.overflow_add-time
-overflow_add-time c =
+pub overflow_mul-result-2 : goal.overflow_mul-result-2
+overflow_mul-result-2 c =
     let a = c.args in
-    let j = c.judge_plan-judged in
-    omega (arith, time_fits a.version a.plan a.next_sequence j.result j.ensures c.in-Nanoseconds.interval c.in-Nanoseconds.is (omega arith) (a.plan.packet_count - 1) (omega arith))
+    omega (arith, time_fits a.version a.plan a.next_sequence _ c.judge_plan.ensures _ c.in_ok-interval.was (omega arith) (a.plan.packet_count - 1) (omega arith))
 
-pub returns-in-Refused : goal.returns-in-Refused
-returns-in-Refused c =
+pub overflow_add-result-2 : goal.overflow_add-result-2
+overflow_add-result-2 c =
     let a = c.args in
-    let j = c.judge_plan-judged in
-    answer_refuses a.version a.plan a.next_sequence j.result j.ensures c.in-Refused.number c.in-Refused.is
+    omega (arith, time_fits a.version a.plan a.next_sequence _ c.judge_plan.ensures _ c.in_ok-interval.was (omega arith) (a.plan.packet_count - 1) (omega arith))
 
-pub returns-else-count-eq0 : goal.returns-else-count-eq0
-returns-else-count-eq0 c =
+pub returns : goal.returns
+returns c =
     let a = c.args in
-    let j = c.judge_plan-judged in
-    answer_packets a.version a.plan a.next_sequence j.result j.ensures c.in-Nanoseconds.interval c.in-Nanoseconds.is c.packet_length.result c.packet_length.ensures (omega arith) (omega arith)
+    answer_packets a.version a.plan a.next_sequence _ c.judge_plan.ensures _ c.in_ok-interval.was _ c.packet_length.ensures (omega arith) (omega arith)

@@ -1,4 +1,3 @@
--- `forecast::worked_examples` meets its contract.
 use Rattle.forecast.proofs.Claims.{examples}
 use Rattle.forecast.proofs.worked_examples.Goals as goal
 

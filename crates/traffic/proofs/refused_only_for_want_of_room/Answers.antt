@@ -1,4 +1,3 @@
--- `traffic::refused_only_for_want_of_room` meets its contract.
 use Rattle.traffic.proofs.Claims.{room_decides, refusal_leaves}
 use Rattle.traffic.proofs.refused_only_for_want_of_room.Goals as goal
 

@@ -1,4 +1,3 @@
--- `traffic::success_is_complete` meets its contract.
 use Rattle.traffic.proofs.Claims.{success_is_complete}
 use Rattle.traffic.proofs.success_is_complete.Goals as goal
 

@@ -1,6 +1,5 @@
--- The loop of `traffic::write_packets`: the packets before packet k stand at the front, and what lies behind them is as
--- it was.
-use Prim.Native.Nat.{◌-◌, ◌*◌, ◌≤◌}
+-- The packets before packet k stand at the front, and what lies behind them is as it was.
+use Prim.Native.Nat.{◌*◌}
 use mathlib.Core.Path.{◌≡◌}
 use mathlib.Core.List.{◌++◌}
 use lib.ListN.{drop}
@@ -10,8 +9,5 @@ use Rattle.traffic.proofs.write_packets.Given as goal
 
 abbrev pub invariant-loop-k : goal.invariant-loop-k
 invariant-loop-k l =
-    (l.k ≤ l.plan.packet_count) × (l.at ≡ l.k * l.size)
+    (l.at ≡ l.k * l.size)
     × (l.out ≡ end_to_end l.flow (packets_from l.plan l.next_sequence l.k 0) ++ drop l.at l.initial.out)
-
-abbrev pub decreases-loop-k : goal.decreases-loop-k
-decreases-loop-k l = l.plan.packet_count - l.k
