@@ -10,7 +10,7 @@ use lib.ListN.{length, get_or, set, take, drop, length-set, length-drop, length-
 use lib.Seq.{take-suc, drop-cons, drop-drop, take-set-le, drop-set-lt, get_or-set_same, length-take-le}
 use Rattle.error.specs.Number.{malformed_observer}
 use Rattle.error.specs.Outcome.{Outcome, refused, gives, outcome_number}
-use Rattle.columns.proofs.Gathering.{take_whole}
+use Rattle.std.proofs.lemmas.List.{take_min, drop_min}
 use Rattle.observer.specs.Observer.{Observer}
 use Rattle.observer.specs.Judge.{well_formed, Step, step, after_reading}
 use Rattle.observer.specs.Returning.{record_return}
@@ -19,32 +19,18 @@ use Rattle.observer.specs.Claims.{returning}
 use Rattle.observer.proofs.Calls.{judged_malformed, judged_well, refusing_well}
 use Rattle.observer.proofs.Claims.{calls_keep_well}
 use Rattle.return_calls.specs.Returns.{sequence_read, record_received_tpdu}
-use Rattle.return_calls.specs.Reading.{record_returned}
-use Rattle.return_calls.specs.Answer.{sequence_numbers}
-use Rattle.return_calls.specs.declared.SequenceRead.{SequenceRead}
-use Rattle.return_calls.proofs.Laws.{tpdu_refused, tpdu_read, received_is}
-use Rattle.received_tpdus.specs.Received.{tpdus_of, Received, received_of, record_received, returns_in, ReturnsTaken, at_front, take_returns, record_received_tpdus}
+use Rattle.received_tpdus.specs.Received.{tpdus_of, Received, received_of, record_received, returns_in, ReturnsTaken, sequence_or_0, at_front, take_returns, record_received_tpdus}
 
 -- ---- reading
 
--- a list cut past its end
-drop_whole : {A : Type 0} (n m : ℕ) (l : List A) → m ≡ min n (length l) → drop m l ≡ drop n l
-drop_whole n m [] e = rw (let z : m ≡ 0 = omega arith in z) (sym (drop_of_length-le [] {i = n} (omega arith)))
-drop_whole zero m (x ∷ l) e = rw (let z : m ≡ 0 = omega arith in z)
-drop_whole (suc n) zero (x ∷ l) e = absurd (omega arith)
-drop_whole (suc n) (suc m) (x ∷ l) e = drop_whole n m l (omega arith)
-
 -- T-PDU i, and those behind it
-pub tpdu_next : (lengths bytes : List ℕ) (tpdus : List (List ℕ)) (i at end : ℕ) → i < length lengths → at ≤ length bytes
-    → end ≡ min (at + get_or lengths i 0) (length bytes) → tpdus_of (drop i lengths) (drop at bytes) ≡ drop i tpdus
-    → drop i tpdus ≡ take (end - at) (drop at bytes) ∷ tpdus_of (drop (i + 1) lengths) (drop end bytes)
-tpdu_next lengths bytes tpdus i at end h g e s =
+pub tpdu_next : (lengths left : List ℕ) (tpdus : List (List ℕ)) (i size : ℕ) → i < length lengths → size ≡ min (get_or lengths i 0) (length left)
+    → tpdus_of (drop i lengths) left ≡ drop i tpdus → drop i tpdus ≡ take size left ∷ tpdus_of (drop (i + 1) lengths) (drop size left)
+tpdu_next lengths left tpdus i size h e s =
     let n : ℕ = get_or lengths i 0 in
-    let left : length (drop at bytes) ≡ length bytes - at = length-drop at bytes in
     sym s
-    ∙ ap (λ (l : List ℕ). tpdus_of l (drop at bytes)) (drop-cons lengths i 0 h)
-    ∙ (λ j. sym (take_whole n (end - at) (drop at bytes) (omega arith)) j
-    ∷ tpdus_of (drop (sym (add-one i) j) lengths) ((drop-drop n at bytes ∙ sym (drop_whole (at + n) end bytes e)) j))
+    ∙ ap (λ (l : List ℕ). tpdus_of l left) (drop-cons lengths i 0 h)
+    ∙ (λ j. sym (ap (λ (k : ℕ). take k left) e ∙ take_min n left) j ∷ tpdus_of (drop (sym (add-one i) j) lengths) (sym (ap (λ (k : ℕ). drop k left) e ∙ drop_min n left) j))
 
 -- behind T-PDU i
 pub tpdus_behind : (tpdus rest : List (List ℕ)) (x : List ℕ) (i : ℕ) → drop i tpdus ≡ x ∷ rest → rest ≡ drop (i + 1) tpdus
@@ -68,23 +54,15 @@ module _ {A : Type 0} (field : A → ℕ) (x : A) (rest : List A) where
 -- ---- one return
 
 module _ (o : Observer) (t : ℕ) (p : List ℕ) where
-  module _ (r : SequenceRead) (e : r ≡ sequence_numbers (sequence_read p)) where
-    -- the reader refused it
-    pub kept_refusal : well_formed o ≡ true → (r.number ≡ 0 → ⊥) → step o (refused r.number) ≡ record_received_tpdu o t p
-    kept_refusal w h = refusing_well o r.number w ∙ ap (record_returned o t) (tpdu_refused p e h) ∙ received_is o t p
-
-    -- it was read
-    pub of_sequence : r.number ≡ 0 → record_return o t r.sequence ≡ record_received_tpdu o t p
-    of_sequence z = ap (record_returned o t) (tpdu_read p e z) ∙ received_is o t p
-
   -- it leaves the observer well formed
-  reading_well : (read : Outcome ℕ) → well_formed o ≡ true → well_formed (after_reading o read (record_return o t)).observer ≡ true
+  pub reading_well : (read : Outcome ℕ) → well_formed o ≡ true → well_formed (after_reading o read (record_return o t)).observer ≡ true
   reading_well (refused n) w = ap (λ (s : Step). well_formed s.observer) (sym (refusing_well o n w)) ∙ w
   reading_well (gives q) w = calls_keep_well o (returning t q ∷ []) w
 
-  pub still_well : {s : Step} → s ≡ record_received_tpdu o t p → well_formed o ≡ true → well_formed s.observer ≡ true
+  -- as a step of the list
+  pub read_is : (read : Outcome ℕ) → read ≡ sequence_read p → {s : Step} → s ≡ after_reading o read (record_return o t) → s ≡ record_received_tpdu o t p
   unfolding record_received_tpdu
-  still_well e w = rw e (reading_well (sequence_read p) w)
+  read_is read e f = f ∙ ap (λ (x : Outcome ℕ). after_reading o x (record_return o t)) e
 
 -- ---- the list
 
@@ -186,7 +164,7 @@ module _ (o : Observer) (times lengths bytes returned numbers : List ℕ) where
   -- the last return is taken
   module _ (n : ℕ) (e : n ≡ returns_in times lengths returned numbers) where
     abbrev reads : ℕ → List ℕ
-    reads k = map (λ tpdu. (sequence_numbers (sequence_read tpdu)).sequence) (take k all)
+    reads k = map (λ tpdu. sequence_or_0 (sequence_read tpdu)) (take k all)
 
     abbrev taken_as : Steps → List ℕ → ReturnsTaken
     taken_as s column = record { outcome = gives (length s.numbers); returned = column; numbers = at_front s.numbers numbers; observer = s.observer }
@@ -201,7 +179,7 @@ module _ (o : Observer) (times lengths bytes returned numbers : List ℕ) where
         ap (λ (l : List Received). joined (take i ns) (in_turn record_received x l)) (sym (left_none times all n i (omega arith))) ∙ on in
         let none : take i ns ++ [] ≡ take i ns = append-nil (take i ns) in
         let count : length (take i ns ++ []) ≡ i = ap length none ∙ length-take-le i ns (omega arith) in
-        let first : length (reads n) ≡ n = length-map (take n all) (λ tpdu. (sequence_numbers (sequence_read tpdu)).sequence) ∙ length-take-le n all (omega (arith, tpdus_count lengths bytes)) in
+        let first : length (reads n) ≡ n = length-map (take n all) (λ tpdu. sequence_or_0 (sequence_read tpdu)) ∙ length-take-le n all (omega (arith, tpdus_count lengths bytes)) in
         (λ j. record {
           outcome = gives ((sym is ∙ sym count) j);
           returned = rs;

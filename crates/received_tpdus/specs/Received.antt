@@ -1,18 +1,17 @@
 -- A list of T-PDUs that came back, taken in one call: 21, and then the single call of each, in turn. The Rust has no
 -- such call.
-use Rattle.std.specs.Prelude.{ℕ, min, ◌≡◌, List, [], ◌∷◌, ◌++◌, map, length, take, drop}
+use Rattle.std.specs.Prelude.{ℕ, min, ◌≡◌, List, [], ◌∷◌, ◌++◌, map, length, take, drop, Result}
+use denote.Triple.Both.{Both}
+use Rattle.std.specs.Borrow.{MutBor}
+use Rattle.error.specs.Answer.{answered}
 use Rattle.error.specs.Outcome.{Outcome, refused, gives}
+use Rattle.error.specs.declared.Refusal.{Refusal}
 use Rattle.observer.specs.Observer.{Observer}
 use Rattle.observer.specs.Judge.{judged, Step}
 use Rattle.observer.specs.InTurn.{Steps, in_turn}
-use Rattle.rows.specs.Columns.{Columns, WrittenColumn, Sheet}
-use Rattle.observer.specs.Answer.{observer_of, lent}
-use Rattle.observer.specs.declared.ObserverCounts.{ObserverCounts}
+use Rattle.rows.specs.Columns.{Sheet}
+use Rattle.observer.specs.Answer.{Counts, observer_of, lent}
 use Rattle.return_calls.specs.Returns.{sequence_read, record_received_tpdu}
-use Rattle.return_calls.specs.Answer.{sequence_numbers}
-use Rattle.received_tpdus.specs.declared.ReturnsRecorded.{ReturnsRecorded}
-use Rattle.received_tpdus.specs.declared.ReturnsRecording.{ReturnsRecording}
-use Rattle.received_tpdus.specs.declared.ReturnsRecording.TheVariants as recording
 
 -- T-PDUs of these lengths, end to end. Where the bytes end first, the last ones are shorter, and the reader judges them
 -- as they are.
@@ -50,6 +49,11 @@ pub record ReturnsTaken : Type 0 where
 abbrev pub at_front : List ℕ → List ℕ → List ℕ
 at_front front column = front ++ drop (length front) column
 
+-- The sequence that a T-PDU reads as, 0 beside a refusal of the reader.
+abbrev pub sequence_or_0 : Outcome ℕ → ℕ
+sequence_or_0 (refused n) = 0
+sequence_or_0 (gives q) = q
+
 -- The T-PDUs return one after the other. The sequence that each reads as, 0 beside a refusal of the reader, and the
 -- number of each return are written to their columns.
 abbrev pub take_returns : Observer → List ℕ → List (List ℕ) → List ℕ → List ℕ → ReturnsTaken
@@ -57,7 +61,7 @@ take_returns o times tpdus returned numbers =
     let s : Steps = in_turn record_received o (received_of times tpdus) in
     record {
       outcome = gives (length s.numbers);
-      returned = at_front (map (λ tpdu. (sequence_numbers (sequence_read tpdu)).sequence) tpdus) returned;
+      returned = at_front (map (λ tpdu. sequence_or_0 (sequence_read tpdu)) tpdus) returned;
       numbers = at_front s.numbers numbers;
       observer = s.observer;
     }
@@ -71,25 +75,20 @@ record_received_tpdus o times lengths bytes returned numbers =
       | gives taken ↦ taken
     ]
 
--- ---- the answer
+-- ---- in contracts
 
--- What the answer means.
-abbrev pub returns_means : ReturnsRecording → Outcome ℕ
-returns_means (recording.Accepted returns) = gives returns
-returns_means (recording.Refused n) = refused n
-
--- What a list of returns was answered, and its two columns and the sheet's columns as the call left them.
-abbrev pub returns_recorded : ReturnsRecorded → List ℕ → List ℕ → Columns → ReturnsTaken
-returns_recorded r returned numbers columns = record {
-  outcome = returns_means r.answer;
-  returned = returned;
-  numbers = numbers;
-  observer = observer_of columns r.counts;
-}
+-- A column of numbers that a call may write, when it begins and when it returns.
+abbrev pub WrittenColumn : Type 0
+WrittenColumn = Both (MutBor (List ℕ)) (MutBor (List ℕ))
 
 -- In a contract: `records` of the observer's calls, for a list of returns and its two columns.
-abbrev pub records_returns : Sheet → ObserverCounts → ReturnsRecorded → WrittenColumn → WrittenColumn
+abbrev pub records_returns : Sheet → Counts → Result ℕ Refusal → WrittenColumn → WrittenColumn
     → (Observer → List ℕ → List ℕ → ReturnsTaken) → Type 0
-records_returns s c r returned numbers definition =
-    returns_recorded r returned.exit.now numbers.exit.now s.exit
-    ≡ definition (lent s c) returned.entry.now numbers.entry.now
+records_returns s c answer returned numbers definition =
+    record {
+      outcome = answered answer;
+      returned = returned.exit.now;
+      numbers = numbers.exit.now;
+      observer = observer_of s.exit c.exit.now;
+    }
+    ≡ definition (lent s c.entry.now) returned.entry.now numbers.entry.now

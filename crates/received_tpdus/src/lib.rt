@@ -3,36 +3,42 @@
 // can pass in a number or a sequence in the reader's place.
 #![tactic(auto)]
 
-ghost use Rattle.std.specs.Prelude.{◌≡◌, ◌+◌, ◌≤◌, min};
-ghost use Rattle.rows.specs.Columns.{marked_sheet};
+ghost use Rattle.std.specs.Prelude.{◌≡◌, true};
+ghost use Rattle.error.specs.Answer.{answered};
+ghost use Rattle.error.specs.Outcome.{outcome_number};
+ghost use Rattle.rows.specs.Columns.{SameMarked, columns_marked, marked_sheet};
+ghost use Rattle.observer.specs.Judge.{well_formed, after_reading};
+ghost use Rattle.observer.specs.Returning.{record_return};
+ghost use Rattle.observer.specs.Answer.{observer_of, records};
 ghost use Rattle.received_tpdus.specs.Received.{record_received_tpdus, records_returns};
 ghost use Rattle.received_tpdus.specs.Claims.{EndToEnd};
 
+use error::Refusal;
 use observer::ObserverCounts;
+use rows::MarkedSheet;
 
-// Whether a list of returns was taken, and how many returns it had.
-#[derive(Clone, Copy)]
-pub enum ReturnsRecording {
-    Accepted(usize),
-    Refused(u8),
-}
-
-// What a list of returns answers, and the counts as it leaves them.
-#[derive(Clone, Copy)]
-pub struct ReturnsRecorded {
-    pub counts: ObserverCounts,
-    pub answer: ReturnsRecording,
-}
-
-// Where a T-PDU of this length that starts at `at` ends: not past the end of the bytes.
-fn tpdu_end(at: usize, length: usize, bytes: usize) -> usize
-    requires { at ≤ bytes }
-    ensures { result ≡ min (at + length) bytes }
+// Records what a T-PDU read as, on a sheet that was judged.
+fn record_read(
+    sheet: &mut MarkedSheet,
+    counts: &mut ObserverCounts,
+    return_timestamp_ns: u64,
+    read: Result<u64, Refusal>,
+) -> Result<(), Refusal>
+    requires { well_formed (observer_of (columns_marked sheet.old) counts.old) ≡ true }
+    ensures same { SameMarked sheet.old sheet.new }
+    ensures recorded { records (marked_sheet sheet) counts result
+        (λ o. after_reading o (answered read) (record_return o return_timestamp_ns)) }
 {
-    if bytes - at < length {
-        bytes
-    } else {
-        at + length
+    counts.returned(rows::arrive(sheet, counts.used, return_timestamp_ns, read?))
+}
+
+// The number of an answer: 0, or the refusal's.
+fn answer_number(answer: Result<(), Refusal>) -> u8
+    ensures { result ≡ outcome_number (answered answer) }
+{
+    match answer {
+        Ok(()) => 0,
+        Err(refusal) => refusal.number(),
     }
 }
 
@@ -41,69 +47,36 @@ fn tpdu_end(at: usize, length: usize, bytes: usize) -> usize
 // `returned` gets the sequence that it reads as, 0 beside a refusal of the reader. The list is as long as the shortest
 // of these columns. Refuses the whole list by 21, and leaves these columns too.
 pub fn record_received_tpdus(
-    sequences: &[u64],
-    send_timestamps: &[u64],
-    latencies: &mut [u64],
-    marks: &mut [u8],
-    arrival_timestamps: &mut [u64],
-    counts: ObserverCounts,
+    sheet: &mut MarkedSheet,
+    counts: &mut ObserverCounts,
     return_timestamps: &[u64],
     lengths: &[usize],
     tpdus: &[u8],
     returned: &mut [u64],
     numbers: &mut [u8],
-) -> ReturnsRecorded
-    ensures { records_returns (marked_sheet sequences send_timestamps latencies marks arrival_timestamps) counts result
-        returned numbers
+) -> Result<usize, Refusal>
+    ensures same { SameMarked sheet.old sheet.new }
+    ensures recorded { records_returns (marked_sheet sheet) counts result returned numbers
         (λ o. record_received_tpdus o return_timestamps.now lengths.now tpdus.now) }
 {
-    if !observer::well_formed(
-        sequences,
-        send_timestamps,
-        latencies,
-        marks,
-        arrival_timestamps,
-        counts,
-    ) {
-        return ReturnsRecorded {
-            counts: counts,
-            answer: ReturnsRecording::Refused(error::MALFORMED_OBSERVER),
-        };
+    if !observer::well_formed(sheet.read(), *counts) {
+        return Err(Refusal::MalformedObserver);
     }
-    let room = columns::least(returned.len(), numbers.len());
-    let returns = columns::least(return_timestamps.len(), columns::least(lengths.len(), room));
-    let mut latest = counts;
-    let mut at = 0;
-    let mut i = 0;
-    while i < returns {
-        let end = tpdu_end(at, lengths[i], tpdus.len());
-        let read = return_calls::read_sequence(&tpdus[at..end]);
-        returned[i] = read.sequence;
-        at = end;
-        if read.number != 0 {
-            numbers[i] = read.number;
-            i += 1;
-        } else {
-            let step = latest.returned(rows::arrive(
-                sequences,
-                send_timestamps,
-                latencies,
-                marks,
-                arrival_timestamps,
-                latest.used,
-                return_timestamps[i],
-                read.sequence,
-            ));
-            let answer = step.answer;
-            numbers[i] = observer::answer_number(answer);
-            latest = step.counts;
-            i += 1;
-        }
+    let returns = return_timestamps
+        .len()
+        .min(lengths.len())
+        .min(returned.len())
+        .min(numbers.len());
+    let mut rest = tpdus;
+    // By index: a zip of these four columns is no plainer.
+    for i in 0..returns {
+        let (tpdu, behind) = rest.split_at(lengths[i].min(rest.len()));
+        let read = return_calls::read_sequence(tpdu);
+        returned[i] = read.unwrap_or(0);
+        numbers[i] = answer_number(record_read(sheet, counts, return_timestamps[i], read));
+        rest = behind;
     }
-    ReturnsRecorded {
-        counts: latest,
-        answer: ReturnsRecording::Accepted(returns),
-    }
+    Ok(returns)
 }
 
 // Carries that T-PDUs which lie end to end are taken apart as they were.
