@@ -43,7 +43,7 @@ pub struct MultiSessionReflectorConfig {
 
 // The reflector's counts.
 #[repr(C)]
-#[derive(Clone, Copy)]
+#[derive(Clone, Copy, Debug, PartialEq, Eq)]
 pub struct ReflectorStats {
     pub gpdu_received: u64,
     pub gpdu_forwarded: u64,
@@ -55,7 +55,7 @@ pub struct ReflectorStats {
 
 // What changes from message to message: the counts, and the sequence number of the next Error Indication.
 #[repr(C)]
-#[derive(Clone, Copy)]
+#[derive(Clone, Copy, Debug, PartialEq, Eq)]
 pub struct ReflectorState {
     pub stats: ReflectorStats,
     pub next_error_sequence: u16,
