@@ -9,7 +9,13 @@ use Rattle.checksum.proofs.Spans.{every_span, only_spans}
 use Rattle.reflector_answer.specs.declared.ReflectorPolicy.TheVariants.{Route}
 use Rattle.reflected_legs.specs.Way.{Pieces, last, routed, Leg}
 use Rattle.reflected_legs.specs.Claims.{LegsAreOne}
+use Rattle.reflector_sessions.specs.Session.{no_session, value_of}
+use Rattle.reflector_answer.specs.declared.RouteTarget.{RouteTarget}
 use Rattle.reflected_legs.proofs.Hops.{forwards_is, forwards}
+
+-- some target
+abbrev no_target : RouteTarget
+no_target = record { destination = value_of no_session.peer_addr; teid = 0 }
 
 module _ (from width : ℕ) where
   -- the pieces as one
@@ -29,12 +35,12 @@ module _ (from width : ℕ) where
   still : (routes : ℕ) (l : List ℕ) → Bytes l → Pieces from width routes l l
   still zero l b = last (record { same_length = refl; bytes = b; kept_before = refl; kept_behind = refl })
   still (suc routes) l b =
-      routed (record { same_length = refl; bytes = b; kept_before = refl; kept_behind = refl }) (forwards Route l l refl) (still routes l b)
+      routed (record { same_length = refl; bytes = b; kept_before = refl; kept_behind = refl }) (forwards (Route no_target) l l refl) (still routes l b)
 
   -- all bits turn on the first piece
   first_piece : (routes : ℕ) {sent arrived : List ℕ} → TurnedWithin from width sent arrived → Pieces from width routes sent arrived
   first_piece zero t = last t
-  first_piece (suc routes) {sent} {arrived} t = routed t (forwards Route arrived arrived refl) (still routes arrived t.bytes)
+  first_piece (suc routes) {sent} {arrived} t = routed t (forwards (Route no_target) arrived arrived refl) (still routes arrived t.bytes)
 
 leg_turned : {routes : ℕ} {sent arrived : List ℕ} → Leg routes sent arrived → Turned sent arrived
 leg_turned g =

@@ -4,6 +4,7 @@
 use Rattle.std.specs.Prelude.{ℕ, suc, ◌≤◌, ◌≡◌, List, Bool, not, replicate}
 use Rattle.checksum.specs.Damage.{bits_in, TurnedWithin}
 use Rattle.reflector_answer.specs.declared.ReflectorPolicy.TheVariants.{Echo, Route}
+use Rattle.reflector_answer.specs.declared.RouteTarget.{RouteTarget}
 use Rattle.reflected_legs.specs.Hop.{Forwards}
 
 -- The pieces of one leg, by the number of routes on it: from its start to the first route, from route to route, and
@@ -11,7 +12,7 @@ use Rattle.reflected_legs.specs.Hop.{Forwards}
 pub data Pieces (from width : ℕ) : ℕ → List ℕ → List ℕ → Type 0 where
   last : {sent arrived : List ℕ} → TurnedWithin from width sent arrived → Pieces from width 0 sent arrived
   routed : {sent at_route onward arrived : List ℕ} {routes : ℕ} → TurnedWithin from width sent at_route
-      → Forwards Route at_route onward → Pieces from width routes onward arrived
+      → {target : RouteTarget} → Forwards (Route target) at_route onward → Pieces from width routes onward arrived
       → Pieces from width (suc routes) sent arrived
 
 -- A leg: one span for all of its pieces.

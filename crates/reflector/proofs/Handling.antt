@@ -1,9 +1,5 @@
 -- The search's result may stand for the session that a message's TEID means: where the table is refused, no session is looked at; else the search found what the TEID means.
-use Prim.Native.Nat.{ℕ}
-use mathlib.Core.Path.{◌≡◌, sym, ap, ◌∙◌}
-use mathlib.Core.List.{List}
-use mathlib.Core.Option.{Option}
-use lib.ListN.{length}
+use Rattle.std.proofs.Common.{◌≡◌, ℕ, List, Option, length, sym, ap, ◌∙◌}
 use Rattle.error.specs.Outcome.{refused, gives}
 use Rattle.error.proofs.Causes.{refuses}
 use Rattle.reflector_answer.specs.Handle.{handle_found}
@@ -11,13 +7,12 @@ use Rattle.gtpu.specs.declared.GtpuMessage.{GtpuMessage}
 use Rattle.reflector_answer.specs.declared.MultiSessionReflectorConfig.{MultiSessionReflectorConfig}
 use Rattle.reflector_answer.specs.declared.ReflectorState.{ReflectorState}
 use Rattle.reflector_answer.proofs.Answers.{handling_refused}
-use Rattle.reflector_sessions.specs.Judge.{table_outcome, session_found}
-use Rattle.reflector_sessions.specs.Session.{no_session}
-use Rattle.reflector_sessions.specs.Table.{found_in, searched_rows}
+use Rattle.reflector_sessions.specs.Judge.{table_outcome}
+use Rattle.reflector_sessions.specs.Table.{table_of, find, searched_rows}
 use Rattle.reflector_sessions.specs.declared.ReflectorSession.{ReflectorSession}
 use Rattle.reflector_sessions.specs.declared.SocketAddr.{SocketAddr}
 use Rattle.reflector_sessions.proofs.Judging.{Judged, unsound, sound, judge}
-use Rattle.reflector_sessions.proofs.Search.{found_used}
+use Rattle.reflector_sessions.proofs.Search.{searched_used}
 use Rattle.reflector.specs.Handle.{handle_datagram}
 
 module _ (config : MultiSessionReflectorConfig) (state : ReflectorState) (source : SocketAddr) (message : GtpuMessage) (payload buffer : List ℕ) where
@@ -26,12 +21,14 @@ module _ (config : MultiSessionReflectorConfig) (state : ReflectorState) (source
       → handle_found rows used config state one source message payload buffer ≡ handle_found rows used config state other source message payload buffer
   refused_alike rows used e one other = sym (handling_refused rows used config state one source message payload buffer e) ∙ handling_refused rows used config state other source message payload buffer e
 
-  pub handled_is : (sessions : List ReflectorSession) (used : ℕ)
-      → handle_found (length sessions) used config state (session_found used (found_in (searched_rows sessions used config.max_sessions) message.teid no_session)) source message payload buffer ≡ handle_datagram sessions used config state source message payload buffer
+  pub handled_is : (rows : List ReflectorSession) (used : ℕ)
+      → handle_found (length rows) used config state (find message.teid (searched_rows (table_of rows used config.max_sessions))) source message payload buffer ≡ handle_datagram rows used config state source message payload buffer
   unfolding handle_datagram table_outcome
-  handled_is sessions used = go (judge (length sessions) used config.max_sessions)
+  handled_is rows used = go (judge (length rows) used config.max_sessions)
     where
-      go : Judged (length sessions) used config.max_sessions
-          → handle_found (length sessions) used config state (session_found used (found_in (searched_rows sessions used config.max_sessions) message.teid no_session)) source message payload buffer ≡ handle_datagram sessions used config state source message payload buffer
-      go (unsound n h) = refused_alike (length sessions) used (refuses (gives used) h) _ _
-      go (sound s) = ap (λ (session : Option ReflectorSession). handle_found (length sessions) used config state session source message payload buffer) (found_used sessions used config.max_sessions message.teid no_session s)
+      go : Judged (length rows) used config.max_sessions
+          → handle_found (length rows) used config state (find message.teid (searched_rows (table_of rows used config.max_sessions))) source message payload buffer ≡ handle_datagram rows used config state source message payload buffer
+      go (unsound n h) = refused_alike (length rows) used (refuses (gives used) h) _ _
+      go (sound s) =
+          ap (λ (xs : List ReflectorSession). handle_found (length rows) used config state (find message.teid xs) source message payload buffer)
+          (searched_used (table_of rows used config.max_sessions) s)

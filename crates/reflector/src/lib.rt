@@ -6,33 +6,38 @@
 ghost use Rattle.reflector_answer.specs.Handle.{HandledAs};
 ghost use Rattle.reflector.specs.Handle.{handle_datagram};
 
+use error::Refusal;
 use gtpu::GtpuMessage;
-use reflector_answer::{Handled, MultiSessionReflectorConfig, ReflectorState};
-use reflector_sessions::{ReflectorSession, SocketAddr};
+use reflector_answer::{MultiSessionReflectorConfig, ReflectorAction, ReflectorState};
+use reflector_sessions::{ReflectorSession, Sessions, SocketAddr};
 
 // Handles a message: 30, 31, 15, then by its type.
 pub fn handle_datagram(
-    sessions: &[ReflectorSession],
+    rows: &[ReflectorSession],
     used: usize,
     config: MultiSessionReflectorConfig,
-    state: ReflectorState,
+    state: &mut ReflectorState,
     source: SocketAddr,
     message: GtpuMessage,
     payload: &[u8],
     out: &mut [u8],
-) -> Handled
-    ensures { HandledAs result out.new
-        (handle_datagram sessions.now used config state source message payload.now
-        out.old)
+) -> Result<ReflectorAction, Refusal>
+    ensures { HandledAs result state.new out.new
+        (handle_datagram rows.now used config state.old source message payload.now out.old)
         out.old }
 {
-    let found = reflector_sessions::find_session(sessions, used, config.max_sessions, message.teid);
+    let sessions = Sessions {
+        rows,
+        used,
+        max_sessions: config.max_sessions,
+    };
+    let session = reflector_sessions::find_session(sessions, message.teid);
     reflector_answer::handle_found(
-        sessions.len(),
+        rows.len(),
         used,
         config,
         state,
-        found,
+        session,
         source,
         message,
         payload,

@@ -1,8 +1,5 @@
--- `reflector::handle_datagram` meets its contract.
-use mathlib.Core.Path.{ap, subst, ◌∙◌}
-use lib.ListN.{length}
-use Rattle.reflector_sessions.specs.Judge.{session_found}
-use Rattle.reflector_sessions.specs.declared.FoundSession.{FoundSession}
+use Rattle.std.proofs.Common.{Option, ap, subst, length, ◌∙◌}
+use Rattle.reflector_sessions.specs.declared.ReflectorSession.{ReflectorSession}
 use Rattle.reflector_answer.specs.Answer.{Answer}
 use Rattle.reflector_answer.specs.Handle.{HandledAs, handle_found}
 use Rattle.reflector.proofs.Handling.{handled_is}
@@ -11,7 +8,7 @@ use Rattle.reflector.proofs.handle_datagram.Goals as goal
 pub returns : goal.returns
 returns c =
     let a = c.args in
-    subst (λ (to : Answer). HandledAs c.handle_found.result c.handle_found.new.out to a.out.now)
-    (ap (λ (found : FoundSession). handle_found (length a.sessions.now) a.used a.config a.state (session_found a.used found) a.source a.message a.payload.now a.out.now) c.find_session-found.ensures
-    ∙ handled_is a.config a.state a.source a.message a.payload.now a.out.now a.sessions.now a.used)
+    subst (λ (to : Answer). HandledAs c.handle_found.result c.handle_found.new.state c.handle_found.new.out to a.out.now)
+    (ap (λ (session : Option ReflectorSession). handle_found (length a.rows.now) a.used a.config a.state.now session a.source a.message a.payload.now a.out.now) c.find_session-session.ensures
+    ∙ handled_is a.config a.state.now a.source a.message a.payload.now a.out.now a.rows.now a.used)
     c.handle_found.ensures
