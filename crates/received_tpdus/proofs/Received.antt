@@ -6,13 +6,13 @@ use mathlib.Core.List.{List, [], ◌∷◌, ◌++◌, map, append_assoc, append-
 use native.Mathlib.Nat.{le_of_suc-le-suc}
 use native.Mathlib.Numerals.{add-one}
 use native.Mathlib.Omega.{arith}
-use lib.ListN.{length, get_or, set, take, drop, length-set, length-drop, length-map, take-append-drop, drop_of_length-le}
+use lib.ListN.{length, get_or, set, take, drop, length-set, length-map, take-append-drop}
 use lib.Seq.{take-suc, drop-cons, drop-drop, take-set-le, drop-set-lt, get_or-set_same, length-take-le}
 use Rattle.error.specs.Number.{malformed_observer}
 use Rattle.error.specs.Outcome.{Outcome, refused, gives, outcome_number}
 use Rattle.std.proofs.lemmas.List.{take_min, drop_min}
 use Rattle.observer.specs.Observer.{Observer}
-use Rattle.observer.specs.Judge.{well_formed, Step, step, after_reading}
+use Rattle.observer.specs.Judge.{well_formed, Step, after_reading}
 use Rattle.observer.specs.Returning.{record_return}
 use Rattle.observer.specs.InTurn.{Steps, in_turn}
 use Rattle.observer.specs.Claims.{returning}

@@ -37,6 +37,8 @@ tunnel_told (Ok outcome) = tunnel_in outcome
 tunnel_told (Err r) = no_tunnel
 
 -- In a contract: `records` of the observer's calls, for a message.
-abbrev pub records_message : Sheet → Counts → Result GtpuReturnDatagramOutcome Refusal → (Observer → MessageStep) → Type 0
+abbrev pub records_message : Sheet → Counts → Result GtpuReturnDatagramOutcome Refusal → (Observer → MessageStep)
+    → Type 0
 records_message s c answer definition =
-    record { outcome = message_means answer; observer = observer_of s.exit c.exit.now } ≡ definition (lent s c.entry.now)
+    record { outcome = message_means answer; observer = observer_of s.exit c.exit.now }
+    ≡ definition (lent s c.entry.now)
