@@ -1,6 +1,6 @@
 -- The loops that gather over columns: what is gathered up to i, with what is left, is the whole answer. The law is said once, over what is
 -- gathered and how. A loop that looks at several rows in a turn cuts them off the front of what is left.
-use Prim.Native.Nat.{ℕ, zero, suc, ◌+◌, ◌≤◌, ◌<◌, min}
+use Prim.Native.Nat.{ℕ, zero, suc, ◌+◌, ◌-◌, ◌≤◌, ◌<◌, min}
 use mathlib.Core.Path.{◌≡◌, refl, sym, ap, ◌∙◌}
 use mathlib.Core.List.{List, [], ◌∷◌}
 use mathlib.Core.Bool.{Bool, true, false, ◌&&◌, ◌||◌}
@@ -121,13 +121,18 @@ module _ (column : List ℕ) (n : ℕ) (fits : n ≤ length column) where
       → b && rising (drop (i + k) (take n column)) ≡ whole
   rising_turned k i h e w = ap (λ (x : Bool). x && rising (drop (i + k) (take n column))) (sym e) ∙ sym (rising_turn k i h) ∙ w
 
-  -- one neighbour in a turn
-  pub rising_next : (i : ℕ) → i + 1 < n
-      → rising (drop i (take n column)) ≡ ltb (get_or column i 0) (get_or column (i + 1) 0) && rising (drop (i + 1) (take n column))
-  rising_next i h =
-      rising_turn 1 i (omega arith)
-      ∙ ap (λ (b : Bool). b && rising (drop (i + 1) (take n column)))
-      (ap rising (entries_are 2 i column (omega arith)) ∙ and_true _ ∙ ap (λ (k : ℕ). ltb (get_or column i 0) (get_or column k 0)) (sym (add-one i)))
+  -- an entry and the one before it in a turn
+  pub rising_next : (i : ℕ) → 0 < i → i < n → {b whole : Bool} → ltb (get_or column (i - 1) 0) (get_or column i 0) ≡ b → rising (drop (i - 1) (take n column)) ≡ whole
+      → b && rising (drop i (take n column)) ≡ whole
+  rising_next i p h e w =
+      let k : ℕ = i - 1 in
+      let next : k + 1 ≡ i = omega arith in
+      ap (λ (x : Bool). x && rising (drop i (take n column))) (sym e)
+      ∙ ap (λ (j : ℕ). ltb (get_or column k 0) (get_or column j 0) && rising (drop j (take n column))) (sym next)
+      ∙ sym (rising_turn 1 k (omega arith)
+      ∙ ap (λ (x : Bool). x && rising (drop (k + 1) (take n column)))
+      (ap rising (entries_are 2 k column (omega arith)) ∙ and_true _ ∙ ap (λ (j : ℕ). ltb (get_or column k 0) (get_or column j 0)) (sym (add-one k))))
+      ∙ w
 
   pub rising_last : (i : ℕ) → n ≤ i + 1 → rising (drop i (take n column)) ≡ true
   rising_last i h = rising_one (drop i (take n column)) (simp (length-drop, length-take) (omega arith))

@@ -1,4 +1,3 @@
--- `observer::arrival_is_kept` meets its contract.
 use Rattle.observer.proofs.Arrivals.{arrival_kept, arrival_kept_for_good, first_return_arrives, resend_parts}
 use Rattle.observer.proofs.arrival_is_kept.Goals as goal
 

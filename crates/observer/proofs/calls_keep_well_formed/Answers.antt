@@ -1,4 +1,3 @@
--- `observer::calls_keep_well_formed` meets its contract.
 use Rattle.observer.proofs.Claims.{put_back, fresh_is_well, calls_keep_well}
 use Rattle.observer.proofs.calls_keep_well_formed.Goals as goal
 

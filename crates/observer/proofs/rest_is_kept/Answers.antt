@@ -1,4 +1,3 @@
--- `observer::rest_is_kept` meets its contract.
 use Rattle.observer.proofs.Claims.{rest_kept}
 use Rattle.observer.proofs.rest_is_kept.Goals as goal
 

@@ -1,4 +1,3 @@
--- `observer::search_finds` meets its contract.
 use Rattle.observer.proofs.Claims.{search_finds, below_highest_marked}
 use Rattle.observer.proofs.search_finds.Goals as goal
 

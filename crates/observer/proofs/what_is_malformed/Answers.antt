@@ -1,4 +1,3 @@
--- `observer::what_is_malformed` meets its contract.
 use Rattle.observer.proofs.Claims.{malformed_is}
 use Rattle.observer.proofs.what_is_malformed.Goals as goal
 
