@@ -1,3 +1,2 @@
--- The laws of the calls on packets, and the claim.
-pub mod Calls
+-- The claim.
 pub mod Claims

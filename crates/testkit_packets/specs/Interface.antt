@@ -50,15 +50,17 @@ forecast_numbers (gives figures) = elim figures.last [
   }
 ]
 
--- What reading answers, as C has it.
-abbrev pub testkit_tpdu : TpduNumbers → TestkitTpdu
-testkit_tpdu n = record {
-  number = n.number;
-  version = version_number n.version;
-  src_port = n.src_port;
-  dst_port = n.dst_port;
-  sequence = n.sequence;
-  send_timestamp_ns = n.send_timestamp_ns;
+-- What reading answers, as C has it: 0 and the values, or a refusal's number and zeros beside version 4.
+abbrev pub testkit_tpdu : Outcome TpduNumbers → TestkitTpdu
+testkit_tpdu (refused n) =
+    record { number = n; version = 4; src_port = 0; dst_port = 0; sequence = 0; send_timestamp_ns = 0 }
+testkit_tpdu (gives values) = record {
+  number = 0;
+  version = version_number values.version;
+  src_port = values.src_port;
+  dst_port = values.dst_port;
+  sequence = values.sequence;
+  send_timestamp_ns = values.send_timestamp_ns;
 }
 
 -- 0, the version of the peer's address and the TEID; or a refusal's number, version 4 and TEID 0.

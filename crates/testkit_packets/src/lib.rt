@@ -6,7 +6,8 @@
 ghost use Rattle.std.specs.Prelude.{◌≡◌, ◌+◌, true, eqb};
 ghost use Rattle.checksum.specs.Sum.{sum_of, fold_of, checksum_of};
 ghost use Rattle.checksum.specs.Claims.{Undamaged};
-ghost use Rattle.measurement.specs.Answer.{written_means, writing, writing_of};
+ghost use Rattle.error.specs.Answer.{answered};
+ghost use Rattle.measurement.specs.Answer.{writing, writing_of};
 ghost use Rattle.measurement.specs.Flow.{version_numbered};
 ghost use Rattle.measurement_packet.specs.Packet.{build_of};
 ghost use Rattle.measurement_reading.specs.Read.{read_of};
@@ -20,9 +21,11 @@ ghost use Rattle.testkit_packets.specs.Interface.{version_of, flow_of, written_n
 ghost use Rattle.testkit_packets.specs.Interface.{without_last, forecast_numbers, elements_numbers, address_left};
 ghost use Rattle.testkit_packets.specs.Claims.{ElementsReadBack};
 
-use forecast::PlanForecast;
-use gtpu::ElementsChecked;
-use measurement::{InnerIpFlow, Written};
+use error::Refusal;
+use forecast::PlannedPackets;
+use gtpu::RefusedTunnel;
+use measurement::{InnerIpFlow, IpVersion};
+use measurement_decode::TpduNumbers;
 use plan::TrafficPlan;
 
 // The version of the interface. The major version rises if a program may have to be changed, otherwise the minor if
@@ -49,6 +52,20 @@ pub struct TestkitWritten {
     pub bytes: usize,
 }
 
+impl From<Result<usize, Refusal>> for TestkitWritten {
+    ghost from_gives = { λ answer written. written ≡ written_numbers (answered answer) };
+
+    fn from(answer: Result<usize, Refusal>) -> Self {
+        match answer {
+            Ok(bytes) => Self { number: 0, bytes },
+            Err(refusal) => Self {
+                number: refusal.number(),
+                bytes: 0,
+            },
+        }
+    }
+}
+
 // What reading answers: 0 and the values, or a refusal's number and zeros beside version 4. `version` is 4 or 6.
 #[repr(C)]
 #[derive(Clone, Copy)]
@@ -59,6 +76,31 @@ pub struct TestkitTpdu {
     pub dst_port: u16,
     pub sequence: u64,
     pub send_timestamp_ns: u64,
+}
+
+impl From<Result<TpduNumbers, Refusal>> for TestkitTpdu {
+    ghost from_gives = { λ answer tpdu. tpdu ≡ testkit_tpdu (answered answer) };
+
+    fn from(answer: Result<TpduNumbers, Refusal>) -> Self {
+        match answer {
+            Ok(values) => Self {
+                number: 0,
+                version: values.version.number(),
+                src_port: values.src_port,
+                dst_port: values.dst_port,
+                sequence: values.sequence,
+                send_timestamp_ns: values.send_timestamp_ns,
+            },
+            Err(refusal) => Self {
+                number: refusal.number(),
+                version: IpVersion::V4.number(),
+                src_port: 0,
+                dst_port: 0,
+                sequence: 0,
+                send_timestamp_ns: 0,
+            },
+        }
+    }
 }
 
 // What a plan will be: 0 and its bytes, with the last packet's sequence and send time where it has one; or a refusal's
@@ -73,6 +115,39 @@ pub struct TestkitPlanForecast {
     pub last_send_timestamp_ns: u64,
 }
 
+impl TestkitPlanForecast {
+    // No last packet: 0, or a refusal's number.
+    fn without_last(number: u8) -> Self
+        ensures { result ≡ without_last number 0 }
+    {
+        Self {
+            number,
+            has_last: false,
+            bytes: 0,
+            last_sequence: 0,
+            last_send_timestamp_ns: 0,
+        }
+    }
+}
+
+impl From<Result<Option<PlannedPackets>, Refusal>> for TestkitPlanForecast {
+    ghost from_gives = { λ answer forecast. forecast ≡ forecast_numbers (forecast_means answer) };
+
+    fn from(answer: Result<Option<PlannedPackets>, Refusal>) -> Self {
+        match answer {
+            Ok(Some(packets)) => Self {
+                number: 0,
+                has_last: true,
+                bytes: packets.bytes,
+                last_sequence: packets.last.sequence,
+                last_send_timestamp_ns: packets.last.send_timestamp_ns,
+            },
+            Ok(None) => Self::without_last(0),
+            Err(refusal) => Self::without_last(refusal.number()),
+        }
+    }
+}
+
 // What the walk over elements answers: 0, the version of the peer's address and the TEID; or a refusal's number,
 // version 4 and TEID 0. `version` is 4 or 6.
 #[repr(C)]
@@ -83,19 +158,35 @@ pub struct TestkitElements {
     pub teid: u32,
 }
 
-// A writer's answer in numbers.
-fn written_numbers(answer: Written) -> TestkitWritten
-    ensures { result ≡ written_numbers (written_means answer) }
+impl From<Result<RefusedTunnel, Refusal>> for TestkitElements {
+    ghost from_gives = { λ answer elements. elements ≡ elements_numbers (answered answer) };
+
+    fn from(answer: Result<RefusedTunnel, Refusal>) -> Self {
+        match answer {
+            Ok(tunnel) => Self {
+                number: 0,
+                version: tunnel.version.number(),
+                teid: tunnel.teid,
+            },
+            Err(refusal) => Self {
+                number: refusal.number(),
+                version: IpVersion::V4.number(),
+                teid: 0,
+            },
+        }
+    }
+}
+
+// The flow that C passes in parts.
+fn flow_of(version: u8, src: &[u8; 16], dst: &[u8; 16], src_port: u16, dst_port: u16) -> InnerIpFlow
+    ensures { result ≡ flow_of version src.now dst.now src_port dst_port }
 {
-    match answer {
-        Written::Bytes(n) => TestkitWritten {
-            number: 0,
-            bytes: n,
-        },
-        Written::Refused(number) => TestkitWritten {
-            number: number,
-            bytes: 0,
-        },
+    InnerIpFlow {
+        version: version.into(),
+        src: *src,
+        dst: *dst,
+        src_port,
+        dst_port,
     }
 }
 
@@ -104,7 +195,7 @@ fn written_numbers(answer: Written) -> TestkitWritten
 pub extern "C" fn testkit_sum(start: u16, bytes: &[u8]) -> u16
     ensures { result ≡ fold_of (start + sum_of bytes.now) }
 {
-    checksum::sum(start as u64, bytes)
+    checksum::sum(u64::from(start), bytes)
 }
 
 // `checksum::checksum`
@@ -143,15 +234,8 @@ pub extern "C" fn testkit_build(
         ≡ (writing (build_of (flow_of version src.now dst.now src_port dst_port)
         sequence send_timestamp_ns) out.old).buffer }
 {
-    let flow = InnerIpFlow {
-        version: measurement::version_of(version),
-        src: *src,
-        dst: *dst,
-        src_port: src_port,
-        dst_port: dst_port,
-    };
-    let written = measurement_build::build_measurement_tpdu(flow, sequence, send_timestamp_ns, out);
-    written_numbers(written)
+    let flow = flow_of(version, src, dst, src_port, dst_port);
+    measurement_build::build_measurement_tpdu(flow, sequence, send_timestamp_ns, out).into()
 }
 
 // `measurement_echo::echo_tpdu`
@@ -160,7 +244,7 @@ pub extern "C" fn testkit_echo(tpdu: &[u8], out: &mut [u8]) -> TestkitWritten
     ensures answer { result ≡ written_numbers (writing_of (echo_of tpdu.now) out.old).outcome }
     ensures buffer { out.new ≡ (writing_of (echo_of tpdu.now) out.old).buffer }
 {
-    written_numbers(measurement_echo::echo_tpdu(tpdu, out))
+    measurement_echo::echo_tpdu(tpdu, out).into()
 }
 
 // `measurement_decode::decode_into`
@@ -170,16 +254,7 @@ pub extern "C" fn testkit_decode(tpdu: &[u8], src: &mut [u8; 16], dst: &mut [u8;
     ensures source { src.new ≡ source_left (read_of tpdu.now) src.old }
     ensures destination { dst.new ≡ destination_left (read_of tpdu.now) dst.old }
 {
-    let read = measurement_decode::decode_into(tpdu, src, dst);
-    let version = read.version;
-    TestkitTpdu {
-        number: read.number,
-        version: measurement::version_number(version),
-        src_port: read.src_port,
-        dst_port: read.dst_port,
-        sequence: read.sequence,
-        send_timestamp_ns: read.send_timestamp_ns,
-    }
+    measurement_decode::decode_into(tpdu, src, dst).into()
 }
 
 // `traffic::generate_from`
@@ -198,47 +273,8 @@ pub extern "C" fn testkit_generate(
         (generate_of (flow_of version src.now dst.now src_port dst_port) plan
         next_sequence.old out.old) }
 {
-    let flow = InnerIpFlow {
-        version: measurement::version_of(version),
-        src: *src,
-        dst: *dst,
-        src_port: src_port,
-        dst_port: dst_port,
-    };
-    written_numbers(traffic::generate_from(next_sequence, flow, plan, out))
-}
-
-// A forecast where there is no last packet: 0, or a refusal's number.
-fn without_last(number: u8) -> TestkitPlanForecast
-    ensures { result ≡ without_last number 0 }
-{
-    TestkitPlanForecast {
-        number,
-        has_last: false,
-        bytes: 0,
-        last_sequence: 0,
-        last_send_timestamp_ns: 0,
-    }
-}
-
-// A forecast in numbers.
-fn forecast_numbers(answer: PlanForecast) -> TestkitPlanForecast
-    ensures { result ≡ forecast_numbers (forecast_means answer) }
-{
-    match answer {
-        PlanForecast::Packets(packets) => {
-            let last = packets.last;
-            TestkitPlanForecast {
-                number: 0,
-                has_last: true,
-                bytes: packets.bytes,
-                last_sequence: last.sequence,
-                last_send_timestamp_ns: last.send_timestamp_ns,
-            }
-        }
-        PlanForecast::Empty => without_last(0),
-        PlanForecast::Refused(number) => without_last(number),
-    }
+    let flow = flow_of(version, src, dst, src_port, dst_port);
+    traffic::generate_from(next_sequence, flow, plan, out).into()
 }
 
 // `forecast::forecast`
@@ -250,7 +286,7 @@ pub extern "C" fn testkit_forecast(
 ) -> TestkitPlanForecast
     ensures { result ≡ forecast_numbers (forecast_of (version_numbered version) plan next_sequence) }
 {
-    forecast_numbers(forecast::forecast(measurement::version_of(version), plan, next_sequence))
+    forecast::forecast(version.into(), plan, next_sequence).into()
 }
 
 // `gtpu::validate_error_indication_ies`, with the peer's address in a lent array, which a refusal leaves as it was.
@@ -263,26 +299,11 @@ pub extern "C" fn testkit_validate_elements(
     ensures address { peer_address.new
         ≡ address_left (indication_of payload.now) peer_address.old }
 {
-    let result = gtpu::validate_error_indication_ies(payload);
-    let checked = result.checked;
-    let tunnel = result.tunnel;
-    let peer_version = tunnel.version;
-    let address = tunnel.peer_address;
-    match checked {
-        ElementsChecked::Refused(number) => TestkitElements {
-            number,
-            version: 4,
-            teid: 0,
-        },
-        ElementsChecked::Accepted => {
-            *peer_address = address;
-            TestkitElements {
-                number: 0,
-                version: measurement::version_number(peer_version),
-                teid: tunnel.teid,
-            }
-        }
+    let answer = gtpu::validate_error_indication_ies(payload);
+    if let Ok(tunnel) = answer {
+        peer_address.copy_from_slice(&tunnel.peer_address);
     }
+    answer.into()
 }
 
 // Carries that C can tell from the answer and the lent address which tunnel was named, or the refusal.
