@@ -3,62 +3,47 @@ use Prim.Native.Nat.{ℕ, suc, ◌+◌, ◌-◌, ◌≤◌, ◌<◌, max}
 use mathlib.Core.Path.{◌≡◌, refl, ap}
 use mathlib.Core.List.{List, [], ◌∷◌, map}
 use mathlib.Core.Bool.{Bool, true, false}
-use native.Mathlib.Numerals.{add-one}
 use native.Mathlib.Omega.{arith}
 use lib.Dec.{eqb, eqb-suc-zero}
-use lib.ListN.{length, get_or, take, drop}
-use borrow.Author.Tests.{eq-eqb, ne_eqb}
+use lib.ListN.{length}
+use Rattle.std.specs.Prelude as code
 use Rattle.observer.specs.Observer.{Row}
 use Rattle.report.specs.Report.{Run, greatest, leading, run_end, runs_in}
-use Rattle.report.specs.Loops.{gap_of, since_of, longest_in, outage_in}
-use Rattle.columns.proofs.Gathering.{left, nothing_left}
+use Rattle.report.specs.Loops.{gap_of, since_of, longest_in, outage_in, packets_of}
+use Rattle.report.specs.declared.LongestRuns.{LongestRuns}
+use Rattle.report.specs.declared.LostRun.{LostRun}
 
 -- ---- the loop
 
-module _ (ms : List ℕ) (n : ℕ) (fm : n ≤ length ms) (whole : ℕ) where
-  pub longest_marked : (k run next i : ℕ) → i < n → get_or ms i 0 ≡ 1 → max run (longest_in k (drop i (take n ms))) ≡ whole
-      → next ≡ max run k → max next (longest_in 0 (drop (i + 1) (take n ms))) ≡ whole
-  longest_marked k run next i h m e r = omega (arith, rw (left ms n fm i h, eq-eqb (get_or ms i 0) 1 m, longest_in) at e)
+abbrev pub start_of : code.Option LostRun → ℕ
+start_of code.None = 0
+start_of (code.Some run) = run.since
 
-  pub longest_unmarked : (k run i : ℕ) → i < n → (get_or ms i 0 ≡ 1 → ⊥) → max run (longest_in k (drop i (take n ms))) ≡ whole
-      → max run (longest_in (k + 1) (drop (i + 1) (take n ms))) ≡ whole
-  longest_unmarked k run i h m e = rw (add-one k) (rw (left ms n fm i h, ne_eqb (get_or ms i 0) 1 m, longest_in) at e)
+-- a run has a row
+abbrev pub Begun : code.Option LostRun → Type 0
+Begun code.None = Unit {0}
+Begun (code.Some run) = 0 < run.packets
 
-  pub longest_end : (k run next i : ℕ) → n ≤ i → max run (longest_in k (drop i (take n ms))) ≡ whole → next ≡ max run k → next ≡ whole
-  longest_end k run next i h e r = omega (arith, rw (nothing_left ms n fm i h) at e)
-
-module _ (ts ms : List ℕ) (n : ℕ) (ft : n ≤ length ts) (fm : n ≤ length ms) (end whole : ℕ) where
-  pub outage_marked : (k since gap out next i : ℕ) → i < n → get_or ms i 0 ≡ 1
-      → max out (outage_in end k since (drop i (take n ts)) (drop i (take n ms))) ≡ whole
-      → gap ≡ gap_of k since (get_or ts i 0) → next ≡ max out gap
-      → max next (outage_in end 0 0 (drop (i + 1) (take n ts)) (drop (i + 1) (take n ms))) ≡ whole
-  outage_marked k since gap out next i h m e g r =
-      omega (arith, g, rw (left ts n ft i h, left ms n fm i h, eq-eqb (get_or ms i 0) 1 m, outage_in) at e)
-
-  pub outage_unmarked : (k since first out i : ℕ) → i < n → (get_or ms i 0 ≡ 1 → ⊥)
-      → max out (outage_in end k since (drop i (take n ts)) (drop i (take n ms))) ≡ whole
-      → first ≡ since_of k since (get_or ts i 0)
-      → max out (outage_in end (k + 1) first (drop (i + 1) (take n ts)) (drop (i + 1) (take n ms))) ≡ whole
-  outage_unmarked k since first out i h m e f =
-      rw (add-one k, f) (rw (left ts n ft i h, left ms n fm i h, ne_eqb (get_or ms i 0) 1 m, outage_in) at e)
-
-  pub outage_end : (k since gap out next i : ℕ) → n ≤ i
-      → max out (outage_in end k since (drop i (take n ts)) (drop i (take n ms))) ≡ whole
-      → gap ≡ gap_of k since end → next ≡ max out gap → next ≡ whole
-  outage_end k since gap out next i h e g r = omega (arith, g, rw (nothing_left ts n ft i h) at e)
+-- of the rows ts and ms, all but the last ones, rt and rm, are looked at; `run` stands just in front of these
+pub record Running (ts ms rt rm : List ℕ) (end : ℕ) (run : code.Option LostRun) (longest : LongestRuns) : Type 0 where
+  pub packets : max longest.packets (longest_in (packets_of run) rm) ≡ longest_in 0 ms
+  pub duration : max longest.duration (outage_in end (packets_of run) (start_of run) rt rm) ≡ outage_in end 0 0 ts ms
+  pub begun : Begun run
+  pub room : packets_of run + length rm ≤ length ms
+  pub same : length rt ≡ length rm
 
 -- ---- leaf 7's runs
 
-abbrev packets_of : List Run → ℕ
-packets_of xs = greatest (map (λ x. x.packets) xs)
+abbrev count_of : List Run → ℕ
+count_of xs = greatest (map (λ x. x.packets) xs)
 
 abbrev duration_of : List Run → ℕ
 duration_of xs = greatest (map (λ x. x.duration) xs)
 
 -- outside a run, and inside one of k + 1 rows so far
 record LongestIs (end : ℕ) (rs : List Row) : Type 0 where
-  pub outside : packets_of (runs_in end false rs) ≡ longest_in 0 (map (λ r. r.mark) rs)
-  pub inside : (k : ℕ) → max (suc k + leading rs) (packets_of (runs_in end true rs)) ≡ longest_in (suc k) (map (λ r. r.mark) rs)
+  pub outside : count_of (runs_in end false rs) ≡ longest_in 0 (map (λ r. r.mark) rs)
+  pub inside : (k : ℕ) → max (suc k + leading rs) (count_of (runs_in end true rs)) ≡ longest_in (suc k) (map (λ r. r.mark) rs)
 
 longest_is : (end : ℕ) (rs : List Row) → LongestIs end rs
 longest_is end [] = record { outside = refl; inside = λ k. omega arith }
@@ -76,7 +61,7 @@ longest_is end (r ∷ rs) = go (eqb r.mark 1) refl (longest_is end rs)
           inside = λ k. rw (e, runs_in, longest_in, leading) (omega (arith, i.inside (suc k)));
         }
 
-pub longest_of_lem : (end : ℕ) (rs : List Row) → packets_of (runs_in end false rs) ≡ longest_in 0 (map (λ r. r.mark) rs)
+pub longest_of_lem : (end : ℕ) (rs : List Row) → count_of (runs_in end false rs) ≡ longest_in 0 (map (λ r. r.mark) rs)
 longest_of_lem end rs = (longest_is end rs).outside
 
 record OutageIs (end : ℕ) (rs : List Row) : Type 0 where

@@ -1,10 +1,13 @@
 -- What the report's loops compute over the columns, with what they carry: for their contracts. Proved to be leaf 7's
 -- definitions in proofs/.
-use Rattle.std.specs.Prelude.{ℕ, suc, ◌+◌, ◌-◌, ◌*◌, ◌/◌, ◌≤◌, min, max, ◌≡◌, List, [], ◌∷◌, true, false, eqb, length}
+use Rattle.std.specs.Prelude.{ℕ, suc, ◌+◌, ◌-◌, ◌*◌, ◌/◌, ◌≤◌, ◌<◌, min, max, ◌≡◌, List, [], ◌∷◌, true, false, eqb, length}
+use Rattle.std.specs.Prelude as code
 use Rattle.std.proofs.Math.Option.{Option, some, none}
 use Rattle.evidence.specs.declared.LatencySummary.{LatencySummary}
-use Rattle.report.specs.Report.{total, greatest}
+use Rattle.report.specs.Report.{total, greatest, least}
 use Rattle.report.specs.declared.Gathered.{Gathered}
+use Rattle.report.specs.declared.LongestRuns.{LongestRuns}
+use Rattle.report.specs.declared.LostRun.{LostRun}
 
 -- the latencies whose mark is 1
 abbrev pub marked_of : List ℕ → List ℕ → List ℕ
@@ -12,30 +15,14 @@ marked_of [] ms = []
 marked_of (l ∷ ls) [] = []
 marked_of (l ∷ ls) (m ∷ ms) = elim (eqb m 1) [ true ↦ l ∷ marked_of ls ms | false ↦ marked_of ls ms ]
 
--- the least so far, of n numbers and one more
-abbrev pub least_so_far : ℕ → ℕ → ℕ → ℕ
-least_so_far n low x = elim (eqb n 0) [ true ↦ x | false ↦ min low x ]
-
--- the least of n numbers, whose least is `low`, and others
-abbrev pub least_from : ℕ → ℕ → List ℕ → ℕ
-least_from n low [] = low
-least_from n low (x ∷ xs) = least_from (suc n) (least_so_far n low x) xs
-
--- the value of two words. (Kept folded, so that `omega` takes it as an unknown where its parts do not matter.)
-unfoldable pub words_of : ℕ → ℕ → ℕ
-words_of upper lower = upper * 18446744073709551616 + lower
-
--- the sum is at most what n words of 64 bits can add up to
-unfoldable pub Within : ℕ → ℕ → Type 0
-Within n sum = sum ≤ n * 18446744073709551615
-
 -- what the latency loop has gathered of a list
 pub record Gathers (xs : List ℕ) (g : Gathered) : Type 0 where
   pub count : g.count ≡ length xs
-  pub low : g.low ≡ least_from 0 0 xs
-  pub high : g.high ≡ greatest xs
-  pub sum : words_of g.upper g.lower ≡ total xs
-  pub bounded : Within g.count (words_of g.upper g.lower)
+  pub least : g.least ≡ least 18446744073709551615 xs
+  pub greatest : g.greatest ≡ greatest xs
+  pub sum : g.sum ≡ total xs
+  pub bounded : g.sum ≤ g.count * 18446744073709551615
+  pub fits : g.greatest ≤ 18446744073709551615
 
 -- the summary of n latencies
 abbrev pub summary_of : ℕ → ℕ → ℕ → ℕ → Option LatencySummary
@@ -64,3 +51,17 @@ outage_in end n since (t ∷ ts) (m ∷ ms) =
       | true ↦ max (gap_of n since t) (outage_in end 0 0 ts ms)
       | false ↦ outage_in end (suc n) (since_of n since t) ts ms
     ]
+
+-- the rows of a run so far, and how long it lasts if it ends at `until`; 0 if there is no run
+abbrev pub packets_of : code.Option LostRun → ℕ
+packets_of code.None = 0
+packets_of (code.Some run) = run.packets
+
+abbrev pub lasts : code.Option LostRun → ℕ → ℕ
+lasts code.None until = 0
+lasts (code.Some run) until = until - run.since
+
+-- the longest runs after one more, that ends at `until`
+pub record AddsRun (before : LongestRuns) (run : code.Option LostRun) (until : ℕ) (after : LongestRuns) : Type 0 where
+  pub packets : after.packets ≡ max before.packets (packets_of run)
+  pub duration : after.duration ≡ max before.duration (lasts run until)

@@ -1,185 +1,139 @@
 // The report on a run: document 01's leaf 7 (`ContinuityObserver::report` of the Rust's traffic.rs). One pass over the
-// rows gathers the latencies, whose sum takes two words, and one the runs of lost packets. What the report says is
-// defined in specs/Report.antt.
+// rows gathers the latencies, and one the runs of lost packets. What the report says is defined in specs/Report.antt.
 #![tactic(auto)]
 
-ghost use Rattle.std.specs.Prelude.{◌≡◌, ◌≤◌, ◌<◌, ◌+◌, ◌/◌, max, length, take};
-ghost use Rattle.evidence.specs.Latency.{latency_means};
-ghost use Rattle.rows.specs.Columns.{sheet};
+ghost use Rattle.std.specs.Prelude.{◌≡◌, ◌≤◌, ◌<◌, ◌*◌, ◌/◌, length};
+ghost use Rattle.error.specs.Answer.{answered};
+ghost use Rattle.evidence.specs.Latency.{latency_for};
+ghost use Rattle.rows.specs.Columns.{read_sheet};
 ghost use Rattle.observer.specs.Answer.{lent};
 ghost use Rattle.report.specs.Report.{within_budget, reporting};
-ghost use Rattle.report.specs.Answer.{reported_means};
 ghost use Rattle.report.specs.Claims.{LatencyOfTheRows};
-ghost use Rattle.report.specs.Loops.{marked_of, least_so_far, words_of, Within, Gathers, summary_of, gap_of, since_of};
-ghost use Rattle.report.specs.Loops.{longest_in, outage_in};
+ghost use Rattle.report.specs.Loops.{marked_of, Gathers, summary_of, longest_in, outage_in, AddsRun};
 
-use evidence::{Latency, LatencySummary, PacketContinuityBudget, PacketContinuityReport};
+use error::Refusal;
+use evidence::{LatencySummary, PacketContinuityBudget, PacketContinuityReport};
 use observer::ObserverCounts;
+use rows::Sheet;
 
-// The report, or why there is none.
-#[derive(Clone, Copy)]
-pub enum Reported {
-    Given(PacketContinuityReport),
-    Refused(u8),
-}
-
-// The latencies of the rows that returned: how many, the least, the greatest, and their sum in two words.
+// The latencies of the rows that returned: how many, the least, the greatest, and their sum. `least` is u64::MAX where
+// there is none.
 #[derive(Clone, Copy)]
 struct Gathered {
-    pub count: u64,
-    pub low: u64,
-    pub high: u64,
-    pub upper: u64,
-    pub lower: u64,
+    count: u64,
+    least: u64,
+    greatest: u64,
+    sum: u128,
+}
+
+// A run of rows that did not return: how many, and when the first was sent.
+#[derive(Clone, Copy)]
+struct LostRun {
+    packets: u64,
+    since: u64,
 }
 
 // The longest run of rows that did not return, by count and by duration.
-#[derive(Clone, Copy)]
+#[derive(Clone, Copy, Debug, PartialEq, Eq)]
 pub struct LongestRuns {
     pub packets: u64,
     pub duration: u64,
 }
 
-fn more(a: u64, b: u64) -> u64
-    ensures { result ≡ max a b }
-{
-    if a < b { b } else { a }
-}
-
-// The least of `count` numbers, whose least is `low`, and one more.
-fn least_so_far(count: u64, low: u64, x: u64) -> u64
-    ensures { result ≡ least_so_far count low x }
-{
-    if count == 0 {
-        return x;
-    }
-    if x < low { x } else { low }
-}
-
-// Adds one latency to what was gathered.
-fn with_latency(g: Gathered, x: u64) -> Gathered
-    requires { (g.count < 2048) × (g.upper < 2048) }
-    ensures { (result.count ≡ g.count + 1) × (result.low ≡ least_so_far g.count g.low x)
-        × (result.high ≡ max g.high x)
-        × (words_of result.upper result.lower ≡ words_of g.upper g.lower + x) × (result.upper ≤ g.upper + 1) }
-{
-    let low = least_so_far(g.count, g.low, x);
-    let high = more(g.high, x);
-    let free = 18446744073709551615 - g.lower;
-    if x <= free {
-        return Gathered {
-            count: g.count + 1,
-            low,
-            high,
-            upper: g.upper,
-            lower: g.lower + x,
-        };
-    }
-    Gathered {
-        count: g.count + 1,
-        low,
-        high,
-        upper: g.upper + 1,
-        lower: x - free - 1,
-    }
-}
-
-// The latencies of the used rows that are marked.
-fn gather(latencies: &[u64], marks: &[u8], used: usize) -> Gathered
-    requires { (used ≤ length latencies.now) × (used ≤ length marks.now) × (used ≤ 2048) }
-    ensures { Gathers (marked_of (take used latencies.now) (take used marks.now)) result }
-{
-    let mut g = Gathered {
-        count: 0,
-        low: 0,
-        high: 0,
-        upper: 0,
-        lower: 0,
-    };
-    let mut i = 0;
-    while i < used {
-        if marks[i] == 1 {
-            g = with_latency(g, latencies[i]);
-            i += 1;
-        } else {
-            i += 1;
+impl LongestRuns {
+    // The longest runs, with one more that ends at `until`, if there is one.
+    fn with_run(self, run: Option<LostRun>, until: u64) -> Self
+        ensures { AddsRun self run until result }
+    {
+        match run {
+            None => self,
+            Some(run) => Self {
+                packets: self.packets.max(run.packets),
+                duration: self.duration.max(until.saturating_sub(run.since)),
+            },
         }
     }
-    g
 }
 
-// A value of two words divided by n, rounded down: long division with digits of 32 bits.
-fn mean(upper: u64, lower: u64, n: u64) -> u64
-    requires { (upper < n) × (n ≤ 2048) }
-    ensures { result ≡ words_of upper lower / n }
+// The latencies of the rows that are marked.
+#[tactic(auto, using(crate::proofs::Latencies::least_min))]
+fn gather(latencies: &[u64], marks: &[u8]) -> Gathered
+    requires { (length latencies.now ≡ length marks.now) × (length latencies.now ≤ 2048) }
+    ensures { Gathers (marked_of latencies.now marks.now) result }
 {
-    let front = upper * 4294967296 + lower / 4294967296;
-    let back = front % n * 4294967296 + lower % 4294967296;
+    let mut gathered = Gathered {
+        count: 0,
+        least: u64::MAX,
+        greatest: 0,
+        sum: 0,
+    };
+    for (&latency, &mark) in latencies.iter().zip(marks) {
+        if mark == 1 {
+            gathered = Gathered {
+                count: gathered.count + 1,
+                least: gathered.least.min(latency),
+                greatest: gathered.greatest.max(latency),
+                sum: gathered.sum + latency as u128,
+            };
+        }
+    }
+    gathered
+}
+
+// A sum of n words divided by n, rounded down: long division with digits of 32 bits. (a: `sum / n` would have the
+// archive ask for the compiler's division of 128 bits, and it may ask for no such function.)
+#[tactic(auto, using(crate::proofs::Division::mean_rules))]
+fn mean(sum: u128, n: u64) -> u64
+    requires { (sum < n * 18446744073709551616) × (n ≤ 2048) }
+    ensures { result ≡ sum / n }
+{
+    let front = (sum / 4294967296) as u64;
+    let back = front % n * 4294967296 + (sum % 4294967296) as u64;
     front / n * 4294967296 + back / n
 }
 
-fn summary(g: Gathered) -> Latency
-    requires { (g.count ≤ 2048) × Within g.count (words_of g.upper g.lower) }
-    ensures { latency_means result ≡ summary_of g.count g.low g.high (words_of g.upper g.lower) }
+// The summary of what was gathered, or none where nothing was.
+fn summary(g: Gathered) -> Option<LatencySummary>
+    requires { (g.count ≤ 2048) × (g.sum ≤ g.count * 18446744073709551615) }
+    ensures { result ≡ latency_for (summary_of g.count g.least g.greatest g.sum) }
 {
-    let n = g.count;
-    if n == 0 {
-        return Latency::Absent;
+    if g.count == 0 {
+        return None;
     }
-    Latency::Summary(LatencySummary {
-        min_ns: g.low,
-        max_ns: g.high,
-        avg_ns: mean(g.upper, g.lower, n),
+    Some(LatencySummary {
+        min_ns: g.least,
+        max_ns: g.greatest,
+        avg_ns: mean(g.sum, g.count),
     })
 }
 
-// How long a run of n rows that began at `since` lasts; 0 if there is no run.
-fn gap(n: u64, since: u64, until: u64) -> u64
-    ensures { result ≡ gap_of n since until }
+// The longest runs of unmarked rows.
+fn longest_runs(send_timestamps: &[u64], marks: &[u8], end: u64) -> LongestRuns
+    requires { length send_timestamps.now ≡ length marks.now }
+    ensures packets { result.packets ≡ longest_in 0 marks.now }
+    ensures duration { result.duration ≡ outage_in end 0 0 send_timestamps.now marks.now }
 {
-    if n == 0 {
-        return 0;
-    }
-    if since < until { until - since } else { 0 }
-}
-
-// The start of a run of n rows that began at `since`, after one more row sent at `sent`.
-fn began(n: u64, since: u64, sent: u64) -> u64
-    ensures { result ≡ since_of n since sent }
-{
-    if n == 0 { sent } else { since }
-}
-
-// The longest runs of unmarked rows among the used ones.
-fn longest_runs(send_timestamps: &[u64], marks: &[u8], used: usize, end: u64) -> LongestRuns
-    requires { (used ≤ length send_timestamps.now) × (used ≤ length marks.now) }
-    ensures { (result.packets ≡ longest_in 0 (take used marks.now))
-        × (result.duration ≡ outage_in end 0 0 (take used send_timestamps.now)
-        (take used marks.now)) }
-{
-    let mut packets: u64 = 0;
-    let mut duration: u64 = 0;
-    let mut n: u64 = 0;
-    let mut since: u64 = 0;
-    let mut i = 0;
-    while i < used {
-        let sent = send_timestamps[i];
-        if marks[i] == 1 {
-            packets = more(packets, n);
-            duration = more(duration, gap(n, since, sent));
-            n = 0;
-            since = 0;
-            i += 1;
+    let mut longest = LongestRuns {
+        packets: 0,
+        duration: 0,
+    };
+    let mut run: Option<LostRun> = None;
+    for (&sent, &mark) in send_timestamps.iter().zip(marks) {
+        if mark == 1 {
+            longest = longest.with_run(run, sent);
+            run = None;
         } else {
-            since = began(n, since, sent);
-            n += 1;
-            i += 1;
+            let begun = run.unwrap_or(LostRun {
+                packets: 0,
+                since: sent,
+            });
+            run = Some(LostRun {
+                packets: begun.packets + 1,
+                since: begun.since,
+            });
         }
     }
-    LongestRuns {
-        packets: more(packets, n),
-        duration: more(duration, gap(n, since, end)),
-    }
+    longest.with_run(run, end)
 }
 
 // Whether losses are within a budget, and there was no Error Indication.
@@ -191,48 +145,35 @@ pub fn within_budget(
 ) -> bool
     ensures { result ≡ within_budget budget lost worst.packets worst.duration indications }
 {
-    (lost <= budget.max_lost_packets)
-        & ((worst.packets <= budget.max_consecutive_lost_packets)
-            & ((worst.duration <= budget.outage_budget_ns) & (indications == 0)))
+    lost <= budget.max_lost_packets
+        && worst.packets <= budget.max_consecutive_lost_packets
+        && worst.duration <= budget.outage_budget_ns
+        && indications == 0
 }
 
 // The report on an observer, for a window and a budget. Refuses by 21.
 pub fn report(
-    sequences: &[u64],
-    send_timestamps: &[u64],
-    latencies: &[u64],
-    marks: &[u8],
-    arrival_timestamps: &[u64],
+    sheet: Sheet,
     counts: ObserverCounts,
     window_start_ns: u64,
     window_end_ns: u64,
     budget: PacketContinuityBudget,
-) -> Reported
-    ensures { reported_means result
-        ≡ reporting (lent (sheet sequences send_timestamps latencies marks arrival_timestamps) counts)
-        window_start_ns window_end_ns budget }
+) -> Result<PacketContinuityReport, Refusal>
+    ensures { answered result ≡ reporting (lent (read_sheet sheet) counts) window_start_ns window_end_ns budget }
 {
-    if !observer::well_formed(
-        &sequences[..],
-        send_timestamps,
-        latencies,
-        &marks[..],
-        &arrival_timestamps[..],
-        counts,
-    ) {
-        return Reported::Refused(error::MALFORMED_OBSERVER);
+    if !observer::well_formed(sheet, counts) {
+        return Err(Refusal::MalformedObserver);
     }
-    let used = counts.used;
-    let sent = used as u64;
-    let gathered = gather(latencies, marks, used);
-    let received = gathered.count;
-    let lost = sent - received;
-    let worst = longest_runs(send_timestamps, marks, used, window_end_ns);
-    Reported::Given(PacketContinuityReport {
+    let marks = &sheet.marks[..counts.used];
+    let gathered = gather(&sheet.latencies[..counts.used], marks);
+    let worst = longest_runs(&sheet.send_timestamps[..counts.used], marks, window_end_ns);
+    let sent = counts.used as u64;
+    let lost = sent - gathered.count;
+    Ok(PacketContinuityReport {
         window_start_ns,
         window_end_ns,
         sent_packets: sent,
-        received_packets: received,
+        received_packets: gathered.count,
         lost_packets: lost,
         duplicate_packets: counts.duplicate_packets,
         out_of_order_packets: counts.out_of_order_packets,
@@ -241,7 +182,7 @@ pub fn report(
         max_gap_duration_ns: worst.duration,
         latency: summary(gathered),
         budget,
-        forwarding_proven: 0 < received,
+        forwarding_proven: 0 < gathered.count,
         packet_continuity_proven: within_budget(budget, lost, worst, counts.gtpu_error_indications),
     })
 }

@@ -1,49 +1,50 @@
--- `report::report` meets its contract: cause 21, then what the two loops found (proofs/Reporting.antt).
-use mathlib.Core.Path.{sym, ◌∙◌}
+-- Cause 21, then what the two loops found.
+use mathlib.Core.Path.{refl, sym, ◌∙◌}
 use native.Mathlib.Omega.{arith}
-use Rattle.rows.specs.Columns.{columns_of}
+use Rattle.rows.specs.Columns.{columns_lent}
 use Rattle.observer.specs.Answer.{observer_of}
-use Rattle.observer.proofs.Judging.{well}
 use Rattle.report.proofs.Latencies.{summary_of_lem}
-use Rattle.report.proofs.Reporting.{reported_malformed, few_gathered, reported}
+use Rattle.report.proofs.Reporting.{reported_malformed, passed, few_gathered, reported}
 use Rattle.report.proofs.report.Goals as goal
 
 pub returns-then-not-well_formed : goal.returns-then-not-well_formed
 returns-then-not-well_formed c =
-    let o = observer_of (columns_of c.args.sequences.now c.args.send_timestamps.now c.args.latencies.now c.args.marks.now c.args.arrival_timestamps.now) c.args.counts in
-    reported_malformed o _ _ _ (sym c.well_formed-2.ensures ∙ c.if-not-well_formed.true)
+    reported_malformed (observer_of (columns_lent c.args.sheet) c.args.counts) _ _ _ (sym c.well_formed-2.ensures ∙ c.if-not-well_formed.true)
+
+pub slice_bounds-marks-end : goal.slice_bounds-marks-end
+slice_bounds-marks-end c = sym (passed c.args.sheet c.args.counts (sym c.well_formed-2.ensures ∙ c.if-not-well_formed.false)).marks
+
+pub slice_bounds-gather-end : goal.slice_bounds-gather-end
+slice_bounds-gather-end c = sym (passed c.args.sheet c.args.counts (sym c.well_formed-2.ensures ∙ c.if-not-well_formed.false)).latencies
 
 pub gather-gathered-requires : goal.gather-gathered-requires
 gather-gathered-requires c =
-    let o = observer_of (columns_of c.args.sequences.now c.args.send_timestamps.now c.args.latencies.now c.args.marks.now c.args.arrival_timestamps.now) c.args.counts in
-    let w = well o (sym c.well_formed-2.ensures ∙ c.if-not-well_formed.false) in
-    let r = w.room in (omega arith, omega arith, omega arith)
+    let p = passed c.args.sheet c.args.counts (sym c.well_formed-2.ensures ∙ c.if-not-well_formed.false) in
+    (p.latencies ∙ sym p.marks, omega (arith, p.latencies, p.most))
 
-pub overflow_sub-lost : goal.overflow_sub-lost
-overflow_sub-lost c =
-    let o = observer_of (columns_of c.args.sequences.now c.args.send_timestamps.now c.args.latencies.now c.args.marks.now c.args.arrival_timestamps.now) c.args.counts in
-    let w = well o (sym c.well_formed-2.ensures ∙ c.if-not-well_formed.false) in
-    omega (arith, few_gathered w, c.gather-gathered.ensures.count)
+pub slice_bounds-longest_runs-end : goal.slice_bounds-longest_runs-end
+slice_bounds-longest_runs-end c =
+    sym (passed c.args.sheet c.args.counts (sym c.well_formed-2.ensures ∙ c.if-not-well_formed.false)).send_timestamps
 
 pub longest_runs-worst-requires : goal.longest_runs-worst-requires
 longest_runs-worst-requires c =
-    let o = observer_of (columns_of c.args.sequences.now c.args.send_timestamps.now c.args.latencies.now c.args.marks.now c.args.arrival_timestamps.now) c.args.counts in
-    let w = well o (sym c.well_formed-2.ensures ∙ c.if-not-well_formed.false) in
-    let r = w.room in (omega arith, omega arith)
+    let p = passed c.args.sheet c.args.counts (sym c.well_formed-2.ensures ∙ c.if-not-well_formed.false) in
+    p.send_timestamps ∙ sym p.marks
+
+pub overflow_sub-lost : goal.overflow_sub-lost
+overflow_sub-lost c =
+    let p = passed c.args.sheet c.args.counts (sym c.well_formed-2.ensures ∙ c.if-not-well_formed.false) in
+    omega (arith, few_gathered p.well, c.gather-gathered.ensures.count)
 
 pub summary-requires : goal.summary-requires
 summary-requires c =
-    let o = observer_of (columns_of c.args.sequences.now c.args.send_timestamps.now c.args.latencies.now c.args.marks.now c.args.arrival_timestamps.now) c.args.counts in
-    let w = well o (sym c.well_formed-2.ensures ∙ c.if-not-well_formed.false) in
-    (omega (arith, few_gathered w, c.gather-gathered.ensures.count, w.room.most), c.gather-gathered.ensures.bounded)
+    let p = passed c.args.sheet c.args.counts (sym c.well_formed-2.ensures ∙ c.if-not-well_formed.false) in
+    (omega (arith, few_gathered p.well, c.gather-gathered.ensures.count, p.most), c.gather-gathered.ensures.bounded)
 
 pub returns : goal.returns
 returns c =
-    let o = observer_of (columns_of c.args.sequences.now c.args.send_timestamps.now c.args.latencies.now c.args.marks.now c.args.arrival_timestamps.now) c.args.counts in
-    let w = well o (sym c.well_formed-2.ensures ∙ c.if-not-well_formed.false) in
+    let p = passed c.args.sheet c.args.counts (sym c.well_formed-2.ensures ∙ c.if-not-well_formed.false) in
     let g = c.gather-gathered in
     let worst = c.longest_runs-worst in
-    rw c.within_budget.ensures
-    (reported w c.args.window_start_ns c.args.window_end_ns c.args.budget g.result.count worst.result.packets worst.result.duration
-    c.summary.result g.ensures.count worst.ensures.0 worst.ensures.1
-    (c.summary.ensures ∙ summary_of_lem _ g.result g.ensures))
+    rw (c.within_budget.ensures, c.summary.ensures, summary_of_lem _ _ g.ensures)
+    (reported p.well _ _ _ g.result.count worst.result.packets worst.result.duration _ g.ensures.count worst.ensures.packets worst.ensures.duration refl)
