@@ -31,24 +31,6 @@ pub struct RemovedRows {
     pub rows: [ReflectorSession; 6],
 }
 
-fn registered_rows(registered: TestkitRegistered, rows: [ReflectorSession; 6]) -> RegisteredRows
-    ensures { (result.registered ≡ registered) × (result.rows ≡ rows) }
-{
-    RegisteredRows {
-        registered: registered,
-        rows: rows,
-    }
-}
-
-fn removed_rows(removed: TestkitRemoved, rows: [ReflectorSession; 6]) -> RemovedRows
-    ensures { (result.removed ≡ removed) × (result.rows ≡ rows) }
-{
-    RemovedRows {
-        removed: removed,
-        rows: rows,
-    }
-}
-
 // `testkit_reflector::testkit_register_session`
 pub fn register_session(
     mut rows: [ReflectorSession; 6],
@@ -65,7 +47,7 @@ pub fn register_session(
         max_sessions,
         session,
     );
-    registered_rows(registered, rows)
+    RegisteredRows { registered, rows }
 }
 
 // `testkit_reflector::testkit_remove_session`
@@ -84,7 +66,7 @@ pub fn remove_session(
         max_sessions,
         local_teid,
     );
-    removed_rows(removed, rows)
+    RemovedRows { removed, rows }
 }
 
 // `testkit_reflector::testkit_handle_datagram`

@@ -1,6 +1,6 @@
 -- The claims of specs/Claims.antt, case by case.
 use mathlib.Core.Path.{◌≡◌, refl, ap}
-use Rattle.gtpu.specs.declared.SequenceNumber.TheVariants.{Absent, Present}
+use Rattle.std.specs.Prelude.{Some, None}
 use Rattle.measurement.specs.Flow.{version_number, version_numbered}
 use Rattle.measurement.specs.declared.IpVersion.{IpVersion}
 use Rattle.measurement.specs.declared.IpVersion.TheVariants.{V4, V6}
@@ -9,8 +9,8 @@ use Rattle.testkit_reflector.specs.Claims.{SequenceReadsBack, AddressReadsBack}
 
 pub sequence_reads_back : SequenceReadsBack
 unfolding sequence_of
-sequence_reads_back Absent = refl
-sequence_reads_back (Present n) = refl
+sequence_reads_back None = refl
+sequence_reads_back (Some n) = refl
 
 version_reads_back : (v : IpVersion) → version_numbered (version_number v) ≡ v
 unfolding version_numbered

@@ -1,3 +1,3 @@
--- The laws of the reflector's calls, and what reads back.
+-- What handling promises in numbers, and what reads back.
 pub mod Calls
 pub mod Claims

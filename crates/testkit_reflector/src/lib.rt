@@ -4,28 +4,28 @@
 #![tactic(auto)]
 
 ghost use Rattle.std.specs.Prelude.{◌≡◌};
+ghost use Rattle.error.specs.Answer.{answered};
 ghost use Rattle.reflector_sessions.specs.Table.{table_of};
+ghost use Rattle.reflector_sessions.specs.Session.{value_of, no_session};
 ghost use Rattle.reflector_sessions.specs.Register.{register_session, registration_means};
-ghost use Rattle.reflector_sessions.specs.Remove.{remove_session, removal_means};
-ghost use Rattle.reflector_sessions.specs.Judge.{session_found};
-ghost use Rattle.reflector_answer.specs.Handle.{handle_found};
+ghost use Rattle.reflector_sessions.specs.Remove.{remove_session};
+ghost use Rattle.reflector_answer.specs.declared.RouteTarget.{RouteTarget};
 ghost use Rattle.reflector.specs.Handle.{handle_datagram};
-ghost use Rattle.testkit_reflector.specs.Interface.{registered_numbers, RegistersNumbers, removed_numbers};
-ghost use Rattle.testkit_reflector.specs.Interface.{RemovesNumbers, policy_numbered, policy_number, sequence_of};
-ghost use Rattle.testkit_reflector.specs.Interface.{config_of, message_of, noop_number, send_number};
-ghost use Rattle.testkit_reflector.specs.Interface.{action_numbers, sequence_numbers, address_numbers};
-ghost use Rattle.testkit_reflector.specs.Interface.{message_numbers, handled_numbers, AnswersNumbers};
+ghost use Rattle.testkit_reflector.specs.Interface.{registered_numbers, RegistersNumbers, removed_numbers, session_of};
+ghost use Rattle.testkit_reflector.specs.Interface.{RemovesNumbers, policy_numbered, policy_number, target_or};
+ghost use Rattle.testkit_reflector.specs.Interface.{sequence_of, config_of, message_of, noop_number, send_number};
+ghost use Rattle.testkit_reflector.specs.Interface.{no_address, no_message, address_numbers, message_numbers};
+ghost use Rattle.testkit_reflector.specs.Interface.{handled_numbers, AnswersNumbers};
 ghost use Rattle.testkit_reflector.specs.Claims.{SequenceReadsBack, AddressReadsBack};
-ghost use Rattle.reflector_sessions.specs.Session.{value_of};
 
-use gtpu::{GtpuMessage, SequenceNumber};
+use error::Refusal;
+use gtpu::GtpuMessage;
 use reflector_answer::{
-    Handled, MultiSessionReflectorConfig, OutboundMessage, ReflectorAction, ReflectorNoopReason,
-    ReflectorPolicy, ReflectorSendReason, ReflectorState, RouteTarget,
+    MultiSessionReflectorConfig, ReflectorAction, ReflectorNoopReason, ReflectorPolicy,
+    ReflectorSendReason, ReflectorState, RouteTarget,
 };
 use reflector_sessions::{
-    FoundSession, LentSocketAddr, ReflectorSession, Registered, Registration, Removal,
-    RemovedSession, SocketAddr,
+    LentSocketAddr, ReflectorSession, Registration, SessionTable, SocketAddr,
 };
 
 // What registering answers: 0 and whether the session was added, or a refusal's number; and the used count that it
@@ -49,25 +49,19 @@ pub struct TestkitRemoved {
     pub session: ReflectorSession,
 }
 
-fn registered_numbers(registered: Registered) -> TestkitRegistered
-    ensures { result ≡ registered_numbers (registration_means registered.registration) registered.used }
+fn registered_numbers(registered: Result<Registration, Refusal>, used: usize) -> TestkitRegistered
+    ensures { result ≡ registered_numbers (registration_means registered) used }
 {
-    let registration = registered.registration;
-    match registration {
-        Registration::Added => TestkitRegistered {
+    match registered {
+        Ok(registration) => TestkitRegistered {
             number: 0,
-            added: true,
-            used: registered.used,
+            added: registration == Registration::Added,
+            used,
         },
-        Registration::Unchanged => TestkitRegistered {
-            number: 0,
+        Err(refusal) => TestkitRegistered {
+            number: refusal.number(),
             added: false,
-            used: registered.used,
-        },
-        Registration::Refused(number) => TestkitRegistered {
-            number: number,
-            added: false,
-            used: registered.used,
+            used,
         },
     }
 }
@@ -83,33 +77,52 @@ pub extern "C" fn testkit_register_session(
     ensures { RegistersNumbers result sessions.new
         (register_session (table_of sessions.old used max_sessions) session) }
 {
-    registered_numbers(reflector_sessions::register_session(sessions, used, max_sessions, session))
+    let mut table = SessionTable {
+        rows: sessions,
+        used,
+        max_sessions,
+    };
+    let registered = reflector_sessions::register_session(&mut table, session);
+    registered_numbers(registered, table.used)
 }
 
-fn removed_numbers(removed: RemovedSession) -> TestkitRemoved
-    ensures { result ≡ removed_numbers (removal_means removed.removal removed.session) removed.used
-        removed.session }
+// What stands where there is no session.
+fn no_session() -> ReflectorSession
+    ensures { result ≡ no_session }
 {
-    let removal = removed.removal;
-    let session = removed.session;
-    match removal {
-        Removal::Removed => TestkitRemoved {
-            number: 0,
+    ReflectorSession {
+        local_teid: 0,
+        peer_teid: 0,
+        peer_addr: LentSocketAddr {
+            version: 0,
+            address: [0; 16],
+            port: 0,
+        },
+    }
+}
+
+fn removed_numbers(
+    removed: Result<Option<ReflectorSession>, Refusal>,
+    used: usize,
+) -> TestkitRemoved
+    ensures { result ≡ removed_numbers (answered removed) used (session_of (answered removed)) }
+{
+    let none = TestkitRemoved {
+        number: 0,
+        removed: false,
+        used,
+        session: no_session(),
+    };
+    match removed {
+        Ok(Some(session)) => TestkitRemoved {
             removed: true,
-            used: removed.used,
-            session: session,
+            session,
+            ..none
         },
-        Removal::NotFound => TestkitRemoved {
-            number: 0,
-            removed: false,
-            used: removed.used,
-            session: session,
-        },
-        Removal::Refused(number) => TestkitRemoved {
-            number: number,
-            removed: false,
-            used: removed.used,
-            session: session,
+        Ok(None) => none,
+        Err(refusal) => TestkitRemoved {
+            number: refusal.number(),
+            ..none
         },
     }
 }
@@ -125,7 +138,13 @@ pub extern "C" fn testkit_remove_session(
     ensures { RemovesNumbers result sessions.new
         (remove_session (table_of sessions.old used max_sessions) local_teid) }
 {
-    removed_numbers(reflector_sessions::remove_session(sessions, used, max_sessions, local_teid))
+    let mut table = SessionTable {
+        rows: sessions,
+        used,
+        max_sessions,
+    };
+    let removed = reflector_sessions::remove_session(&mut table, local_teid);
+    removed_numbers(removed, table.used)
 }
 
 // What is done with G-PDUs of known sessions. Every other number routes too.
@@ -200,68 +219,43 @@ pub struct TestkitHandled {
     pub state: ReflectorState,
 }
 
-// An action in numbers.
-#[derive(Clone, Copy)]
-struct ActionNumbers {
-    number: u8,
-    action: u8,
-    noop_reason: u8,
-    send_reason: u8,
-    bytes: usize,
-}
-
-// A sequence number: 1 and its value, or 0 and 0 if there is none.
-#[derive(Clone, Copy)]
-struct SequenceNumbers {
-    present: u8,
-    value: u16,
-}
-
-fn policy_of(policy: u8) -> ReflectorPolicy
-    ensures { result ≡ policy_numbered policy }
+// The policy of a number, which holds the target if it is route.
+#[tactic(auto, unfolding(crate::specs::Interface::policy_numbered))]
+fn policy_of(policy: u8, target: RouteTarget) -> ReflectorPolicy
+    ensures { result ≡ policy_numbered policy target }
 {
-    if policy == POLICY_ECHO {
-        return ReflectorPolicy::Echo;
+    match policy {
+        POLICY_ECHO => ReflectorPolicy::Echo,
+        POLICY_SINK_AND_COUNT => ReflectorPolicy::SinkAndCount,
+        _ => ReflectorPolicy::Route(target),
     }
-    if policy == POLICY_SINK_AND_COUNT {
-        return ReflectorPolicy::SinkAndCount;
-    }
-    ReflectorPolicy::Route
 }
 
 // The number of a policy, which is read back as that policy.
+#[tactic(auto, unfolding(crate::specs::Interface::policy_numbered))]
 pub fn policy_number(policy: ReflectorPolicy) -> u8
-    ensures { (result ≡ policy_number policy) × (policy_numbered result ≡ policy) }
+    ensures { (result ≡ policy_number policy)
+        × ((target : RouteTarget) → policy_numbered result (target_or policy target) ≡ policy) }
 {
     match policy {
         ReflectorPolicy::Echo => POLICY_ECHO,
         ReflectorPolicy::SinkAndCount => POLICY_SINK_AND_COUNT,
-        ReflectorPolicy::Route => POLICY_ROUTE,
+        ReflectorPolicy::Route(_) => POLICY_ROUTE,
     }
 }
 
 fn config_of(config: TestkitReflectorConfig) -> MultiSessionReflectorConfig
     ensures { result ≡ config_of config }
 {
-    let target = config.target;
+    let target = RouteTarget {
+        destination: SocketAddr::from(config.target),
+        teid: config.target_teid,
+    };
     MultiSessionReflectorConfig {
         max_sessions: config.max_sessions,
         recovery_counter: config.recovery_counter,
-        policy: policy_of(config.policy),
-        target: RouteTarget {
-            destination: target.value(),
-            teid: config.target_teid,
-        },
+        policy: policy_of(config.policy, target),
     }
-}
-
-fn sequence_of(has_sequence: u8, sequence: u16) -> SequenceNumber
-    ensures { result ≡ sequence_of has_sequence sequence }
-{
-    if has_sequence == 0 {
-        return SequenceNumber::Absent;
-    }
-    SequenceNumber::Present(sequence)
 }
 
 fn message_of(message: TestkitGtpuMessage) -> GtpuMessage
@@ -272,6 +266,16 @@ fn message_of(message: TestkitGtpuMessage) -> GtpuMessage
         teid: message.teid,
         sequence_number: sequence_of(message.has_sequence, message.sequence),
     }
+}
+
+#[tactic(auto, unfolding(crate::specs::Interface::sequence_of))]
+fn sequence_of(has_sequence: u8, sequence: u16) -> Option<u16>
+    ensures { result ≡ sequence_of has_sequence sequence }
+{
+    if has_sequence == 0 {
+        return None;
+    }
+    Some(sequence)
 }
 
 fn noop_number(reason: ReflectorNoopReason) -> u8
@@ -299,131 +303,94 @@ fn send_number(reason: ReflectorSendReason) -> u8
     }
 }
 
-fn action_numbers(action: ReflectorAction) -> ActionNumbers
-    ensures { result ≡ action_numbers action }
-{
-    match action {
-        ReflectorAction::Refused(number) => ActionNumbers {
-            number: number,
-            action: ACTION_REFUSED,
-            noop_reason: 0,
-            send_reason: 0,
-            bytes: 0,
-        },
-        ReflectorAction::Noop(reason) => ActionNumbers {
-            number: 0,
-            action: ACTION_NOOP,
-            noop_reason: noop_number(reason),
-            send_reason: 0,
-            bytes: 0,
-        },
-        ReflectorAction::Send(reason, bytes) => ActionNumbers {
-            number: 0,
-            action: ACTION_SEND,
-            noop_reason: 0,
-            send_reason: send_number(reason),
-            bytes: bytes,
-        },
-    }
-}
-
-fn sequence_numbers(sequence: SequenceNumber) -> SequenceNumbers
-    ensures { result ≡ sequence_numbers sequence }
-{
-    match sequence {
-        SequenceNumber::Absent => SequenceNumbers {
-            present: 0,
-            value: 0,
-        },
-        SequenceNumber::Present(value) => SequenceNumbers {
-            present: 1,
-            value: value,
-        },
-    }
-}
-
 fn address_numbers(address: SocketAddr) -> LentSocketAddr
     ensures { result ≡ address_numbers address }
 {
-    let version = address.version;
     let bytes = address.address;
     LentSocketAddr {
-        version: measurement::version_number(version),
+        version: address.version.number(),
         address: bytes,
         port: address.port,
     }
 }
 
-fn message_numbers(message: OutboundMessage) -> TestkitGtpuMessage
+fn message_numbers(message: GtpuMessage) -> TestkitGtpuMessage
     ensures { result ≡ message_numbers message }
 {
-    let numbered = message.sequence_number;
-    let sequence = sequence_numbers(numbered);
     TestkitGtpuMessage {
         message_type: message.message_type,
         teid: message.teid,
-        has_sequence: sequence.present,
-        sequence: sequence.value,
+        has_sequence: message.sequence_number.is_some() as u8,
+        sequence: message.sequence_number.unwrap_or(0),
     }
 }
 
-fn handled_numbers(handled: Handled) -> TestkitHandled
-    ensures { result ≡ handled_numbers handled }
+// What stands where nothing is sent.
+fn no_address() -> LentSocketAddr
+    ensures { result ≡ no_address }
 {
-    let outcome = handled.action;
-    let message = handled.message;
-    let state = handled.state;
-    let destination = message.destination;
-    let action = action_numbers(outcome);
-    TestkitHandled {
-        number: action.number,
-        action: action.action,
-        noop_reason: action.noop_reason,
-        send_reason: action.send_reason,
-        bytes: action.bytes,
-        destination: address_numbers(destination),
-        message: message_numbers(message),
-        state: state,
+    LentSocketAddr {
+        version: 4,
+        address: [0; 16],
+        port: 0,
     }
 }
 
-// `reflector_answer::handle_found`
-fn handle_found(
-    length: usize,
-    used: usize,
-    config: TestkitReflectorConfig,
+fn no_message() -> TestkitGtpuMessage
+    ensures { result ≡ no_message }
+{
+    TestkitGtpuMessage {
+        message_type: 0,
+        teid: 0,
+        has_sequence: 0,
+        sequence: 0,
+    }
+}
+
+fn handled_numbers(
+    handled: Result<ReflectorAction, Refusal>,
     state: ReflectorState,
-    found: FoundSession,
-    source: LentSocketAddr,
-    message: TestkitGtpuMessage,
-    payload: &[u8],
-    out: &mut [u8],
 ) -> TestkitHandled
-    ensures { AnswersNumbers result out.new
-        (handle_found length used (config_of config) state (session_found used found) (value_of source)
-        (message_of message) payload.now out.old)
-        out.old }
+    ensures { result ≡ handled_numbers (answered handled) state }
 {
-    handled_numbers(reflector_answer::handle_found(
-        length,
-        used,
-        config_of(config),
+    let nothing = TestkitHandled {
+        number: 0,
+        action: ACTION_NOOP,
+        noop_reason: 0,
+        send_reason: 0,
+        bytes: 0,
+        destination: no_address(),
+        message: no_message(),
         state,
-        found,
-        source.value(),
-        message_of(message),
-        payload,
-        out,
-    ))
+    };
+    match handled {
+        Err(refusal) => TestkitHandled {
+            number: refusal.number(),
+            action: ACTION_REFUSED,
+            ..nothing
+        },
+        Ok(ReflectorAction::Noop(reason)) => TestkitHandled {
+            noop_reason: noop_number(reason),
+            ..nothing
+        },
+        Ok(ReflectorAction::Send(sent)) => TestkitHandled {
+            action: ACTION_SEND,
+            send_reason: send_number(sent.reason),
+            bytes: sent.bytes,
+            destination: address_numbers(sent.destination),
+            message: message_numbers(sent.message),
+            ..nothing
+        },
+    }
 }
 
-// `reflector::handle_datagram`, by the same two steps: the search, and what is answered to what it found.
+// `reflector::handle_datagram`
 #[unsafe(no_mangle)]
 pub extern "C" fn testkit_handle_datagram(
     sessions: &[ReflectorSession],
     used: usize,
     config: TestkitReflectorConfig,
-    state: ReflectorState,
+    mut state: ReflectorState,
     source: LentSocketAddr,
     message: TestkitGtpuMessage,
     payload: &[u8],
@@ -434,18 +401,17 @@ pub extern "C" fn testkit_handle_datagram(
         (message_of message) payload.now out.old)
         out.old }
 {
-    let found = reflector_sessions::find_session(sessions, used, config.max_sessions, message.teid);
-    handle_found(
-        sessions.len(),
+    let handled = reflector::handle_datagram(
+        sessions,
         used,
-        config,
-        state,
-        found,
-        source,
-        message,
+        config_of(config),
+        &mut state,
+        SocketAddr::from(source),
+        message_of(message),
         payload,
         out,
-    )
+    );
+    handled_numbers(handled, state)
 }
 
 // Carries that a sequence and an address which C is answered with, handed back, are the same ones.

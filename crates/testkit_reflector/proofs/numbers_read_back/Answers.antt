@@ -1,4 +1,3 @@
--- `testkit_reflector::numbers_read_back` meets its contract.
 use Rattle.testkit_reflector.proofs.Claims.{sequence_reads_back, address_reads_back}
 use Rattle.testkit_reflector.proofs.numbers_read_back.Goals as goal
 

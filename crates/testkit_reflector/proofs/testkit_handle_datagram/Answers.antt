@@ -1,21 +1,14 @@
--- `testkit_reflector::testkit_handle_datagram` meets its contract.
-use mathlib.Core.Path.{ap, subst, ◌∙◌}
-use lib.ListN.{length}
-use Rattle.reflector_sessions.specs.Judge.{session_found}
-use Rattle.reflector_sessions.specs.Session.{value_of}
-use Rattle.reflector_sessions.specs.declared.FoundSession.{FoundSession}
+use Rattle.std.proofs.Common.{subst}
+use Rattle.reflector.specs.Handle.{handle_datagram}
 use Rattle.reflector_answer.specs.Answer.{Answer}
-use Rattle.reflector_answer.specs.Handle.{handle_found}
-use Rattle.reflector.proofs.Handling.{handled_is}
-use Rattle.testkit_reflector.specs.Interface.{config_of, message_of, AnswersNumbers}
+use Rattle.testkit_reflector.specs.Interface.{AnswersNumbers}
+use Rattle.testkit_reflector.proofs.Calls.{numbered}
 use Rattle.testkit_reflector.proofs.testkit_handle_datagram.Goals as goal
 
 pub returns : goal.returns
 returns c =
     let a = c.args in
-    subst (λ (to : Answer). AnswersNumbers c.handle_found.result c.handle_found.new.out to a.out.now)
-    (ap
-    (λ (found : FoundSession). handle_found (length a.sessions.now) a.used (config_of a.config) a.state (session_found a.used found) (value_of a.source) (message_of a.message) a.payload.now a.out.now)
-    c.find_session-found.ensures
-    ∙ handled_is (config_of a.config) a.state (value_of a.source) (message_of a.message) a.payload.now a.out.now a.sessions.now a.used)
-    c.handle_found.ensures
+    subst (λ (to : Answer). AnswersNumbers c.handled_numbers.result c.handle_datagram-handled.new.out to a.out.now)
+    (λ i. handle_datagram a.sessions.now a.used (c.config_of.ensures i) a.state (c.from.ensures i) (c.message_of.ensures i) a.payload.now a.out.now)
+    (numbered c.handled_numbers.result c.handle_datagram-handled.result c.handle_datagram-handled.new.state c.handle_datagram-handled.new.out _ a.out.now
+    c.handled_numbers.ensures c.handle_datagram-handled.ensures)
