@@ -186,8 +186,8 @@ pub fn build_measurement_tpdu(
     Ok(start + 32)
 }
 
-// The same for an IPv4 flow given in parts, for a caller that has the addresses in arrays. Called from the arm above, it
-// would copy both addresses once more (tried: 15.5 ns in place of 12.6, docs/DECISIONS.md, 63).
+// The same for an IPv4 flow given in parts, for a caller that has the addresses in arrays. Called from the arm above,
+// it would copy both addresses once more (tried: 15.5 ns in place of 12.6, docs/DECISIONS.md, 63).
 pub fn build_ipv4_tpdu(
     src: [u8; 16],
     dst: [u8; 16],

@@ -1,6 +1,6 @@
 -- What the report's loops compute over the columns, with what they carry: for their contracts. Proved to be leaf 7's
 -- definitions in proofs/.
-use Rattle.std.specs.Prelude.{ℕ, suc, ◌+◌, ◌-◌, ◌*◌, ◌/◌, ◌≤◌, ◌<◌, min, max, ◌≡◌, List, [], ◌∷◌, true, false, eqb, length}
+use Rattle.std.specs.Prelude.{ℕ, suc, ◌-◌, ◌*◌, ◌/◌, ◌≤◌, max, ◌≡◌, List, [], ◌∷◌, true, false, eqb, length}
 use Rattle.std.specs.Prelude as code
 use Rattle.std.proofs.Math.Option.{Option, some, none}
 use Rattle.evidence.specs.declared.LatencySummary.{LatencySummary}

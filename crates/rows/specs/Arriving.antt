@@ -29,7 +29,8 @@ arriving_at n k t c =
           elim (eqb (get_or c.marks k 0) 1) [
             | true ↦ record { answer = gives Duplicate; columns = c }
             | false ↦ record {
-              answer = elim (any_marked (drop (k + 1) (take n c.marks))) [ true ↦ gives OutOfOrder | false ↦ gives InOrder ];
+              answer =
+                  elim (any_marked (drop (k + 1) (take n c.marks))) [ true ↦ gives OutOfOrder | false ↦ gives InOrder ];
               columns = returned_at k t c;
             }
           ]
