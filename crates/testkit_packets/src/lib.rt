@@ -46,7 +46,7 @@ pub extern "C" fn testkit_version() -> u32
 
 // What a call that writes into a lent buffer answers: 0 and how many bytes it wrote, or a refusal's number and 0 bytes.
 #[repr(C)]
-#[derive(Clone, Copy)]
+#[derive(Clone, Copy, Debug, PartialEq, Eq)]
 pub struct TestkitWritten {
     pub number: u8,
     pub bytes: usize,
@@ -68,7 +68,7 @@ impl From<Result<usize, Refusal>> for TestkitWritten {
 
 // What reading answers: 0 and the values, or a refusal's number and zeros beside version 4. `version` is 4 or 6.
 #[repr(C)]
-#[derive(Clone, Copy)]
+#[derive(Clone, Copy, Debug, PartialEq, Eq)]
 pub struct TestkitTpdu {
     pub number: u8,
     pub version: u8,
@@ -106,7 +106,7 @@ impl From<Result<TpduNumbers, Refusal>> for TestkitTpdu {
 // What a plan will be: 0 and its bytes, with the last packet's sequence and send time where it has one; or a refusal's
 // number and zeros.
 #[repr(C)]
-#[derive(Clone, Copy)]
+#[derive(Clone, Copy, Debug, PartialEq, Eq)]
 pub struct TestkitPlanForecast {
     pub number: u8,
     pub has_last: bool,
@@ -151,7 +151,7 @@ impl From<Result<Option<PlannedPackets>, Refusal>> for TestkitPlanForecast {
 // What the walk over elements answers: 0, the version of the peer's address and the TEID; or a refusal's number,
 // version 4 and TEID 0. `version` is 4 or 6.
 #[repr(C)]
-#[derive(Clone, Copy)]
+#[derive(Clone, Copy, Debug, PartialEq, Eq)]
 pub struct TestkitElements {
     pub number: u8,
     pub version: u8,

@@ -168,7 +168,7 @@ pub struct TestkitReflectorConfig {
 // A GTP-U message without its payload, as it came or as it is to be sent. It has no sequence if `has_sequence` is 0; in
 // a message to be sent that is 0 or 1.
 #[repr(C)]
-#[derive(Clone, Copy)]
+#[derive(Clone, Copy, Debug, PartialEq, Eq)]
 pub struct TestkitGtpuMessage {
     pub message_type: u8,
     pub teid: u32,

@@ -31,7 +31,7 @@ use verdict::Verdict;
 
 // What an observer's call answers: 0 or a refusal's number, and the counts as it leaves them.
 #[repr(C)]
-#[derive(Clone, Copy)]
+#[derive(Clone, Copy, Debug, PartialEq, Eq)]
 pub struct TestkitRecorded {
     pub counts: ObserverCounts,
     pub number: u8,
@@ -217,7 +217,7 @@ pub const OUTCOME_IGNORED: u8 = 4;
 // What is answered to a datagram: 0 or a refusal's number; what it was; the type of an ignored message, else 0; the
 // counts; and the tunnel that an accepted Error Indication names, else zeros beside version 4.
 #[repr(C)]
-#[derive(Clone, Copy)]
+#[derive(Clone, Copy, Debug, PartialEq, Eq)]
 pub struct TestkitDatagramRecorded {
     pub counts: ObserverCounts,
     pub number: u8,
@@ -320,7 +320,7 @@ pub extern "C" fn testkit_record_return_gtpu_datagram(
 
 // The report in numbers: 0 and the report, or a refusal's number and zeros.
 #[repr(C)]
-#[derive(Clone, Copy)]
+#[derive(Clone, Copy, Debug, PartialEq, Eq)]
 pub struct TestkitContinuityReport {
     pub number: u8,
     pub window_start_ns: u64,
