@@ -1,6 +1,6 @@
 -- 30: what `new_multi` makes of a configuration, and that each call judges its maximum alike.
 use Rattle.std.proofs.Common.{◌≡◌, ℕ, ◌<◌, ◌≤◌, Bool, true, false, not, ◌||◌, eqb, ltb, ◌⊎◌, List, [], ◌∷◌, length, sym, refl, ap, ◌∙◌, inl, inr, arith, ltb-false, ltb-true, eqb-true}
-use mathlib.Core.Option.{Option, some, none}
+use Rattle.std.specs.Prelude.{Option, Some, None}
 use borrow.Author.Tests.{eqb-false, not-true}
 use Rattle.error.specs.Outcome.{Outcome, refused, gives, ◌⇒◌, first_cause}
 use Rattle.error.proofs.Among.{of_each}
@@ -158,15 +158,15 @@ answer_not_30 r session source message payload =
         → Not30 {A = Action} (elim policy [
           | Echo ↦ reflected session (echo_of payload)
           | SinkAndCount ↦ gives (noop GpduSunk)
-          | Route ↦ gives (gpdu RoutedGpdu r.config.target.destination r.config.target.teid handed_on)
+          | Route target ↦ gives (gpdu RoutedGpdu target.destination target.teid handed_on)
         ])
     by_policy_lem session Echo = echo_not_30 session payload
     by_policy_lem session SinkAndCount = λ e. refused_gives (sym e)
-    by_policy_lem session Route = λ e. refused_gives (sym e)
+    by_policy_lem session (Route target) = λ e. refused_gives (sym e)
 
     gpdu_not : (session : Option ReflectorSession) → AnswersNot30 (gpdu_answer r.config r.state session source message.teid payload)
-    gpdu_not (some session) = by_policy_lem session r.config.policy
-    gpdu_not none = λ e. refused_gives (sym e)
+    gpdu_not (Some session) = by_policy_lem session r.config.policy
+    gpdu_not None = λ e. refused_gives (sym e)
 
 -- ---- the calls
 
@@ -185,11 +185,11 @@ module _ (r : Reflector) where
     where
       onward : (existing : Option ReflectorSession)
           → Not30 {A = Bool} (elim existing [
-            | some other ↦ first_cause ((not (same_session other session) ⇒ 33) ∷ []) (gives false)
-            | none ↦ first_cause ((eqb r.used maximum ⇒ 34) ∷ []) (gives true)
+            | Some other ↦ first_cause ((not (same_session other session) ⇒ 33) ∷ []) (gives false)
+            | None ↦ first_cause ((eqb r.used maximum ⇒ 34) ∷ []) (gives true)
           ])
-      onward (some other) = told_not_by 30 _ _ refl (λ e. refused_gives (sym e))
-      onward none = told_not_by 30 _ _ refl (λ e. refused_gives (sym e))
+      onward (Some other) = told_not_by 30 _ _ refl (λ e. refused_gives (sym e))
+      onward None = told_not_by 30 _ _ refl (λ e. refused_gives (sym e))
 
   removing : (teid : ℕ) → RefusesAsNewMulti r.config (remove_session (table_in r) teid).outcome
   unfolding remove_session remove_outcome

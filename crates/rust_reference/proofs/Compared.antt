@@ -22,10 +22,10 @@ use Rattle.rust_reference.specs.Claims.{AddedIsOurs, NoFragment, WhatIsCompared}
 use Rattle.rust_reference.proofs.Told.{no_error}
 
 abbrev sunk : ReflectorPolicy → Bool
-sunk policy = elim policy [ Echo ↦ false | SinkAndCount ↦ true | Route ↦ false ]
+sunk policy = elim policy [ Echo ↦ false | SinkAndCount ↦ true | Route target ↦ false ]
 
 abbrev echoed : ReflectorPolicy → Bool
-echoed policy = elim policy [ Echo ↦ true | SinkAndCount ↦ false | Route ↦ false ]
+echoed policy = elim policy [ Echo ↦ true | SinkAndCount ↦ false | Route target ↦ false ]
 
 -- a packet is of one version, so a part of the other is not judged
 module _ (tpdu : List ℕ) where
@@ -93,11 +93,11 @@ all_compared = record {
   every_built = every_built;
   every_unjudged = λ tpdu b n unjudged. compare_whole tpdu b n (λ v r. absurd (unjudged v r));
   every_return = λ message_type payload b n f is. compare_whole payload b n f;
-  every_echoed = λ message payload b n f is. (λ echoes. compare_whole payload b n f, λ routes. absurd (true_not_false (ap echoed routes)));
-  every_routed = λ message payload l is. (λ echoes. absurd (true_not_false (sym (ap echoed echoes))), λ routes. l);
+  every_echoed = λ message payload b n f is. (λ echoes. compare_whole payload b n f, λ target routes. absurd (true_not_false (ap echoed routes)));
+  every_routed = λ target message payload l is. (λ echoes. absurd (true_not_false (sym (ap echoed echoes))), λ other routes. l);
   every_other_return = λ message_type payload other is. absurd (other is);
   every_other_message = λ policy message payload other is. absurd (other is);
-  every_sunk_message = λ message payload is. (λ echoes. absurd (true_not_false (ap sunk echoes)), λ routes. absurd (true_not_false (ap sunk routes)));
+  every_sunk_message = λ message payload is. (λ echoes. absurd (true_not_false (ap sunk echoes)), λ target routes. absurd (true_not_false (ap sunk routes)));
   cut_as_ihl = refl;
   every_other_refusal = λ n other. rw (ne_eqb n 39 other, as_the_rust_tells);
 }

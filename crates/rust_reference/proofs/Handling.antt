@@ -1,6 +1,6 @@
 -- A message: each arm of the Rust's match has document 01's answer, counts and error sequence.
 use Rattle.std.proofs.Common.{◌≡◌, ℕ, ◌+◌, ◌<◌, ◌≤◌, Bool, true, false, not, eqb, ltb, List, [], ◌∷◌, length, sym, refl, ap, ◌∙◌, subst, ap₂, inl, inr, arith, ltb-false, ltb-true, le-ltb, eqb-true}
-use mathlib.Core.Option.{Option, some, none}
+use Rattle.std.specs.Prelude.{Option, Some, None, is_none}
 use borrow.Author.Tests.{eqb-false}
 use Rattle.counter.specs.Counter.{one_more}
 use Rattle.error.specs.Outcome.{Outcome, refused, gives, ◌⇒◌, first_cause}
@@ -9,20 +9,18 @@ use Rattle.measurement.specs.declared.IpVersion.{IpVersion}
 use Rattle.measurement.specs.declared.IpVersion.TheVariants.{V4, V6}
 use Rattle.measurement_damage.specs.Echo.{echo_of}
 use Rattle.reflector.specs.Handle.{handle_datagram}
-use Rattle.reflector_answer.specs.Answer.{written, handed_on, Action, noop, send, Answer, gpdu, reflected, gpdu_outcome, gpdu_counted, gpdu_known, error_indication_to, gpdu_unknown, is_absent, echo_request_outcome, echo_request_counted, echo_request, other_message, gpdu_answer, answer}
+use Rattle.reflector_answer.specs.Answer.{written, handed_on, Action, noop, send, Answer, gpdu, reflected, gpdu_outcome, gpdu_counted, gpdu_known, error_indication_to, gpdu_unknown, echo_request_outcome, echo_request_counted, echo_request, other_message, gpdu_answer, answer}
 use Rattle.reflector_answer.specs.Handle.{placed}
 use Rattle.reflector_answer.specs.State.{counted, state_counted, next_error_sequence, error_indication_sent}
 use Rattle.gtpu.specs.declared.GtpuMessage.{GtpuMessage}
-use Rattle.reflector_answer.specs.declared.ReflectorCounter.{ReflectorCounter}
-use Rattle.reflector_answer.specs.declared.ReflectorCounter.TheVariants as counter
+use Rattle.reflector_answer.specs.State.{ReflectorCounter}
+use Rattle.reflector_answer.specs.State as counter
 use Rattle.reflector_answer.specs.declared.ReflectorNoopReason.TheVariants as reason
 use Rattle.reflector_answer.specs.declared.ReflectorPolicy.{ReflectorPolicy}
 use Rattle.reflector_answer.specs.declared.ReflectorPolicy.TheVariants.{Echo, SinkAndCount, Route}
 use Rattle.reflector_answer.specs.declared.ReflectorSendReason.TheVariants.{ReflectedGpdu, RoutedGpdu, EchoResponse}
 use Rattle.reflector_answer.specs.declared.ReflectorState.{ReflectorState}
 use Rattle.reflector_answer.specs.declared.ReflectorStats.{ReflectorStats}
-use Rattle.gtpu.specs.declared.SequenceNumber.{SequenceNumber}
-use Rattle.gtpu.specs.declared.SequenceNumber.TheVariants.{Present, Absent}
 use Rattle.reflector_answer.proofs.Answers.{handling_refused, handling_short, handling_passed}
 use Rattle.reflector_sessions.specs.Judge.{table_outcome}
 use Rattle.reflector_sessions.specs.Table.{find, used_rows}
@@ -131,7 +129,7 @@ module _ (r : Reflector) (source : SocketAddr) (payload buffer : List ℕ) where
     policy_outcome policy = elim policy [
       | Echo ↦ reflected session (echo_of payload)
       | SinkAndCount ↦ gives (noop reason.GpduSunk)
-      | Route ↦ gives (gpdu RoutedGpdu r.config.target.destination r.config.target.teid handed_on)
+      | Route target ↦ gives (gpdu RoutedGpdu target.destination target.teid handed_on)
     ]
 
     abbrev after : Outcome Action → Answer
@@ -145,10 +143,10 @@ module _ (r : Reflector) (source : SocketAddr) (payload buffer : List ℕ) where
     echoing (Ok bytes) o both_give short = rw (le-ltb 65535 (length bytes) (short bytes refl)) (refl, refl, count_twice counter.GpduReceived counter.GpduForwarded r)
     echoing (Err x) o (both_refuse e) short = (ap refused e, refl, count_is counter.GpduReceived r)
 
-    by_policy_lem : (policy : ReflectorPolicy) → r.config.policy ≡ policy → Comes (forwarding (rust_policy policy r.config.target)) (after (policy_outcome policy))
+    by_policy_lem : (policy : ReflectorPolicy) → r.config.policy ≡ policy → Comes (forwarding (rust_policy policy)) (after (policy_outcome policy))
     by_policy_lem Echo e = echoing (echo_tpdu payload) (echo_of payload) (alike (λ y. y) (echo_tpdu payload) (echo_of payload) (echo_outcome payload (b.0 e))) (echo_short payload)
     by_policy_lem SinkAndCount e = (refl, refl, count_twice counter.GpduReceived counter.GpduSunk r)
-    by_policy_lem Route e = rw (le-ltb 65535 (length payload) (b.1 e)) (refl, refl, count_twice counter.GpduReceived counter.GpduForwarded r)
+    by_policy_lem (Route target) e = rw (le-ltb 65535 (length payload) (b.1 target e)) (refl, refl, count_twice counter.GpduReceived counter.GpduForwarded r)
 
     known : Comes (rust.handle_gpdu received (rust_session session) payload) (gpdu_known r.config r.state session payload)
     unfolding rust.handle_gpdu gpdu_known gpdu_outcome
@@ -165,7 +163,7 @@ module _ (r : Reflector) (source : SocketAddr) (payload buffer : List ℕ) where
   unfolding rust.echo_request echo_request echo_request_outcome first_cause
   request message = by (not (eqb message.teid 0)) message.sequence_number
     where
-      asked : Bool → SequenceNumber → rust.Called (Result rust.ReflectorAction)
+      asked : Bool → Option ℕ → rust.Called (Result rust.ReflectorAction)
       asked t sequence = elim t [
         | true ↦ record { result = Err (InvalidPacket error.Echo_Request_TEID_must_be_zero); reflector = rust.count counter.MalformedRejected (rust_reflector r) }
         | false ↦
@@ -177,9 +175,9 @@ module _ (r : Reflector) (source : SocketAddr) (payload buffer : List ℕ) where
             ]
       ]
 
-      outcome : Bool → SequenceNumber → Outcome Action
+      outcome : Bool → Option ℕ → Outcome Action
       outcome t sequence =
-          first_cause ((t ⇒ 35) ∷ (is_absent sequence ⇒ 36) ∷ [])
+          first_cause ((t ⇒ 35) ∷ (is_none sequence ⇒ 36) ∷ [])
           (gives (send (record {
             reason = EchoResponse;
             destination = source;
@@ -189,10 +187,10 @@ module _ (r : Reflector) (source : SocketAddr) (payload buffer : List ℕ) where
             payload = written (14 ∷ r.config.recovery_counter ∷ []);
           })))
 
-      by : (t : Bool) (sequence : SequenceNumber) → Comes (asked t sequence) (record { outcome = outcome t sequence; state = echo_request_counted (outcome t sequence) r.state })
+      by : (t : Bool) (sequence : Option ℕ) → Comes (asked t sequence) (record { outcome = outcome t sequence; state = echo_request_counted (outcome t sequence) r.state })
       by true sequence = (refl, refl, count_is counter.MalformedRejected r)
-      by false Absent = (refl, refl, count_is counter.MalformedRejected r)
-      by false (Present n) = (refl, refl, count_is counter.EchoRequestsAnswered r)
+      by false None = (refl, refl, count_is counter.MalformedRejected r)
+      by false (Some n) = (refl, refl, count_is counter.EchoRequestsAnswered r)
 
   -- a message of another type
   either_known : (t : Bool) (x y : rust.Called (Result rust.ReflectorAction)) (a b : Answer) → (t ≡ true → Comes x a) → Comes y b
@@ -221,8 +219,8 @@ module _ (r : Reflector) (source : SocketAddr) (payload buffer : List ℕ) where
           | map.None ↦ rust.unknown_teid (rust_reflector r) (rust_address source) (rust_message message payload)
           | map.Some session ↦ rust.handle_gpdu received session payload
         ]) (gpdu_answer r.config r.state existing source message.teid payload)
-    gpdu_comes is (some session) found e = rw e (known session (b is))
-    gpdu_comes is none found e = rw e (unknown message fits)
+    gpdu_comes is (Some session) found e = rw e (known session (b is))
+    gpdu_comes is None found e = rw e (unknown message fits)
 
     answered : (existing : Option ReflectorSession) → rust.find message.teid (rust_reflector r).sessions ≡ rust_removed existing
         → Comes called (answer r.config r.state existing source message payload)
@@ -303,8 +301,8 @@ answer_fits r fits session source message payload =
     known_fits (gives (send message)) = fits
 
     gpdu_fits : (session : Option ReflectorSession) → StateFits (gpdu_answer r.config r.state session source message.teid payload).state
-    gpdu_fits (some session) = known_fits (gpdu_outcome r.config session payload)
-    gpdu_fits none = next_fits r.state.next_error_sequence fits
+    gpdu_fits (Some session) = known_fits (gpdu_outcome r.config session payload)
+    gpdu_fits None = next_fits r.state.next_error_sequence fits
 
     request_fits : (o : Outcome Action) → StateFits (echo_request_counted o r.state)
     request_fits (refused n) = fits

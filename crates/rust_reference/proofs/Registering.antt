@@ -1,6 +1,6 @@
 -- The reflector's sessions: a search of the `Vec` and one of the used rows find the same, and registering answers alike and leaves the same.
 use Rattle.std.proofs.Common.{◌≡◌, ℕ, suc, ◌+◌, ◌<◌, Bool, true, false, not, ◌&&◌, ◌||◌, eqb, leb, List, [], ◌∷◌, ◌++◌, map, length, take, set, sym, refl, ap, ◌∙◌, subst, inr, arith, length-set, length-take-le, take-suc-set, eqb-true, le-leb}
-use mathlib.Core.Option.{Option, some, none}
+use Rattle.std.specs.Prelude.{Option, Some, None}
 use lib.ListN.{length-map}
 use borrow.Author.Tests.{eqb-false, lt-leb}
 use Rattle.error.specs.Number.{invalid_reflector_session, reflector_session_conflict, reflector_session_capacity_exceeded}
@@ -57,7 +57,7 @@ find_same teid (session ∷ rows) = by (eqb session.local_teid teid) (find_same 
   where
     by : (t : Bool) → rust.find teid (map rust_session rows) ≡ rust_removed (find teid rows)
         → elim t [ true ↦ map.Some (rust_session session) | false ↦ rust.find teid (map rust_session rows) ]
-        ≡ rust_removed (elim t [ true ↦ some session | false ↦ find teid rows ])
+        ≡ rust_removed (elim t [ true ↦ Some session | false ↦ find teid rows ])
     by true h = refl
     by false h = h
 
@@ -143,13 +143,13 @@ module _ (r : Reflector) (session : ReflectorSession) (s : SoundIn r) where
 
   abbrev asked : Option ReflectorSession → Outcome Bool
   asked existing = elim existing [
-    | some other ↦ first_cause ((not (same_session other session) ⇒ reflector_session_conflict) ∷ []) (gives false)
-    | none ↦ first_cause ((eqb r.used r.config.max_sessions ⇒ reflector_session_capacity_exceeded) ∷ []) (gives true)
+    | Some other ↦ first_cause ((not (same_session other session) ⇒ reflector_session_conflict) ∷ []) (gives false)
+    | None ↦ first_cause ((eqb r.used r.config.max_sessions ⇒ reflector_session_capacity_exceeded) ∷ []) (gives true)
   ]
 
   looked : (existing : Option ReflectorSession) → Comes (onward (rust_removed existing)) (asked existing)
-  looked (some other) = rw (same_session_lem other session, onward) (known_session (same_session other session))
-  looked none = rw (full, onward) (new_session (eqb r.used r.config.max_sessions) refl)
+  looked (Some other) = rw (same_session_lem other session, onward) (known_session (same_session other session))
+  looked None = rw (full, onward) (new_session (eqb r.used r.config.max_sessions) refl)
 
   judged : (existing : Option ReflectorSession) → rust.find session.local_teid (rust_reflector r).sessions ≡ rust_removed existing
       → Comes (rust.register_session (rust_reflector r) (rust_session session)) (session_outcome r.used r.config.max_sessions existing session)

@@ -1,6 +1,6 @@
 -- Removal: the place of a TEID is the same in the `Vec` and among the used rows, and `swap_remove` there leaves the used rows of the port.
 use Rattle.std.proofs.Common.{◌≡◌, ℕ, zero, suc, ◌-◌, ◌<◌, Bool, true, false, eqb, List, [], ◌∷◌, map, length, get_or, take, set, sym, refl, ap, ◌∙◌, subst, inr, arith, length-set, length-take-le, get_or-take, take-take}
-use mathlib.Core.Option.{Option, some, none}
+use Rattle.std.specs.Prelude.{Option, Some, None}
 use lib.Seq.{take-set-lt}
 use Rattle.error.specs.Outcome.{Outcome, gives}
 use Rattle.error.proofs.Causes.{passes}
@@ -39,9 +39,9 @@ get_d_map f (x ∷ l) (suc i) d e h = get_d_map f l i d e (omega arith)
 -- ---- the place of a TEID
 
 data Placed (teid : ℕ) (rows : List ReflectorSession) : Type 0 where
-  placed : (session : ReflectorSession) → find teid rows ≡ some session → rust.position teid (map rust_session rows) ≡ map.Some (place_of teid rows)
+  placed : (session : ReflectorSession) → find teid rows ≡ Some session → rust.position teid (map rust_session rows) ≡ map.Some (place_of teid rows)
       → place_of teid rows < length rows → get_or rows (place_of teid rows) no_session ≡ session → Placed teid rows
-  missing : find teid rows ≡ none → rust.position teid (map rust_session rows) ≡ map.None → Placed teid rows
+  missing : find teid rows ≡ None → rust.position teid (map rust_session rows) ≡ map.None → Placed teid rows
 
 place : (teid : ℕ) (rows : List ReflectorSession) → Placed teid rows
 place teid [] = missing refl refl

@@ -42,6 +42,7 @@ use Rattle.gtpu.specs.declared.GtpuMessage.{GtpuMessage}
 use Rattle.reflector_answer.specs.declared.MultiSessionReflectorConfig.{MultiSessionReflectorConfig}
 use Rattle.reflector_answer.specs.declared.ReflectorPolicy.{ReflectorPolicy}
 use Rattle.reflector_answer.specs.declared.ReflectorPolicy.TheVariants.{Echo, SinkAndCount, Route}
+use Rattle.reflector_answer.specs.declared.RouteTarget.{RouteTarget}
 use Rattle.reflector_sessions.specs.Register.{register_session}
 use Rattle.reflector_sessions.specs.Remove.{remove_session}
 use Rattle.reflector_sessions.specs.declared.ReflectorSession.{ReflectorSession}
@@ -108,8 +109,8 @@ pub record WhatIsCompared : Type 0 where
       → ComparedReturn message_type payload
   pub every_echoed : (message : GtpuMessage) (payload : List ℕ) → Bytes payload → NoFragment payload → Filled payload
       → ComparedMessage Echo message payload
-  pub every_routed : (message : GtpuMessage) (payload : List ℕ) → length payload ≤ 65535
-      → ComparedMessage Route message payload
+  pub every_routed : (target : RouteTarget) (message : GtpuMessage) (payload : List ℕ) → length payload ≤ 65535
+      → ComparedMessage (Route target) message payload
   pub every_other_return : (message_type : ℕ) (payload : List ℕ) → (message_type ≢ gtpu_msg_gpdu)
       → ComparedReturn message_type payload
   pub every_other_message : (policy : ReflectorPolicy) (message : GtpuMessage) (payload : List ℕ)

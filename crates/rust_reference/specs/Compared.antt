@@ -12,6 +12,7 @@ use Rattle.gtpu.specs.Message.{gtpu_msg_gpdu}
 use Rattle.gtpu.specs.declared.GtpuMessage.{GtpuMessage}
 use Rattle.reflector_answer.specs.declared.ReflectorPolicy.{ReflectorPolicy}
 use Rattle.reflector_answer.specs.declared.ReflectorPolicy.TheVariants.{Echo, Route}
+use Rattle.reflector_answer.specs.declared.RouteTarget.{RouteTarget}
 
 -- "limited to segments whose UDP length fills their part" (document 02, job 6): where a UDP part is judged, because no
 -- cause before 10 refuses the packet, the length in its UDP header is the part's own.
@@ -36,7 +37,8 @@ ComparedReturn message_type payload = message_type ≡ gtpu_msg_gpdu → Compare
 -- At the reflector only an echo reads the T-PDU. A route sends it on as it came, and the stand-in for the codec carries
 -- "a payload of at most 65,535 bytes".
 abbrev pub ComparedGpdu : ReflectorPolicy → List ℕ → Type 0
-ComparedGpdu policy tpdu = (policy ≡ Echo → Compared tpdu) × (policy ≡ Route → length tpdu ≤ 65535)
+ComparedGpdu policy tpdu = (policy ≡ Echo → Compared tpdu)
+    × ((target : RouteTarget) → policy ≡ Route target → length tpdu ≤ 65535)
 
 -- A message at the reflector: a G-PDU is compared as `ComparedGpdu` says, every other message always.
 abbrev pub ComparedMessage : ReflectorPolicy → GtpuMessage → List ℕ → Type 0

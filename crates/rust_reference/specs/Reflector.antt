@@ -3,10 +3,10 @@
 -- message in it.
 use Rattle.std.specs.Prelude.{ℕ, suc, ◌+◌, ◌-◌, ◌%◌, max, Bool, true, false, not, ◌&&◌, ◌||◌, List, [], ◌∷◌, ◌++◌, length, take, ◌==◌, nat_eq, nat_le, nat_lt, slice_index_or, slice_set}
 use Rattle.field.specs.Field.{big_endian}
-use Rattle.reflector_answer.specs.declared.ReflectorCounter.{ReflectorCounter}
-use Rattle.reflector_answer.specs.declared.ReflectorCounter.TheVariants.{GpduReceived, GpduForwarded, GpduSunk}
-use Rattle.reflector_answer.specs.declared.ReflectorCounter.TheVariants.{EchoRequestsAnswered, ErrorIndicationsSent}
-use Rattle.reflector_answer.specs.declared.ReflectorCounter.TheVariants.{MalformedRejected}
+use Rattle.reflector_answer.specs.State.{ReflectorCounter}
+use Rattle.reflector_answer.specs.State.{GpduReceived, GpduForwarded, GpduSunk}
+use Rattle.reflector_answer.specs.State.{EchoRequestsAnswered, ErrorIndicationsSent}
+use Rattle.reflector_answer.specs.State.{MalformedRejected}
 use Rattle.reflector_answer.specs.declared.ReflectorSendReason.{ReflectorSendReason}
 use Rattle.reflector_answer.specs.declared.ReflectorSendReason.TheVariants.{ReflectedGpdu, RoutedGpdu, EchoResponse}
 use Rattle.reflector_answer.specs.declared.ReflectorSendReason.TheVariants.{ErrorIndication}

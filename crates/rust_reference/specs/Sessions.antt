@@ -1,6 +1,5 @@
 -- Our reflector, and the Rust's that holds the same: the `Vec` of sessions is the used rows of the lent slice.
-use Rattle.std.specs.Prelude.{◌≡◌, ℕ, ◌<◌, List, ◌++◌, map, length, drop}
-use Rattle.std.proofs.Math.Option.{Option, some, none}
+use Rattle.std.specs.Prelude.{◌≡◌, ℕ, ◌<◌, List, ◌++◌, map, length, drop, Option, Some, None}
 use Rattle.error.specs.Outcome.{Outcome, refused, gives}
 use Rattle.measurement.specs.Flow.{address}
 use Rattle.measurement.specs.declared.IpVersion.{IpVersion}
@@ -23,9 +22,6 @@ use Rattle.reflector_answer.specs.declared.ReflectorPolicy.TheVariants.{Echo, Si
 use Rattle.reflector_answer.specs.declared.ReflectorSendReason.TheVariants.{ReflectedGpdu, RoutedGpdu, EchoResponse}
 use Rattle.reflector_answer.specs.declared.ReflectorSendReason.TheVariants.{ErrorIndication}
 use Rattle.reflector_answer.specs.declared.ReflectorState.{ReflectorState}
-use Rattle.reflector_answer.specs.declared.RouteTarget.{RouteTarget}
-use Rattle.gtpu.specs.declared.SequenceNumber.{SequenceNumber}
-use Rattle.gtpu.specs.declared.SequenceNumber.TheVariants.{Present, Absent}
 use Rattle.rust_reference.specs.Error.{Result, Ok, Err}
 use Rattle.rust_reference.specs.Gtpu as gtpu
 use Rattle.rust_reference.specs.Map as map
@@ -75,16 +71,16 @@ rust_session s = record {
   peer_addr = rust_address (value_of s.peer_addr);
 }
 
-abbrev pub rust_policy : ReflectorPolicy → RouteTarget → rust.ReflectorPolicy
-rust_policy Echo target = rust.Echo
-rust_policy SinkAndCount target = rust.SinkAndCount
-rust_policy Route target = rust.Route (record { destination = rust_address target.destination; teid = target.teid })
+abbrev pub rust_policy : ReflectorPolicy → rust.ReflectorPolicy
+rust_policy Echo = rust.Echo
+rust_policy SinkAndCount = rust.SinkAndCount
+rust_policy (Route target) = rust.Route (record { destination = rust_address target.destination; teid = target.teid })
 
 abbrev pub rust_config : MultiSessionReflectorConfig → rust.MultiSessionReflectorConfig
 rust_config config = record {
   max_sessions = config.max_sessions;
   recovery_counter = config.recovery_counter;
-  policy = rust_policy config.policy config.target;
+  policy = rust_policy config.policy;
 }
 
 abbrev pub rust_reflector : Reflector → rust.GtpuReflector
@@ -92,14 +88,14 @@ rust_reflector r = record {
   sessions = map rust_session (used_rows (table_in r));
   max_sessions = r.config.max_sessions;
   recovery_counter = r.config.recovery_counter;
-  policy = rust_policy r.config.policy r.config.target;
+  policy = rust_policy r.config.policy;
   stats = r.state.stats;
   next_error_sequence = r.state.next_error_sequence;
 }
 
-abbrev pub rust_sequence : SequenceNumber → map.Option ℕ
-rust_sequence Absent = map.None
-rust_sequence (Present sequence) = map.Some sequence
+abbrev pub rust_sequence : Option ℕ → map.Option ℕ
+rust_sequence None = map.None
+rust_sequence (Some sequence) = map.Some sequence
 
 abbrev pub rust_message : GtpuMessage → List ℕ → gtpu.GtpuMessage
 rust_message message payload = record {
@@ -113,8 +109,8 @@ rust_message message payload = record {
 
 -- a session that was removed, or none
 abbrev pub rust_removed : Option ReflectorSession → map.Option rust.ReflectorSession
-rust_removed none = map.None
-rust_removed (some session) = map.Some (rust_session session)
+rust_removed None = map.None
+rust_removed (Some session) = map.Some (rust_session session)
 
 abbrev pub rust_reason : ReflectorNoopReason → rust.NoopReason
 rust_reason GpduSunk = rust.G_PDU_sunk
