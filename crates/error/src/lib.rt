@@ -1,7 +1,7 @@
-// The refusals: document 01's card of numbers (leaf 1), and above 37 the new numbers of document 02. The Rust's error.rs
-// has an enum with texts; here each cause of the card is a variant of its own, named in the Rust's words where it has
-// any. specs/Number.antt says what each number means, and `numbers` proves that the two lists agree. Numbers up to 50
-// are kept for this list.
+// The refusals: document 01's card of numbers (leaf 1), and above 37 the new numbers of document 02. The Rust's
+// error.rs has an enum with texts; here each cause of the card is a variant of its own, named in the Rust's words where
+// it has any. specs/Number.antt says what each number means, and `numbers` proves that the two lists agree. Numbers up
+// to 50 are kept for this list.
 #![tactic(auto)]
 
 ghost use Rattle.std.specs.Prelude.{◌≡◌};
