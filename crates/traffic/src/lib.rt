@@ -24,8 +24,8 @@ pub fn packet_length(version: IpVersion) -> usize
     }
 }
 
-// The packets of an accepted plan, end to end. (c: what std promises of `chunks_exact_mut` tells nothing of the bytes
-// once its borrow is over, so each packet is a part of `out`.)
+// The packets of an accepted plan, end to end. Each is a part of `out` (tried: what std promises of `chunks_exact_mut`
+// says nothing of the bytes once its borrow is over, so the proof did not close).
 fn write_packets(
     flow: InnerIpFlow,
     plan: TrafficPlan,
