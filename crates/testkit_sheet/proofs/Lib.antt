@@ -1,4 +1,3 @@
 -- The laws of the calls on a run sheet.
-pub mod Calls
 pub mod Verdict
 pub mod Told

@@ -14,8 +14,7 @@ use Rattle.measurement.specs.Flow.{version_numbered}
 use Rattle.measurement.specs.declared.IpVersion.{IpVersion}
 use Rattle.measurement.proofs.Versions.{versions_numbered}
 use Rattle.observer.specs.declared.ObserverCounts.{ObserverCounts}
-use Rattle.return_calls.specs.declared.GtpuReturnDatagramOutcome.{GtpuReturnDatagramOutcome}
-use Rattle.return_calls.specs.declared.GtpuReturnDatagramOutcome.TheVariants.{MeasurementTpdu, ErrorIndication, EchoResponse, Ignored}
+use Rattle.return_calls.specs.Kinds.{Kind, MeasurementTpdu, ErrorIndication, EchoResponse, Ignored}
 use Rattle.verdict.specs.Verdict.{verdict_of}
 use Rattle.verdict.specs.declared.Verdict.{Verdict}
 use Rattle.verdict.specs.declared.Verdict.TheVariants.{Pass, NothingReturned, TooManyLost, TooManyInARow, OutageTooLong, ErrorIndicated}
@@ -75,7 +74,7 @@ verdicts_told = record {
 
 -- ---- what a datagram was, in numbers
 
-only_refused : (x : Outcome GtpuReturnDatagramOutcome) → outcome_code x ≡ 0 → (n : ℕ) × (x ≡ refused n)
+only_refused : (x : Outcome Kind) → outcome_code x ≡ 0 → (n : ℕ) × (x ≡ refused n)
 only_refused (refused n) e = (n, refl)
 only_refused (gives MeasurementTpdu) e = absurd (omega arith)
 only_refused (gives ErrorIndication) e = absurd (omega arith)
@@ -83,17 +82,17 @@ only_refused (gives EchoResponse) e = absurd (omega arith)
 only_refused (gives (Ignored t)) e = absurd (omega arith)
 
 -- it is read back from its numbers
-abbrev outcome_back : ℕ → ℕ → ℕ → Outcome GtpuReturnDatagramOutcome
+abbrev outcome_back : ℕ → ℕ → ℕ → Outcome Kind
 outcome_back zero t n = refused n
 outcome_back (suc zero) t n = gives MeasurementTpdu
 outcome_back (suc (suc zero)) t n = gives ErrorIndication
 outcome_back (suc (suc (suc zero))) t n = gives EchoResponse
 outcome_back (suc (suc (suc (suc k)))) t n = gives (Ignored t)
 
-abbrev outcome_told : TestkitDatagramRecorded → Outcome GtpuReturnDatagramOutcome
+abbrev outcome_told : TestkitDatagramRecorded → Outcome Kind
 outcome_told d = outcome_back d.outcome d.message_type d.number
 
-told_outcome : (x : Outcome GtpuReturnDatagramOutcome) (t : RefusedTunnel) (c : ObserverCounts) → outcome_told (datagram_numbers x t c) ≡ x
+told_outcome : (x : Outcome Kind) (t : RefusedTunnel) (c : ObserverCounts) → outcome_told (datagram_numbers x t c) ≡ x
 told_outcome (refused n) t c = refl
 told_outcome (gives MeasurementTpdu) t c = refl
 told_outcome (gives ErrorIndication) t c = refl
@@ -104,7 +103,7 @@ told_outcome (gives (Ignored m)) t c = refl
 abbrev tunnel_told : TestkitDatagramRecorded → RefusedTunnel
 tunnel_told d = record { teid = d.refused_teid; version = version_numbered d.peer_version; peer_address = d.peer_address }
 
-told_tunnel : (x : Outcome GtpuReturnDatagramOutcome) (t : RefusedTunnel) (c : ObserverCounts) → tunnel_told (datagram_numbers x t c) ≡ t
+told_tunnel : (x : Outcome Kind) (t : RefusedTunnel) (c : ObserverCounts) → tunnel_told (datagram_numbers x t c) ≡ t
 told_tunnel x t c = ap (λ (v : IpVersion). record { teid = t.teid; version = v; peer_address = t.peer_address }) (versions_numbered.read_back t.version)
 
 pub datagrams_told : DatagramsTold

@@ -8,7 +8,7 @@ use lib.Dec.{eqb}
 use Rattle.error.specs.Number.{malformed_observer}
 use Rattle.error.specs.Outcome.{Outcome, refused, gives}
 use Rattle.evidence.specs.Latency.{latency_means, latency_for}
-use Rattle.evidence.specs.declared.Latency.{Latency}
+use Rattle.std.specs.Prelude as code
 use Rattle.evidence.specs.declared.LatencySummary.{LatencySummary}
 use Rattle.evidence.specs.declared.PacketContinuityBudget.{PacketContinuityBudget}
 use Rattle.evidence.specs.declared.PacketContinuityReport.{PacketContinuityReport}
@@ -40,7 +40,7 @@ unfolding latency_given
 back none = refl
 back (some s) = refl
 
-abbrev with_latency : PacketContinuityReport → Latency → PacketContinuityReport
+abbrev with_latency : PacketContinuityReport → code.Option LatencySummary → PacketContinuityReport
 with_latency r l = record {
   window_start_ns = r.window_start_ns;
   window_end_ns = r.window_end_ns;

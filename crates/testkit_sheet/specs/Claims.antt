@@ -7,7 +7,7 @@ use Rattle.gtpu.specs.declared.RefusedTunnel.{RefusedTunnel}
 use Rattle.observer.specs.Observer.{Observer}
 use Rattle.observer.specs.declared.ObserverCounts.{ObserverCounts}
 use Rattle.report.specs.Report.{reporting}
-use Rattle.return_calls.specs.declared.GtpuReturnDatagramOutcome.{GtpuReturnDatagramOutcome}
+use Rattle.return_calls.specs.Kinds.{Kind}
 use Rattle.verdict.specs.Verdict.{verdict_of}
 use Rattle.verdict.specs.declared.Verdict.{Verdict}
 use Rattle.verdict.specs.declared.Verdict.TheVariants.{Pass}
@@ -58,6 +58,6 @@ pub record VerdictsTold : Type 0 where
 -- And what a datagram was, from its own: only a refusal has code 0, and no two answers have the same numbers, nor two
 -- tunnels. The code alone does not tell two ignored messages apart, so the type of the message stands beside it.
 pub record DatagramsTold : Type 0 where
-  pub only_refused : (x : Outcome GtpuReturnDatagramOutcome) → outcome_code x ≡ 0 → (n : ℕ) × (x ≡ refused n)
-  pub apart : (x y : Outcome GtpuReturnDatagramOutcome) (s t : RefusedTunnel) (counts after : ObserverCounts)
+  pub only_refused : (x : Outcome Kind) → outcome_code x ≡ 0 → (n : ℕ) × (x ≡ refused n)
+  pub apart : (x y : Outcome Kind) (s t : RefusedTunnel) (counts after : ObserverCounts)
       → datagram_numbers x s counts ≡ datagram_numbers y t after → (x ≡ y) × (s ≡ t) × (counts ≡ after)

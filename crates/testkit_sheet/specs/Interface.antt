@@ -1,7 +1,9 @@
 -- How the C interface represents a run sheet: an outcome as a number and values beside it, the counts as the sheet has
 -- them.
-use Rattle.std.specs.Prelude.{ℕ, ◌≡◌, List, true, false}
+use Rattle.std.specs.Prelude.{ℕ, ◌≡◌, List, Bool, true, false}
 use Rattle.std.proofs.Math.Option.{Option, some, none}
+use Rattle.std.specs.Borrow.{Bor, MutBor}
+use denote.Triple.Both.{Both}
 use Rattle.error.specs.Outcome.{Outcome, refused, gives, outcome_number}
 use Rattle.observer.specs.Observer.{Observer}
 use Rattle.observer.specs.Judge.{Step}
@@ -12,19 +14,52 @@ use Rattle.measurement.specs.Flow.{version_number}
 use Rattle.return_calls.specs.Returns.{MessageStep}
 use Rattle.return_calls.specs.Tunnel.{tunnel_handed_on}
 use Rattle.received_tpdus.specs.Received.{ReturnsTaken}
-use Rattle.rows.specs.Columns.{Columns, WrittenColumn, Sheet}
-use Rattle.return_calls.specs.declared.GtpuReturnDatagramOutcome.{GtpuReturnDatagramOutcome}
-use Rattle.return_calls.specs.declared.GtpuReturnDatagramOutcome.TheVariants.{MeasurementTpdu, ErrorIndication}
-use Rattle.return_calls.specs.declared.GtpuReturnDatagramOutcome.TheVariants.{EchoResponse, Ignored}
+use Rattle.rows.specs.Columns.{Columns, columns_of, Sheet}
+use Rattle.return_calls.specs.Kinds.{Kind, MeasurementTpdu, ErrorIndication, EchoResponse, Ignored}
 use Rattle.evidence.specs.Budget.{zero_loss}
 use Rattle.evidence.specs.Latency.{latency_means}
 use Rattle.evidence.specs.declared.LatencySummary.{LatencySummary}
 use Rattle.evidence.specs.declared.PacketContinuityReport.{PacketContinuityReport}
-use Rattle.testkit_sheet.specs.declared.LatencyNumbers.{LatencyNumbers}
 use Rattle.testkit_sheet.specs.declared.TestkitContinuityReport.{TestkitContinuityReport}
 use Rattle.testkit_sheet.specs.declared.TestkitDatagramRecorded.{TestkitDatagramRecorded}
 use Rattle.testkit_sheet.specs.declared.TestkitRecorded.{TestkitRecorded}
 use Rattle.testkit_sheet.specs.declared.TestkitReturnsRecorded.{TestkitReturnsRecorded}
+
+-- ---- the columns that C lends, one by one
+
+-- What a column that is lent to read holds, when the call begins (entry) and when it returns (exit).
+abbrev pub Column : Type 0
+Column = Both (Bor (List ℕ)) (Bor (List ℕ))
+
+abbrev pub read : Column → Both (List ℕ) (List ℕ)
+read c = record { entry = c.entry.now; exit = c.exit.now }
+
+-- The same of a column that the call may write.
+abbrev pub WrittenColumn : Type 0
+WrittenColumn = Both (MutBor (List ℕ)) (MutBor (List ℕ))
+
+abbrev pub written : WrittenColumn → Both (List ℕ) (List ℕ)
+written c = record { entry = c.entry.now; exit = c.exit.now }
+
+abbrev sheet_of : (qs ts ls ms rs : Both (List ℕ) (List ℕ)) → Sheet
+sheet_of qs ts ls ms rs = record {
+  entry = columns_of qs.entry ts.entry ls.entry ms.entry rs.entry;
+  exit = columns_of qs.exit ts.exit ls.exit ms.exit rs.exit;
+}
+
+-- All columns of a call that only reads them.
+abbrev pub sheet : Column → Column → Column → Column → Column → Sheet
+sheet qs ts ls ms rs = sheet_of (read qs) (read ts) (read ls) (read ms) (read rs)
+
+-- All columns of a call that marks rows: it only reads sequences and send times.
+abbrev pub marked_sheet : Column → Column → WrittenColumn → WrittenColumn → WrittenColumn → Sheet
+marked_sheet qs ts ls ms rs = sheet_of (read qs) (read ts) (written ls) (written ms) (written rs)
+
+-- All columns of a call that may write each of them.
+abbrev pub written_sheet : WrittenColumn → WrittenColumn → WrittenColumn → WrittenColumn → WrittenColumn → Sheet
+written_sheet qs ts ls ms rs = sheet_of (written qs) (written ts) (written ls) (written ms) (written rs)
+
+-- ---- what the calls answer
 
 -- 0 or a refusal's number, and the counts.
 abbrev pub recorded_numbers : Outcome (Unit {0}) → ObserverCounts → TestkitRecorded
@@ -63,29 +98,29 @@ RecordsReturns s c r returned numbers definition =
     (definition (lent s c) returned.entry.now numbers.entry.now)
 
 -- What a datagram was: 0 where it was refused.
-abbrev pub code_of : GtpuReturnDatagramOutcome → ℕ
+abbrev pub code_of : Kind → ℕ
 code_of MeasurementTpdu = 1
 code_of ErrorIndication = 2
 code_of EchoResponse = 3
 code_of (Ignored message_type) = 4
 
-abbrev pub outcome_code : Outcome GtpuReturnDatagramOutcome → ℕ
+abbrev pub outcome_code : Outcome Kind → ℕ
 outcome_code (refused n) = 0
 outcome_code (gives was) = code_of was
 
 -- The type of an ignored message, else 0.
-abbrev pub type_of : GtpuReturnDatagramOutcome → ℕ
+abbrev pub type_of : Kind → ℕ
 type_of MeasurementTpdu = 0
 type_of ErrorIndication = 0
 type_of EchoResponse = 0
 type_of (Ignored message_type) = message_type
 
-abbrev pub ignored_type : Outcome GtpuReturnDatagramOutcome → ℕ
+abbrev pub ignored_type : Outcome Kind → ℕ
 ignored_type (refused n) = 0
 ignored_type (gives was) = type_of was
 
 -- With the tunnel that is handed on beside it.
-abbrev pub datagram_numbers : Outcome GtpuReturnDatagramOutcome → RefusedTunnel → ObserverCounts
+abbrev pub datagram_numbers : Outcome Kind → RefusedTunnel → ObserverCounts
     → TestkitDatagramRecorded
 datagram_numbers outcome tunnel counts = record {
   number = outcome_number outcome;
@@ -108,6 +143,10 @@ abbrev pub RecordsDatagram : Sheet → ObserverCounts → TestkitDatagramRecorde
 RecordsDatagram s c r payload definition = DatagramStep r s.exit payload (definition (lent s c))
 
 -- Latencies: absent is false and zeros.
+pub record LatencyNumbers : Type 0 where
+  pub present : Bool
+  pub summary : LatencySummary
+
 abbrev pub latency_numbers : Option LatencySummary → LatencyNumbers
 latency_numbers none = record { present = false; summary = record { min_ns = 0; max_ns = 0; avg_ns = 0 } }
 latency_numbers (some s) = record { present = true; summary = s }

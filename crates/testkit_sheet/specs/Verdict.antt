@@ -1,7 +1,5 @@
 -- The verdict on a report for C: the report's figures against a budget that need not be its own.
-use Rattle.std.specs.Prelude.{Bool, true, false, eqb, ltb}
-use Rattle.evidence.specs.declared.Latency.{Latency}
-use Rattle.evidence.specs.declared.Latency.TheVariants.{Absent, Summary}
+use Rattle.std.specs.Prelude.{Option, Some, None, Bool, true, false, eqb, ltb}
 use Rattle.evidence.specs.declared.LatencySummary.{LatencySummary}
 use Rattle.evidence.specs.declared.PacketContinuityBudget.{PacketContinuityBudget}
 use Rattle.evidence.specs.declared.PacketContinuityReport.{PacketContinuityReport}
@@ -13,8 +11,8 @@ use Rattle.verdict.specs.declared.Verdict.TheVariants.{OutageTooLong, ErrorIndic
 use Rattle.testkit_sheet.specs.declared.TestkitContinuityReport.{TestkitContinuityReport}
 use Rattle.testkit_sheet.specs.declared.TestkitVerdict.{TestkitVerdict}
 
-unfoldable pub latency_given : Bool → LatencySummary → Latency
-latency_given present summary = elim present [ true ↦ Summary summary | false ↦ Absent ]
+unfoldable pub latency_given : Bool → LatencySummary → Option LatencySummary
+latency_given present summary = elim present [ true ↦ Some summary | false ↦ None ]
 
 -- The report with these figures and this budget. Its two verdicts are leaf 7's: "Forwarding: returned above 0.
 -- Continuity: lost, longest run and longest duration within budget and no error indication."

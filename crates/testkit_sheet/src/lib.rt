@@ -4,29 +4,29 @@
 #![tactic(auto)]
 
 ghost use Rattle.std.specs.Prelude.{◌≡◌};
-ghost use Rattle.error.specs.Outcome.{refused, gives, outcome_number};
-ghost use Rattle.rows.specs.Columns.{sheet, marked_sheet, written_sheet};
+ghost use Rattle.error.specs.Answer.{answered};
 ghost use Rattle.observer.specs.Sending.{record_sent};
-ghost use Rattle.observer.specs.Answer.{recording_means, lent};
+ghost use Rattle.observer.specs.Answer.{lent};
 ghost use Rattle.sent_plan.specs.SendingPlan.{record_sent_plan};
 ghost use Rattle.return_calls.specs.Returns.{record_received_tpdu, record_return_message};
-ghost use Rattle.return_calls.specs.Answer.{message_means};
-ghost use Rattle.received_tpdus.specs.Received.{returns_means, record_received_tpdus};
-ghost use Rattle.evidence.specs.Latency.{latency_means};
+ghost use Rattle.return_calls.specs.Answer.{message_means, tunnel_told};
+ghost use Rattle.received_tpdus.specs.Received.{record_received_tpdus};
 ghost use Rattle.report.specs.Report.{reporting};
-ghost use Rattle.testkit_sheet.specs.Interface.{recorded_numbers, count_given, returns_numbers, outcome_code};
-ghost use Rattle.testkit_sheet.specs.Interface.{ignored_type, datagram_numbers, latency_numbers, report_numbers};
+ghost use Rattle.testkit_sheet.specs.Interface.{sheet, marked_sheet, written_sheet};
+ghost use Rattle.testkit_sheet.specs.Interface.{recorded_numbers, returns_numbers, datagram_numbers, report_numbers};
 ghost use Rattle.testkit_sheet.specs.Interface.{Records, RecordsDatagram, RecordsReturns};
 ghost use Rattle.testkit_sheet.specs.Claims.{OwnBudget, PassesByFigures, VerdictsTold, DatagramsTold};
-ghost use Rattle.testkit_sheet.specs.Verdict.{latency_given, held_to, verdict_numbers, judging};
+ghost use Rattle.testkit_sheet.specs.Verdict.{held_to, verdict_numbers, judging};
 
-use evidence::{Latency, LatencySummary, PacketContinuityBudget, PacketContinuityReport};
-use gtpu::{GtpuMessage, SequenceNumber};
-use observer::{ObserverCounts, Recorded};
+use error::Refusal;
+use evidence::{LatencySummary, PacketContinuityBudget, PacketContinuityReport};
+use gtpu::GtpuMessage;
+use measurement::IpVersion;
+use observer::ObserverCounts;
 use plan::TrafficPlan;
-use received_tpdus::{ReturnsRecorded, ReturnsRecording};
-use report::{LongestRuns, Reported};
-use return_calls::{GtpuReturnDatagramOutcome, MessageRecorded, ReturnRecording};
+use report::LongestRuns;
+use return_calls::GtpuReturnDatagramOutcome;
+use rows::{MarkedSheet, Sheet, WrittenSheet};
 use verdict::Verdict;
 
 // What an observer's call answers: 0 or a refusal's number, and the counts as it leaves them.
@@ -37,14 +37,17 @@ pub struct TestkitRecorded {
     pub number: u8,
 }
 
-fn recorded_numbers(recorded: Recorded) -> TestkitRecorded
-    ensures { result ≡ recorded_numbers (recording_means recorded.answer) recorded.counts }
-{
-    let answer = recorded.answer;
-    let counts = recorded.counts;
-    TestkitRecorded {
-        counts: counts,
-        number: observer::answer_number(answer),
+impl TestkitRecorded {
+    fn new(answer: Result<(), Refusal>, counts: ObserverCounts) -> Self
+        ensures { result ≡ recorded_numbers (answered answer) counts }
+    {
+        match answer {
+            Ok(()) => Self { counts, number: 0 },
+            Err(refusal) => Self {
+                counts,
+                number: refusal.number(),
+            },
+        }
     }
 }
 
@@ -56,23 +59,22 @@ pub extern "C" fn testkit_record_sent(
     latencies: &mut [u64],
     marks: &mut [u8],
     arrival_timestamps: &mut [u64],
-    counts: ObserverCounts,
+    mut counts: ObserverCounts,
     sequence: u64,
     send_timestamp_ns: u64,
 ) -> TestkitRecorded
     ensures { Records (written_sheet sequences send_timestamps latencies marks arrival_timestamps) counts result
         (λ o. record_sent o sequence send_timestamp_ns) }
 {
-    recorded_numbers(observer::record_sent(
+    let mut sheet = WrittenSheet {
         sequences,
         send_timestamps,
         latencies,
         marks,
         arrival_timestamps,
-        counts,
-        sequence,
-        send_timestamp_ns,
-    ))
+    };
+    let answer = observer::record_sent(&mut sheet, &mut counts, sequence, send_timestamp_ns);
+    TestkitRecorded::new(answer, counts)
 }
 
 // `return_calls::record_received_tpdu`
@@ -83,23 +85,27 @@ pub extern "C" fn testkit_record_received_tpdu(
     latencies: &mut [u64],
     marks: &mut [u8],
     arrival_timestamps: &mut [u64],
-    counts: ObserverCounts,
+    mut counts: ObserverCounts,
     return_timestamp_ns: u64,
     tpdu: &[u8],
 ) -> TestkitRecorded
     ensures { Records (marked_sheet sequences send_timestamps latencies marks arrival_timestamps) counts result
         (λ o. record_received_tpdu o return_timestamp_ns tpdu.now) }
 {
-    recorded_numbers(return_calls::record_received_tpdu(
+    let mut sheet = MarkedSheet {
         sequences,
         send_timestamps,
         latencies,
         marks,
         arrival_timestamps,
-        counts,
+    };
+    let answer = return_calls::record_received_tpdu(
+        &mut sheet,
+        &mut counts,
         return_timestamp_ns,
         tpdu,
-    ))
+    );
+    TestkitRecorded::new(answer, counts)
 }
 
 // `sent_plan::record_sent_plan`
@@ -110,23 +116,22 @@ pub extern "C" fn testkit_record_sent_plan(
     latencies: &mut [u64],
     marks: &mut [u8],
     arrival_timestamps: &mut [u64],
-    counts: ObserverCounts,
+    mut counts: ObserverCounts,
     plan: TrafficPlan,
     next_sequence: u64,
 ) -> TestkitRecorded
     ensures { Records (written_sheet sequences send_timestamps latencies marks arrival_timestamps) counts result
         (λ o. record_sent_plan o plan next_sequence) }
 {
-    recorded_numbers(sent_plan::record_sent_plan(
+    let mut sheet = WrittenSheet {
         sequences,
         send_timestamps,
         latencies,
         marks,
         arrival_timestamps,
-        counts,
-        plan,
-        next_sequence,
-    ))
+    };
+    let answer = sent_plan::record_sent_plan(&mut sheet, &mut counts, plan, next_sequence);
+    TestkitRecorded::new(answer, counts)
 }
 
 // What a list of returns answers: 0 and how many returns it had, or the number of a refusal of the whole list and 0;
@@ -139,33 +144,22 @@ pub struct TestkitReturnsRecorded {
     pub returns: usize,
 }
 
-fn returns_count(answer: ReturnsRecording) -> usize
-    ensures { result ≡ count_given (returns_means answer) }
-{
-    match answer {
-        ReturnsRecording::Accepted(returns) => returns,
-        ReturnsRecording::Refused(_) => 0,
-    }
-}
-
-fn returns_number(answer: ReturnsRecording) -> u8
-    ensures { result ≡ outcome_number (returns_means answer) }
-{
-    match answer {
-        ReturnsRecording::Accepted(_) => 0,
-        ReturnsRecording::Refused(number) => number,
-    }
-}
-
-fn returns_numbers(recorded: ReturnsRecorded) -> TestkitReturnsRecorded
-    ensures { result ≡ returns_numbers (returns_means recorded.answer) recorded.counts }
-{
-    let answer = recorded.answer;
-    let counts = recorded.counts;
-    TestkitReturnsRecorded {
-        counts: counts,
-        number: returns_number(answer),
-        returns: returns_count(answer),
+impl TestkitReturnsRecorded {
+    fn new(answer: Result<usize, Refusal>, counts: ObserverCounts) -> Self
+        ensures { result ≡ returns_numbers (answered answer) counts }
+    {
+        match answer {
+            Ok(returns) => Self {
+                counts,
+                number: 0,
+                returns,
+            },
+            Err(refusal) => Self {
+                counts,
+                number: refusal.number(),
+                returns: 0,
+            },
+        }
     }
 }
 
@@ -177,7 +171,7 @@ pub extern "C" fn testkit_record_received_tpdus(
     latencies: &mut [u64],
     marks: &mut [u8],
     arrival_timestamps: &mut [u64],
-    counts: ObserverCounts,
+    mut counts: ObserverCounts,
     return_timestamps: &[u64],
     lengths: &[usize],
     tpdus: &[u8],
@@ -188,22 +182,26 @@ pub extern "C" fn testkit_record_received_tpdus(
         returned numbers
         (λ o. record_received_tpdus o return_timestamps.now lengths.now tpdus.now) }
 {
-    returns_numbers(received_tpdus::record_received_tpdus(
+    let mut sheet = MarkedSheet {
         sequences,
         send_timestamps,
         latencies,
         marks,
         arrival_timestamps,
-        counts,
+    };
+    let answer = received_tpdus::record_received_tpdus(
+        &mut sheet,
+        &mut counts,
         return_timestamps,
         lengths,
         tpdus,
         returned,
         numbers,
-    ))
+    );
+    TestkitReturnsRecorded::new(answer, counts)
 }
 
-// What a datagram that came back was.
+// What a datagram that came back was: the numbers of include/testkit.h (a: the C interface).
 pub const OUTCOME_REFUSED: u8 = 0;
 
 pub const OUTCOME_MEASUREMENT_TPDU: u8 = 1;
@@ -228,59 +226,40 @@ pub struct TestkitDatagramRecorded {
     pub peer_address: [u8; 16],
 }
 
-fn datagram_number(answer: ReturnRecording) -> u8
-    ensures { result ≡ outcome_number (message_means answer) }
-{
-    match answer {
-        ReturnRecording::Accepted(_) => 0,
-        ReturnRecording::Refused(number) => number,
-    }
-}
-
-fn outcome_code(answer: ReturnRecording) -> u8
-    ensures { result ≡ outcome_code (message_means answer) }
-{
-    match answer {
-        ReturnRecording::Refused(_) => OUTCOME_REFUSED,
-        ReturnRecording::Accepted(outcome) => match outcome {
-            GtpuReturnDatagramOutcome::MeasurementTpdu => OUTCOME_MEASUREMENT_TPDU,
-            GtpuReturnDatagramOutcome::ErrorIndication => OUTCOME_ERROR_INDICATION,
-            GtpuReturnDatagramOutcome::EchoResponse => OUTCOME_ECHO_RESPONSE,
-            GtpuReturnDatagramOutcome::Ignored(_) => OUTCOME_IGNORED,
-        },
-    }
-}
-
-fn ignored_type(answer: ReturnRecording) -> u8
-    ensures { result ≡ ignored_type (message_means answer) }
-{
-    match answer {
-        ReturnRecording::Refused(_) => 0,
-        ReturnRecording::Accepted(outcome) => match outcome {
-            GtpuReturnDatagramOutcome::MeasurementTpdu => 0,
-            GtpuReturnDatagramOutcome::ErrorIndication => 0,
-            GtpuReturnDatagramOutcome::EchoResponse => 0,
-            GtpuReturnDatagramOutcome::Ignored(message_type) => message_type,
-        },
-    }
-}
-
-fn datagram_numbers(recorded: MessageRecorded) -> TestkitDatagramRecorded
-    ensures { result ≡ datagram_numbers (message_means recorded.answer) recorded.tunnel recorded.counts }
-{
-    let answer = recorded.answer;
-    let counts = recorded.counts;
-    let tunnel = recorded.tunnel;
-    let version = tunnel.version;
-    let peer_address = tunnel.peer_address;
-    TestkitDatagramRecorded {
-        counts: counts,
-        number: datagram_number(answer),
-        outcome: outcome_code(answer),
-        message_type: ignored_type(answer),
-        peer_version: measurement::version_number(version),
-        refused_teid: tunnel.teid,
-        peer_address: peer_address,
+impl TestkitDatagramRecorded {
+    fn new(answer: Result<GtpuReturnDatagramOutcome, Refusal>, counts: ObserverCounts) -> Self
+        ensures { result ≡ datagram_numbers (message_means answer) (tunnel_told answer) counts }
+    {
+        let mut recorded = Self {
+            counts,
+            number: 0,
+            outcome: OUTCOME_REFUSED,
+            message_type: 0,
+            peer_version: IpVersion::V4.number(),
+            refused_teid: 0,
+            peer_address: [0; 16],
+        };
+        match answer {
+            Err(refusal) => recorded.number = refusal.number(),
+            Ok(GtpuReturnDatagramOutcome::MeasurementTpdu) => {
+                recorded.outcome = OUTCOME_MEASUREMENT_TPDU;
+            }
+            Ok(GtpuReturnDatagramOutcome::ErrorIndication(tunnel)) => {
+                let peer_address = tunnel.peer_address;
+                recorded.outcome = OUTCOME_ERROR_INDICATION;
+                recorded.peer_version = tunnel.version.number();
+                recorded.refused_teid = tunnel.teid;
+                recorded.peer_address = peer_address;
+            }
+            Ok(GtpuReturnDatagramOutcome::EchoResponse) => {
+                recorded.outcome = OUTCOME_ECHO_RESPONSE;
+            }
+            Ok(GtpuReturnDatagramOutcome::Ignored(message_type)) => {
+                recorded.outcome = OUTCOME_IGNORED;
+                recorded.message_type = message_type;
+            }
+        }
+        recorded
     }
 }
 
@@ -292,7 +271,7 @@ pub extern "C" fn testkit_record_return_gtpu_datagram(
     latencies: &mut [u64],
     marks: &mut [u8],
     arrival_timestamps: &mut [u64],
-    counts: ObserverCounts,
+    mut counts: ObserverCounts,
     return_timestamp_ns: u64,
     message_type: u8,
     payload: &[u8],
@@ -301,21 +280,26 @@ pub extern "C" fn testkit_record_return_gtpu_datagram(
         payload.now
         (λ o. record_return_message o return_timestamp_ns message_type payload.now) }
 {
-    datagram_numbers(return_calls::record_return_gtpu_datagram(
+    let mut sheet = MarkedSheet {
         sequences,
         send_timestamps,
         latencies,
         marks,
         arrival_timestamps,
-        counts,
+    };
+    let message = GtpuMessage {
+        message_type,
+        teid: 0,
+        sequence_number: None,
+    };
+    let answer = return_calls::record_return_gtpu_datagram(
+        &mut sheet,
+        &mut counts,
         return_timestamp_ns,
-        GtpuMessage {
-            message_type: message_type,
-            teid: 0,
-            sequence_number: SequenceNumber::Absent,
-        },
+        message,
         payload,
-    ))
+    );
+    TestkitDatagramRecorded::new(answer, counts)
 }
 
 // The report in numbers: 0 and the report, or a refusal's number and zeros.
@@ -342,83 +326,60 @@ pub struct TestkitContinuityReport {
     pub packet_continuity_proven: bool,
 }
 
-// The latencies of a report: whether there are any, and the three numbers.
-#[derive(Clone, Copy)]
-struct LatencyNumbers {
-    present: bool,
-    summary: LatencySummary,
-}
+impl From<Result<PacketContinuityReport, Refusal>> for TestkitContinuityReport {
+    ghost from_gives = { λ answer numbers. numbers ≡ report_numbers (answered answer) };
 
-fn latency_numbers(latency: Latency) -> LatencyNumbers
-    ensures { result ≡ latency_numbers (latency_means latency) }
-{
-    match latency {
-        Latency::Absent => LatencyNumbers {
-            present: false,
-            summary: LatencySummary {
+    fn from(answer: Result<PacketContinuityReport, Refusal>) -> Self {
+        match answer {
+            Ok(report) => {
+                let latency = report.latency.unwrap_or(LatencySummary {
+                    min_ns: 0,
+                    max_ns: 0,
+                    avg_ns: 0,
+                });
+                let budget = report.budget;
+                Self {
+                    number: 0,
+                    window_start_ns: report.window_start_ns,
+                    window_end_ns: report.window_end_ns,
+                    sent_packets: report.sent_packets,
+                    received_packets: report.received_packets,
+                    lost_packets: report.lost_packets,
+                    duplicate_packets: report.duplicate_packets,
+                    out_of_order_packets: report.out_of_order_packets,
+                    gtpu_error_indications: report.gtpu_error_indications,
+                    max_consecutive_lost_packets: report.max_consecutive_lost_packets,
+                    max_gap_duration_ns: report.max_gap_duration_ns,
+                    has_latency: report.latency.is_some(),
+                    min_ns: latency.min_ns,
+                    max_ns: latency.max_ns,
+                    avg_ns: latency.avg_ns,
+                    budget,
+                    forwarding_proven: report.forwarding_proven,
+                    packet_continuity_proven: report.packet_continuity_proven,
+                }
+            }
+            Err(refusal) => Self {
+                number: refusal.number(),
+                window_start_ns: 0,
+                window_end_ns: 0,
+                sent_packets: 0,
+                received_packets: 0,
+                lost_packets: 0,
+                duplicate_packets: 0,
+                out_of_order_packets: 0,
+                gtpu_error_indications: 0,
+                max_consecutive_lost_packets: 0,
+                max_gap_duration_ns: 0,
+                has_latency: false,
                 min_ns: 0,
                 max_ns: 0,
                 avg_ns: 0,
+                budget: PacketContinuityBudget::zero_loss(),
+                forwarding_proven: false,
+                packet_continuity_proven: false,
             },
-        },
-        Latency::Summary(summary) => LatencyNumbers {
-            present: true,
-            summary: summary,
-        },
-    }
-}
-
-fn report_given(report: PacketContinuityReport) -> TestkitContinuityReport
-    ensures { result ≡ report_numbers (gives report) }
-{
-    let latency = report.latency;
-    let budget = report.budget;
-    let latencies = latency_numbers(latency);
-    let summary = latencies.summary;
-    TestkitContinuityReport {
-        number: 0,
-        window_start_ns: report.window_start_ns,
-        window_end_ns: report.window_end_ns,
-        sent_packets: report.sent_packets,
-        received_packets: report.received_packets,
-        lost_packets: report.lost_packets,
-        duplicate_packets: report.duplicate_packets,
-        out_of_order_packets: report.out_of_order_packets,
-        gtpu_error_indications: report.gtpu_error_indications,
-        max_consecutive_lost_packets: report.max_consecutive_lost_packets,
-        max_gap_duration_ns: report.max_gap_duration_ns,
-        has_latency: latencies.present,
-        min_ns: summary.min_ns,
-        max_ns: summary.max_ns,
-        avg_ns: summary.avg_ns,
-        budget: budget,
-        forwarding_proven: report.forwarding_proven,
-        packet_continuity_proven: report.packet_continuity_proven,
-    }
-}
-
-fn report_refused(number: u8) -> TestkitContinuityReport
-    ensures { result ≡ report_numbers (refused number) }
-{
-    TestkitContinuityReport {
-        number: number,
-        window_start_ns: 0,
-        window_end_ns: 0,
-        sent_packets: 0,
-        received_packets: 0,
-        lost_packets: 0,
-        duplicate_packets: 0,
-        out_of_order_packets: 0,
-        gtpu_error_indications: 0,
-        max_consecutive_lost_packets: 0,
-        max_gap_duration_ns: 0,
-        has_latency: false,
-        min_ns: 0,
-        max_ns: 0,
-        avg_ns: 0,
-        budget: PacketContinuityBudget::zero_loss(),
-        forwarding_proven: false,
-        packet_continuity_proven: false,
+        }
     }
 }
 
@@ -439,24 +400,17 @@ pub extern "C" fn testkit_report(
         (reporting (lent (sheet sequences send_timestamps latencies marks arrival_timestamps) counts)
         window_start_ns window_end_ns budget) }
 {
-    let reported = report::report(
+    let sheet = Sheet {
         sequences,
         send_timestamps,
         latencies,
         marks,
         arrival_timestamps,
-        counts,
-        window_start_ns,
-        window_end_ns,
-        budget,
-    );
-    match reported {
-        Reported::Given(report) => report_given(report),
-        Reported::Refused(number) => report_refused(number),
-    }
+    };
+    report::report(sheet, counts, window_start_ns, window_end_ns, budget).into()
 }
 
-// What a verdict says: pass, or the first reason why not.
+// What a verdict says: pass, or the first reason why not; the numbers of include/testkit.h (a: the C interface).
 pub const VERDICT_PASS: u8 = 0;
 
 pub const VERDICT_NOTHING_RETURNED: u8 = 1;
@@ -480,54 +434,28 @@ pub struct TestkitVerdict {
     pub allowed: u64,
 }
 
-fn verdict_numbers(verdict: Verdict) -> TestkitVerdict
-    ensures { result ≡ verdict_numbers verdict }
-{
-    match verdict {
-        Verdict::Pass => TestkitVerdict {
-            reason: VERDICT_PASS,
-            measured: 0,
-            allowed: 0,
-        },
-        Verdict::NothingReturned => TestkitVerdict {
-            reason: VERDICT_NOTHING_RETURNED,
-            measured: 0,
-            allowed: 0,
-        },
-        Verdict::TooManyLost(lost, most) => TestkitVerdict {
-            reason: VERDICT_TOO_MANY_LOST,
-            measured: lost,
-            allowed: most,
-        },
-        Verdict::TooManyInARow(lost, most) => TestkitVerdict {
-            reason: VERDICT_TOO_MANY_IN_A_ROW,
-            measured: lost,
-            allowed: most,
-        },
-        Verdict::OutageTooLong(outage, most) => TestkitVerdict {
-            reason: VERDICT_OUTAGE_TOO_LONG,
-            measured: outage,
-            allowed: most,
-        },
-        Verdict::ErrorIndicated(indications) => TestkitVerdict {
-            reason: VERDICT_ERROR_INDICATED,
-            measured: indications,
-            allowed: 0,
-        },
-    }
-}
+impl From<Verdict> for TestkitVerdict {
+    ghost from_gives = { λ verdict numbers. numbers ≡ verdict_numbers verdict };
 
-// The latencies of a report, from its numbers.
-fn latency_given(present: bool, summary: LatencySummary) -> Latency
-    ensures { result ≡ latency_given present summary }
-{
-    if present {
-        return Latency::Summary(summary);
+    fn from(verdict: Verdict) -> Self {
+        let (reason, measured, allowed) = match verdict {
+            Verdict::Pass => (VERDICT_PASS, 0, 0),
+            Verdict::NothingReturned => (VERDICT_NOTHING_RETURNED, 0, 0),
+            Verdict::TooManyLost(lost, most) => (VERDICT_TOO_MANY_LOST, lost, most),
+            Verdict::TooManyInARow(lost, most) => (VERDICT_TOO_MANY_IN_A_ROW, lost, most),
+            Verdict::OutageTooLong(outage, most) => (VERDICT_OUTAGE_TOO_LONG, outage, most),
+            Verdict::ErrorIndicated(indications) => (VERDICT_ERROR_INDICATED, indications, 0),
+        };
+        Self {
+            reason,
+            measured,
+            allowed,
+        }
     }
-    Latency::Absent
 }
 
 // The report that has these figures and this budget: what it says about forwarding and continuity is judged by them.
+#[tactic(auto, unfolding(crate::specs::Verdict::latency_given))]
 fn held_to(
     report: TestkitContinuityReport,
     budget: PacketContinuityBudget,
@@ -554,8 +482,8 @@ fn held_to(
         gtpu_error_indications: report.gtpu_error_indications,
         max_consecutive_lost_packets: report.max_consecutive_lost_packets,
         max_gap_duration_ns: report.max_gap_duration_ns,
-        latency: latency_given(report.has_latency, summary),
-        budget: budget,
+        latency: report.has_latency.then_some(summary),
+        budget,
         forwarding_proven: 0 < report.received_packets,
         packet_continuity_proven: report::within_budget(
             budget,
@@ -567,6 +495,7 @@ fn held_to(
 }
 
 // `verdict::judge`, of the figures of a report against a budget that need not be its own.
+#[tactic(auto, unfolding(crate::specs::Verdict::judging))]
 #[unsafe(no_mangle)]
 pub extern "C" fn testkit_judge_report(
     report: TestkitContinuityReport,
@@ -581,7 +510,7 @@ pub extern "C" fn testkit_judge_report(
             allowed: 0,
         };
     }
-    verdict_numbers(verdict::judge(held_to(report, budget)))
+    verdict::judge(held_to(report, budget)).into()
 }
 
 // Carries that a report judged against its own budget gets the verdict that it gives by itself.

@@ -1,7 +1,0 @@
--- `testkit_sheet::testkit_record_sent_plan` meets its contract.
-use Rattle.testkit_sheet.proofs.Calls.{stepped}
-use Rattle.testkit_sheet.proofs.testkit_record_sent_plan.Goals as goal
-
-pub returns : goal.returns
-returns c =
-    stepped c.recorded_numbers.result c.record_sent_plan.result _ _ c.record_sent_plan.ensures c.recorded_numbers.ensures
