@@ -1,9 +1,9 @@
 -- A header and a segment in a buffer are the whole T-PDU of the definitions.
-use Prim.Native.Nat.{ℕ, ◌+◌, ◌-◌, ◌%◌, ◌^◌, ◌<◌, ◌≤◌}
+use Prim.Native.Nat.{ℕ, ◌+◌, ◌-◌, ◌%◌, ◌<◌, ◌≤◌}
 use native.Mathlib.Omega.{arith}
 use mathlib.Core.Path.{◌≡◌, sym, ap, ap₂, ◌∙◌}
 use mathlib.Core.List.{List, ◌++◌}
-use lib.ListN.{length, take, drop, length-append, length-drop}
+use lib.ListN.{length, take, drop, length-append}
 use borrow.Author.Tests.{lt-ltb, le-ltb}
 use Rattle.error.specs.Outcome.{Outcome, refused, gives}
 use Rattle.field.specs.Field.{bytes_at}
@@ -91,16 +91,6 @@ module _ (f : InnerIpFlow) (s t : ℕ) (v : IpVersion) (e : f.version ≡ v) whe
       ∙ ap₂ (λ (n : ℕ) (b : List ℕ). pair (gives n) (b ++ drop n out)) (sym build_length) (sym build_is)
       ∙ writing_fits (build_of f s t) out (omega (arith, build_length))
 
--- an IP header of either version in a buffer, and what the UDP writer needs: where the header ends, and a number for the pseudo-header
-pub record Headed (f : InnerIpFlow) (out whole : List ℕ) (start p : ℕ) : Type 0 where
-  pub v : IpVersion
-  pub is : f.version ≡ v
-  pub ends : start ≡ ip_header_length v
-  pub fits : ip_header_length v + 32 ≤ length out
-  pub header : whole ≡ ip_header v (bytes_at (address_length v) 0 f.src) (bytes_at (address_length v) 0 f.dst) ++ drop (ip_header_length v) out
-  pub sum : Folds p (sum_of (pseudo_header f.version (address f.version f.src) (address f.version f.dst) 32))
-  pub small : p < 2 ^ 36
-
 -- the IPv4 header that was written over such a number is the definitions'
 pub ipv4_headed : (f : InnerIpFlow) (p : ℕ) → f.version ≡ V4
     → Folds p (sum_of (pseudo_header f.version (address f.version f.src) (address f.version f.dst) 32))
@@ -109,18 +99,3 @@ unfolding address address_length
 ipv4_headed f p e folds =
     header_checked f.src f.dst p
     (λ n. folds n ∙ ap (λ (w : IpVersion). fold_of (n + sum_of (pseudo_header w (address w f.src) (address w f.dst) 32))) e)
-
-pub headed_length : (f : InnerIpFlow) (out whole : List ℕ) (start p : ℕ) → Headed f out whole start p → (start + 32 ≤ length whole) × (length whole ≡ length out)
-headed_length f out whole start p h =
-    let v = h.v in
-    let x = ip_header v (bytes_at (address_length v) 0 f.src) (bytes_at (address_length v) 0 f.dst) in
-    let e : length whole ≡ ip_header_length v + (length out - ip_header_length v) =
-    ap length h.header ∙ length-append x (drop (ip_header_length v) out)
-    ∙ ap₂ (λ (a b : ℕ). a + b) (header_length v f.src f.dst) (length-drop (ip_header_length v) out) in
-    (omega (arith, h.ends, h.fits), omega (arith, h.fits))
-
-pub headed_built : (f : InnerIpFlow) (s t : ℕ) (out part whole : List ℕ) (start p : ℕ) → Headed f out whole start p
-    → part ≡ segment_over p f.src_port f.dst_port s t ++ drop 32 (take (length whole - start) (drop start whole))
-    → pair (gives (start + 32)) (take start whole ++ (part ++ drop (length whole - start) (drop start whole))) ≡ writing (build_of f s t) out
-headed_built f s t out part whole start p h e =
-    rw h.ends (built f s t h.v h.is out part whole p h.fits h.header h.sum (rw h.ends at e))
