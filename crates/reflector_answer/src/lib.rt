@@ -318,7 +318,7 @@ fn answer_message(
 }
 
 // Handles a message whose TEID was looked for among the used rows of a table of this length. Judges 30, 31 and 15
-// first.
+// first. It takes no `Sessions`: the rows were searched before, and a rehearsal has none.
 pub fn handle_found(
     length: usize,
     used: usize,

@@ -147,7 +147,8 @@ pub extern "C" fn testkit_remove_session(
     removed_numbers(removed, table.used)
 }
 
-// What is done with G-PDUs of known sessions. Every other number routes too.
+// What is done with G-PDUs of known sessions. Every other number routes too. These numbers and those below stay
+// constants, since C's header has them and the two are compared.
 pub const POLICY_ECHO: u8 = 0;
 
 pub const POLICY_SINK_AND_COUNT: u8 = 1;
