@@ -141,12 +141,15 @@ impl ReflectorState {
     }
 }
 
-// The error sequence after this one: 65,535 is followed by 1.
+// The error sequence after this one: a wrapping add, with a wrapped zero replaced by one.
 #[tactic(auto, unfolding(crate::specs::State::next_error_sequence))]
 fn next_error_sequence(sequence: u16) -> u16
     ensures { result ≡ next_error_sequence sequence }
 {
-    sequence.checked_add(1).unwrap_or(1)
+    match sequence.wrapping_add(1) {
+        0 => 1,
+        next => next,
+    }
 }
 
 // What stands before the address in the payload of an Error Indication: TEID Data I, and the type and the length of the
