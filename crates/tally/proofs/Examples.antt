@@ -35,7 +35,7 @@ use Rattle.observer.specs.Returning as returning
 use Rattle.observer.specs.Returning.{return_causes, record_return}
 use Rattle.return_calls.specs.Kinds.{message_kind}
 use Rattle.return_calls.specs.Returns.{sequence_read, record_received_tpdu, record_return_message, as_message}
-use Rattle.return_calls.specs.declared.GtpuReturnDatagramOutcome.TheVariants.{MeasurementTpdu}
+use Rattle.return_calls.specs.Kinds.{MeasurementTpdu}
 use Rattle.tally.specs.Tally.{is_refused}
 use Rattle.tally.specs.Demand.{Accepted, send_all, Takes, Call, tpdu_call, message_call, some_leg_turned, bytes_given, receive}
 use Rattle.tally.specs.Cases.{ipv4_flow, ipv6_flow}

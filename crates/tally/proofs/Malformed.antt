@@ -13,8 +13,7 @@ use Rattle.sent_plan.specs.SendingPlan.{record_sent_plan}
 use Rattle.gtpu.specs.Element.{elements_of}
 use Rattle.return_calls.specs.Kinds.{message_kind}
 use Rattle.return_calls.specs.Returns.{sequence_read, record_received_tpdu, MessageStep, as_message, unchanged, record_kind, record_return_message}
-use Rattle.return_calls.specs.declared.GtpuReturnDatagramOutcome.{GtpuReturnDatagramOutcome}
-use Rattle.return_calls.specs.declared.GtpuReturnDatagramOutcome.TheVariants.{MeasurementTpdu, ErrorIndication, EchoResponse, Ignored}
+use Rattle.return_calls.specs.Kinds.{Kind, MeasurementTpdu, ErrorIndication, EchoResponse, Ignored}
 use Rattle.received_tpdus.proofs.Received.{received_malformed}
 use Rattle.report.specs.Report.{reporting}
 use Rattle.tally.specs.Malformed.{MalformedFirst}
@@ -38,10 +37,10 @@ module _ (o : Observer) (bad : well_formed o ≡ false) where
   abbrev message_refusal : MessageStep
   message_refusal = record { outcome = refused malformed_observer; observer = o }
 
-  noted : (outcome : Outcome GtpuReturnDatagramOutcome) → unchanged o outcome ≡ message_refusal
-  noted outcome = ap (λ (x : Outcome GtpuReturnDatagramOutcome). record { outcome = x; observer = o }) (sym (judged_malformed o outcome bad))
+  noted : (outcome : Outcome Kind) → unchanged o outcome ≡ message_refusal
+  noted outcome = ap (λ (x : Outcome Kind). record { outcome = x; observer = o }) (sym (judged_malformed o outcome bad))
 
-  by_kind : (time : ℕ) (payload : List ℕ) (kind : GtpuReturnDatagramOutcome) → record_kind o time payload kind ≡ message_refusal
+  by_kind : (time : ℕ) (payload : List ℕ) (kind : Kind) → record_kind o time payload kind ≡ message_refusal
   by_kind time payload MeasurementTpdu = ap (as_message MeasurementTpdu) (received time payload)
   by_kind time payload ErrorIndication = ap (as_message ErrorIndication) (elements payload)
   by_kind time payload EchoResponse = noted (gives EchoResponse)
@@ -51,7 +50,7 @@ module _ (o : Observer) (bad : well_formed o ≡ false) where
   unfolding record_return_message
   message time message_type payload = by (message_kind message_type)
     where
-      by : (k : Outcome GtpuReturnDatagramOutcome)
+      by : (k : Outcome Kind)
           → ◌≡◌ {A = MessageStep} (elim k [ refused n ↦ unchanged o (refused n) | gives kind ↦ record_kind o time payload kind ]) message_refusal
       by (refused n) = noted (refused n)
       by (gives kind) = by_kind time payload kind

@@ -23,7 +23,7 @@ use Rattle.observer.proofs.Calls.{judged_malformed, judged_well, refusing_well, 
 use Rattle.observer.proofs.Claims.{calls_keep_well, search_finds}
 use Rattle.return_calls.specs.Kinds.{message_kind}
 use Rattle.return_calls.specs.Returns.{sequence_read, record_received_tpdu, record_return_message}
-use Rattle.return_calls.specs.declared.GtpuReturnDatagramOutcome.TheVariants.{MeasurementTpdu}
+use Rattle.return_calls.specs.Kinds.{MeasurementTpdu}
 use Rattle.tally.specs.Tally.{Tally, Fed, is_refused, row_of_packet, higher_marked, marked, counted, tally_return}
 use Rattle.tally.specs.Demand.{Call, tpdu_call, message_call, Taken, taken_by}
 use Rattle.tally.proofs.Rows.{Consecutive, sequence_is, consecutive_set, higher_is}

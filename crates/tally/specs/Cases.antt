@@ -1,11 +1,10 @@
 -- Document 01's eight proved cases, as one table: what the definitions compute, and what the paper says.
 -- proofs/Cases.antt proves every row.
-use Rattle.std.specs.Prelude.{ℕ, ◌≡◌, List, [], ◌∷◌, ◌++◌, Bool, true, false, replicate}
+use Rattle.std.specs.Prelude.{ℕ, ◌≡◌, List, [], ◌∷◌, ◌++◌, Bool, true, false, replicate, Option, None}
 use Rattle.error.specs.Outcome.{Outcome, refused, gives}
 use Rattle.field.specs.Field.{field}
 use Rattle.evidence.specs.Budget.{zero_loss}
-use Rattle.evidence.specs.declared.Latency.{Latency}
-use Rattle.evidence.specs.declared.Latency.TheVariants.{Absent}
+use Rattle.evidence.specs.declared.LatencySummary.{LatencySummary}
 use Rattle.evidence.specs.declared.PacketContinuityReport.{PacketContinuityReport}
 use Rattle.measurement.specs.declared.InnerIpFlow.{InnerIpFlow}
 use Rattle.measurement.specs.declared.IpVersion.TheVariants.{V4, V6}
@@ -25,7 +24,7 @@ use Rattle.report.specs.Report.{reporting}
 pub data Figure : Type 0 where
   number : ℕ → Figure
   verdict : Bool → Figure
-  latency : Latency → Figure
+  latency : Option LatencySummary → Figure
 
 -- A row: the case's number in the paper, what is computed, what the paper says.
 pub record Case : Type 0 where
@@ -144,7 +143,7 @@ table window_start window_end =
     ∷ record {
       case = 7;
       computed = figures verdicts (reporting fresh_observer window_start window_end zero_loss);
-      expected = gives (verdict true ∷ verdict false ∷ latency Absent ∷ []);
+      expected = gives (verdict true ∷ verdict false ∷ latency None ∷ []);
     }
     ∷ record { case = 8; computed = figures (λ u. []) (elements_of []); expected = refused 28 }
     ∷ []
