@@ -1,13 +1,24 @@
 // The reflector of a rehearsal: the proved one, with one session.
 #![tactic(auto)]
 
-use gtpu::{GtpuMessage, SequenceNumber};
-use measurement::InnerIpFlow;
+use error::Refusal;
+use gtpu::GtpuMessage;
+use measurement::{InnerIpFlow, IpVersion};
 use reflector_answer::{
-    Handled, MultiSessionReflectorConfig, ReflectorPolicy, ReflectorState, ReflectorStats,
-    RouteTarget,
+    MultiSessionReflectorConfig, REFLECTOR_BYTES, ReflectorAction, ReflectorPolicy, ReflectorState,
+    ReflectorStats,
 };
-use reflector_sessions::{FoundSession, LentSocketAddr, ReflectorSession, SocketAddr};
+use reflector_sessions::{LentSocketAddr, ReflectorSession, SocketAddr};
+
+// The TEIDs of the session: the one under which the reflector receives, and its peer's.
+const LOCAL_TEID: u32 = 0x1001;
+
+const PEER_TEID: u32 = 0x2001;
+
+// One that no session has.
+const UNKNOWN_TEID: u32 = 0x1002;
+
+const GTPU_PORT: u16 = 2152;
 
 pub fn fresh() -> ReflectorState {
     ReflectorState {
@@ -24,94 +35,62 @@ pub fn fresh() -> ReflectorState {
 }
 
 // 192.0.2.N or 2001:db8::N, addresses reserved for documentation (RFC 5737, RFC 3849).
-fn address(ip: u8, last: u8) -> [u8; 16] {
-    let mut address = [0; 16];
-    if ip == 4 {
-        address[0] = 192;
-        address[2] = 2;
-        address[3] = last;
-        return address;
+fn address(version: IpVersion, last: u8) -> [u8; 16] {
+    match version {
+        IpVersion::V4 => [192, 0, 2, last, 0, 0, 0, 0, 0, 0, 0, 0, 0, 0, 0, 0],
+        IpVersion::V6 => [
+            0x20, 0x01, 0x0d, 0xb8, 0, 0, 0, 0, 0, 0, 0, 0, 0, 0, 0, last,
+        ],
     }
-    address[0] = 0x20;
-    address[1] = 0x01;
-    address[2] = 0x0d;
-    address[3] = 0xb8;
-    address[15] = last;
-    address
 }
 
-pub fn flow(ip: u8) -> InnerIpFlow {
+pub fn flow(version: IpVersion) -> InnerIpFlow {
     InnerIpFlow {
-        version: measurement::version_of(ip),
-        src: address(ip, 1),
-        dst: address(ip, 2),
+        version,
+        src: address(version, 1),
+        dst: address(version, 2),
         src_port: 40000,
         dst_port: 40001,
     }
 }
 
 // The probe's own side of the tunnel.
-fn sender(ip: u8) -> SocketAddr {
-    SocketAddr {
-        version: measurement::version_of(ip),
-        address: address(ip, 3),
-        port: 2152,
-    }
-}
-
-// The reflector's one session.
-fn session(ip: u8) -> ReflectorSession {
-    ReflectorSession {
-        local_teid: 0x1001,
-        peer_teid: 0x2001,
-        peer_addr: LentSocketAddr {
-            version: ip,
-            address: address(ip, 3),
-            port: 2152,
-        },
-    }
-}
-
-fn config(ip: u8) -> MultiSessionReflectorConfig {
-    MultiSessionReflectorConfig {
-        max_sessions: 1,
-        recovery_counter: 0,
-        policy: ReflectorPolicy::Echo,
-        target: RouteTarget {
-            destination: sender(ip),
-            teid: 0,
-        },
+fn sender(version: IpVersion) -> LentSocketAddr {
+    LentSocketAddr {
+        version: version.number(),
+        address: address(version, 3),
+        port: GTPU_PORT,
     }
 }
 
 // Hands a packet to the reflector, under the session's TEID or under one that no session has.
 pub fn reflect(
-    ip: u8,
+    version: IpVersion,
     known: bool,
-    state: ReflectorState,
+    state: &mut ReflectorState,
     packet: &[u8],
-    out: &mut [u8; reflector_answer::REFLECTOR_BYTES],
-) -> Handled {
-    let place = if known { 0 } else { 1 };
-    let teid = if known { 0x1001 } else { 0x1002 };
-    let found = FoundSession {
-        place,
-        session: session(ip),
+    out: &mut [u8; REFLECTOR_BYTES],
+) -> Result<ReflectorAction, Refusal> {
+    let config = MultiSessionReflectorConfig {
+        max_sessions: 1,
+        recovery_counter: 0,
+        policy: ReflectorPolicy::Echo,
+    };
+    let session = ReflectorSession {
+        local_teid: LOCAL_TEID,
+        peer_teid: PEER_TEID,
+        peer_addr: sender(version),
+    };
+    let (found, teid) = if known {
+        (Some(session), LOCAL_TEID)
+    } else {
+        (None, UNKNOWN_TEID)
     };
     let message = GtpuMessage {
         message_type: gtpu::GTPU_MSG_GPDU,
         teid,
-        sequence_number: SequenceNumber::Absent,
+        sequence_number: None,
     };
-    reflector_answer::handle_found(
-        1,
-        1,
-        config(ip),
-        state,
-        found,
-        sender(ip),
-        message,
-        packet,
-        out,
-    )
+    let source = SocketAddr::from(sender(version));
+    reflector_answer::handle_found(1, 1, config, state, found, source, message, packet, out)
 }
