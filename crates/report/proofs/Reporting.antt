@@ -85,6 +85,7 @@ module _ {o : Observer} (w : Well o) where
 -- what is known of a lent sheet that 21 does not refuse: its observer, and how long the front of each column is
 pub record Passed (sheet : Sheet) (counts : ObserverCounts) : Type 0 where
   pub well : Well (observer_of (columns_lent sheet) counts)
+  pub sequences : length (take counts.used sheet.sequences.now) ≡ counts.used
   pub marks : length (take counts.used sheet.marks.now) ≡ counts.used
   pub latencies : length (take counts.used sheet.latencies.now) ≡ counts.used
   pub send_timestamps : length (take counts.used sheet.send_timestamps.now) ≡ counts.used
@@ -95,8 +96,11 @@ passed sheet counts e =
     let w = well (observer_of (columns_lent sheet) counts) e in
     record {
       well = w;
+      sequences = length-take-le _ _ w.room.sequences;
       marks = length-take-le _ _ w.room.marks;
       latencies = length-take-le _ _ w.room.latencies;
       send_timestamps = length-take-le _ _ w.room.send_timestamps;
       most = w.room.most;
     }
+
+pub ruleset passing = (passed, few_marked, reported_malformed)

@@ -152,6 +152,7 @@ pub fn within_budget(
 }
 
 // The report on an observer, for a window and a budget. Refuses by 21.
+#[tactic(auto, using(crate::proofs::Reporting::passing))]
 pub fn report(
     sheet: Sheet,
     counts: ObserverCounts,
