@@ -22,8 +22,7 @@ use Rattle.observer.proofs.Rows.{rows_with, capacity_with}
 use Rattle.observer.proofs.Judging.{well}
 use Rattle.return_calls.specs.Returns.{sequence_read, record_received_tpdu, MessageStep, as_message, unchanged, record_return_message}
 use Rattle.return_calls.proofs.Laws.{kind_2, kind_ignored, kind_other, message_255, message_26, message_other}
-use Rattle.return_calls.specs.declared.GtpuReturnDatagramOutcome.{GtpuReturnDatagramOutcome}
-use Rattle.return_calls.specs.declared.GtpuReturnDatagramOutcome.TheVariants.{MeasurementTpdu, ErrorIndication, EchoResponse, Ignored}
+use Rattle.return_calls.specs.Kinds.{Kind, MeasurementTpdu, ErrorIndication, EchoResponse, Ignored}
 use Rattle.rust_reference.specs.Claims.{New, EverySheet, RecordSent, RecordReceivedTpdu, RecordReturnGtpuDatagram}
 use Rattle.rust_reference.specs.Compared.{Compared, ComparedReturn, as_the_rust_tells, told}
 use Rattle.rust_reference.specs.Error as error
@@ -308,13 +307,13 @@ received_same rust o same t fits tpdu c = let a = received_step rust o same t fi
 
 -- ---- a message
 
-pub record AsMessage (o : Observer) (x : Recorded GtpuReturnDatagramOutcome) (s : MessageStep) : Type 0 where
+pub record AsMessage (o : Observer) (x : Recorded Kind) (s : MessageStep) : Type 0 where
   pub answer : outcome_of x.result ≡ told s.outcome
   pub same : Same x.observer s.observer
   pub room : capacity s.observer ≡ capacity o
 
 -- the Rust branches on a test
-branch : (o : Observer) (test : Bool) (x x' : Recorded GtpuReturnDatagramOutcome) (y : MessageStep) → (test ≡ true → AsMessage o x y)
+branch : (o : Observer) (test : Bool) (x x' : Recorded Kind) (y : MessageStep) → (test ≡ true → AsMessage o x y)
     → (test ≡ false → AsMessage o x' y) → AsMessage o (elim test [ true ↦ x | false ↦ x' ]) y
 branch o test x x' y f g = go test refl
   where
@@ -323,7 +322,7 @@ branch o test x x' y f g = go test refl
     go false e = g e
 
 -- the same message step, said otherwise
-said : {o : Observer} {x : Recorded GtpuReturnDatagramOutcome} {s s' : MessageStep} → s ≡ s' → AsMessage o x s → AsMessage o x s'
+said : {o : Observer} {x : Recorded Kind} {s s' : MessageStep} → s ≡ s' → AsMessage o x s → AsMessage o x s'
 said {o} {x} e a = subst (λ (s : MessageStep). AsMessage o x s) e a
 
 -- one of two tests holds, or neither
@@ -339,7 +338,7 @@ neither t m n e (inl h) = true_not_false (sym (or_right (eqb t m) _ (eq-eqb t n 
 neither t m n e (inr h) = true_not_false (sym (or_left _ (eqb t n) (eq-eqb t m h)) ∙ e)
 
 -- a return, as a message of its kind
-as_kind : (o : Observer) (kind : GtpuReturnDatagramOutcome) (r : Result (Unit {0})) (rust : ContinuityObserver) (s : Step) → outcome_of r ≡ told s.outcome → Same rust s.observer
+as_kind : (o : Observer) (kind : Kind) (r : Result (Unit {0})) (rust : ContinuityObserver) (s : Step) → outcome_of r ≡ told s.outcome → Same rust s.observer
     → capacity s.observer ≡ capacity o → AsMessage o (tried r rust (λ u. record { result = Ok kind; observer = rust })) (as_message kind s)
 as_kind o kind r rust s e same c = of r s.outcome (alike (λ u. u) r s.outcome e)
   where
@@ -373,7 +372,7 @@ module _ (rust : ContinuityObserver) (o : Observer) (same : Same rust o) where
       (refusing_well o n same.well) (record { answer = ap refused e; same = same; room = refl })
 
   -- a message that changes nothing
-  noted : (r : Result GtpuReturnDatagramOutcome) → AsMessage o (record { result = r; observer = rust }) (unchanged o (outcome_of r))
+  noted : (r : Result Kind) → AsMessage o (record { result = r; observer = rust }) (unchanged o (outcome_of r))
   noted r = record { answer = told_as (λ x. x) r (judged_well o (outcome_of r) same.well); same = same; room = refl }
 
   pub message_step : (t : ℕ) → t ≤ u64_max → (ty : ℕ) (payload : List ℕ) → ComparedReturn ty payload

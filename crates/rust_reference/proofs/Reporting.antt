@@ -4,7 +4,7 @@ use native.Mathlib.Nat.{div-le_of_le-mul, min-eq_left}
 use lib.ListN.{length-map}
 use Rattle.error.specs.Outcome.{gives}
 use Rattle.evidence.specs.Latency.{latency_for}
-use Rattle.evidence.specs.declared.Latency.{Latency}
+use Rattle.std.specs.Prelude as code
 use Rattle.evidence.specs.declared.LatencySummary.{LatencySummary}
 use Rattle.evidence.specs.declared.PacketContinuityBudget.{PacketContinuityBudget}
 use Rattle.evidence.specs.declared.PacketContinuityReport.{PacketContinuityReport}
@@ -240,7 +240,7 @@ module _ (rust : ContinuityObserver) (o : Observer) (same : Same rust o) (start 
   rs = rows o
 
   -- the report on these numbers
-  abbrev on : ℕ → ℕ → ℕ → ℕ → Latency → ℕ → ℕ → ℕ → PacketContinuityReport
+  abbrev on : ℕ → ℕ → ℕ → ℕ → code.Option LatencySummary → ℕ → ℕ → ℕ → PacketContinuityReport
   on sent received run outage latency duplicates late indications = record {
     window_start_ns = start;
     window_end_ns = end;

@@ -14,8 +14,7 @@ use Rattle.rows.proofs.Within.{holds_2048}
 use Rattle.observer.specs.Counts.{fresh}
 use Rattle.rust_reference.specs.Claims.{NoneAdded, AllTyped, NoneAddedIn, Runs, RunsUpTo2048}
 use Rattle.rust_reference.specs.Sheet.{sent_of, Same}
-use Rattle.return_calls.specs.declared.GtpuReturnDatagramOutcome.{GtpuReturnDatagramOutcome}
-use Rattle.return_calls.specs.declared.GtpuReturnDatagramOutcome.TheVariants.{MeasurementTpdu, ErrorIndication, EchoResponse, Ignored}
+use Rattle.return_calls.specs.Kinds.{Kind, MeasurementTpdu, ErrorIndication, EchoResponse, Ignored}
 use Rattle.rust_reference.specs.Compared.{told}
 use Rattle.rust_reference.specs.Error as error
 use Rattle.rust_reference.specs.Error.{Result, Ok, Err, InvalidPacket, TimestampReversed}
@@ -126,7 +125,7 @@ module _ (rust : ContinuityObserver) (t : ℕ) where
       as_indication (Ok u) = refl
       as_indication (Err x) = refl
 
-      answered : (a b c d : Bool) → Recorded GtpuReturnDatagramOutcome
+      answered : (a b c d : Bool) → Recorded Kind
       answered a b c d =
           elim a [
             | true ↦ tried received.result received.observer (λ u. record { result = Ok MeasurementTpdu; observer = received.observer })

@@ -1,6 +1,7 @@
 -- The Rust's values as ours ("What must change shape", document 01): flows and T-PDUs; `Vec`s in a lent buffer; the
 -- report.
 use Rattle.std.specs.Prelude.{ℕ, List, [], ◌∷◌, ◌++◌, map, length, drop}
+use Rattle.std.specs.Prelude as code
 use Rattle.error.specs.Outcome.{refused, gives}
 use Rattle.measurement.specs.Answer.{Writing}
 use Rattle.measurement.specs.Flow.{address, padded}
@@ -9,8 +10,6 @@ use Rattle.measurement.specs.declared.InnerIpFlow.{InnerIpFlow}
 use Rattle.measurement.specs.declared.MeasurementHeader.{MeasurementHeader}
 use Rattle.measurement.specs.declared.IpVersion.{IpVersion}
 use Rattle.measurement.specs.declared.IpVersion.TheVariants.{V4, V6}
-use Rattle.evidence.specs.declared.Latency.{Latency}
-use Rattle.evidence.specs.declared.Latency.TheVariants.{Absent, Summary}
 use Rattle.evidence.specs.declared.LatencySummary.{LatencySummary}
 use Rattle.evidence.specs.declared.PacketContinuityReport.{PacketContinuityReport}
 use Rattle.rust_reference.specs.Compared.{told}
@@ -82,10 +81,10 @@ packets_in_buffer (Err error) next buffer =
 abbrev pub told_generating : Generating → Generating
 told_generating g = record { outcome = told g.outcome; next = g.next; buffer = g.buffer }
 
--- The Rust's report as ours ("`Option` becomes an enum").
-abbrev pub latency_of : Option LatencySummary → Latency
-latency_of None = Absent
-latency_of (Some summary) = Summary summary
+-- The Rust's report as ours.
+abbrev pub latency_of : Option LatencySummary → code.Option LatencySummary
+latency_of None = code.None
+latency_of (Some summary) = code.Some summary
 
 abbrev pub report_of : evidence.PacketContinuityReport → PacketContinuityReport
 report_of rust = record {

@@ -33,7 +33,7 @@ use Rattle.observer.specs.Judge.{well_formed}
 use Rattle.observer.specs.Observer.{Observer, rows}
 use Rattle.observer.specs.Sending.{record_sent}
 use Rattle.return_calls.specs.Returns.{record_received_tpdu, record_return_message}
-use Rattle.return_calls.specs.declared.GtpuReturnDatagramOutcome.{GtpuReturnDatagramOutcome}
+use Rattle.return_calls.specs.Kinds.{Kind}
 use Rattle.report.specs.Report.{reporting}
 use Rattle.evidence.specs.Budget.{zero_loss}
 use Rattle.evidence.specs.declared.PacketContinuityBudget.{PacketContinuityBudget}
@@ -240,7 +240,7 @@ RecordReceivedTpdu = (rust : traffic.ContinuityObserver) (o : Observer) → Same
 abbrev pub RecordReturnGtpuDatagram : Type 0
 RecordReturnGtpuDatagram = (rust : traffic.ContinuityObserver) (o : Observer) → Same rust o
     → (time : ℕ) → time ≤ u64_max → (message_type : ℕ) (payload : List ℕ) → ComparedReturn message_type payload
-    → let after : traffic.Recorded GtpuReturnDatagramOutcome =
+    → let after : traffic.Recorded Kind =
     traffic.record_return_gtpu_datagram rust time message_type payload in
     (outcome_of after.result ≡ told (record_return_message o time message_type payload).outcome)
     × Same after.observer (record_return_message o time message_type payload).observer

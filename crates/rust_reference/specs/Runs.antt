@@ -8,7 +8,7 @@ use Rattle.observer.specs.Observer.{Observer}
 use Rattle.observer.specs.Sending.{record_sent}
 use Rattle.report.specs.Report.{reporting}
 use Rattle.return_calls.specs.Returns.{record_received_tpdu, record_return_message}
-use Rattle.return_calls.specs.declared.GtpuReturnDatagramOutcome.{GtpuReturnDatagramOutcome}
+use Rattle.return_calls.specs.Kinds.{Kind}
 use Rattle.rust_reference.specs.Number.{outcome_of}
 use Rattle.rust_reference.specs.Compared.{Compared, ComparedReturn}
 use Rattle.rust_reference.specs.Values.{u64_max}
@@ -33,7 +33,7 @@ Typed (reporting_on window_start window_end budget) = Unit {0}
 -- What an accepted call gives: nothing more (`done`), what the message was, or a report.
 pub data Answer : Type 0 where
   done : Answer
-  message : GtpuReturnDatagramOutcome → Answer
+  message : Kind → Answer
   reported : PacketContinuityReport → Answer
 
 abbrev pub answering : {A : Type 0} → (A → Answer) → Outcome A → Outcome Answer

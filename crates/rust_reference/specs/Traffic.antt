@@ -3,9 +3,7 @@
 use Rattle.std.specs.Prelude.{ℕ, zero, suc, ◌+◌, ◌-◌, ◌*◌, ◌/◌, ◌%◌, min, max, true, false, ◌&&◌, ◌||◌, ltb, leb, List, [], ◌∷◌, ◌++◌, length, ◌==◌, nat_eq, nat_le, nat_lt}
 use Rattle.evidence.specs.declared.LatencySummary.{LatencySummary}
 use Rattle.evidence.specs.declared.PacketContinuityBudget.{PacketContinuityBudget}
-use Rattle.return_calls.specs.declared.GtpuReturnDatagramOutcome.{GtpuReturnDatagramOutcome}
-use Rattle.return_calls.specs.declared.GtpuReturnDatagramOutcome.TheVariants.{MeasurementTpdu, ErrorIndication}
-use Rattle.return_calls.specs.declared.GtpuReturnDatagramOutcome.TheVariants.{EchoResponse, Ignored}
+use Rattle.return_calls.specs.Kinds.{Kind, MeasurementTpdu, ErrorIndication, EchoResponse, Ignored}
 use Rattle.plan.specs.declared.TrafficPlan.{TrafficPlan}
 use Rattle.rust_reference.specs.Error as error
 use Rattle.rust_reference.specs.Error.{DataplaneTestkitError, Result, Ok, Err, InvalidPacket, Overflow}
@@ -185,7 +183,7 @@ error_indication o = record {
 }
 
 -- lines 212 to 231, behind `decode_gtpu`: the match on the type of the message
-unfoldable pub record_return_gtpu_datagram : ContinuityObserver → ℕ → ℕ → List ℕ → Recorded GtpuReturnDatagramOutcome
+unfoldable pub record_return_gtpu_datagram : ContinuityObserver → ℕ → ℕ → List ℕ → Recorded Kind
 record_return_gtpu_datagram o return_timestamp_ns message_type payload =
     elim (nat_eq message_type GTPU_MSG_GPDU) [
       | true ↦
