@@ -1,143 +1,88 @@
-// The data's bytes. Past the end of a slice stands 0, so that no record, however damaged, is read out of bounds.
+// The data's bytes, read from the front, and how a call's output is held to them.
 #![tactic(auto)]
 
-ghost use Rattle.std.specs.Prelude.{◌≡◌, ◌<◌, ◌≤◌, length};
+ghost use Rattle.std.specs.Prelude.{◌≤◌, length};
 
-// The byte at a place.
-pub fn byte(s: &[u8], at: usize) -> u8 {
-    if at < s.len() {
-        return s[at];
+// What each byte that a call may write is before the call.
+const LENT: u8 = 0xa5;
+
+pub const LENT_ADDRESS: [u8; 16] = [LENT; 16];
+
+// What is left of the data. Past its end stands 0, so that no record, however damaged, is read out of bounds: the
+// methods answer no `Option`, since a record that is cut short agrees or differs by these zeros.
+#[derive(Clone, Copy)]
+pub struct Reader<'a> {
+    left: &'a [u8],
+}
+
+impl<'a> Reader<'a> {
+    pub fn new(data: &'a [u8]) -> Self {
+        Self { left: data }
     }
-    0
-}
 
-// The place `n` bytes after another.
-pub fn after(at: usize, n: usize) -> usize {
-    std::num::wrapping_add_usize(at, n)
-}
+    // How many bytes are left.
+    pub fn len(&self) -> usize {
+        self.left.len()
+    }
 
-// The number in two bytes, the high one first.
-fn word_as_u64(s: &[u8], at: usize) -> u64
-    ensures { result < 65536 }
-{
-    field::wide(byte(s, at)) * 256 + field::wide(byte(s, after(at, 1)))
-}
+    // All that is left.
+    pub fn rest(&self) -> &'a [u8] {
+        self.left
+    }
 
-pub fn word(s: &[u8], at: usize) -> u16 {
-    field::word(byte(s, at), byte(s, after(at, 1)))
-}
+    // The next `n` bytes, or as many as are left.
+    pub fn take(&mut self, n: usize) -> &'a [u8]
+        ensures { length result.now ≤ n }
+    {
+        let (next, left) = self.left.split_at(n.min(self.left.len()));
+        self.left = left;
+        next
+    }
 
-// The number in four bytes.
-fn double_word(s: &[u8], at: usize) -> u64
-    ensures { result < 4294967296 }
-{
-    word_as_u64(s, at) * 65536 + word_as_u64(s, after(at, 2))
-}
+    pub fn bytes<const N: usize>(&mut self) -> [u8; N] {
+        let next = self.take(N);
+        let mut bytes = [0; N];
+        bytes[..next.len()].copy_from_slice(next);
+        bytes
+    }
 
-// A TEID: the number in four bytes.
-pub fn teid(s: &[u8], at: usize) -> u32 {
-    field::double_word(
-        byte(s, at),
-        byte(s, after(at, 1)),
-        byte(s, after(at, 2)),
-        byte(s, after(at, 3)),
-    )
-}
+    pub fn byte(&mut self) -> u8 {
+        u8::from_be_bytes(self.bytes())
+    }
 
-// The number in eight bytes.
-pub fn number(s: &[u8], at: usize) -> u64 {
-    double_word(s, at) * 4294967296 + double_word(s, after(at, 4))
-}
+    pub fn word(&mut self) -> u16 {
+        u16::from_be_bytes(self.bytes())
+    }
 
-// Whether a call refused by the number of a record, or by none where that is 0.
-pub fn same_number(ours: u8, rust: u8) -> bool {
-    ours == rust
-}
+    pub fn teid(&mut self) -> u32 {
+        u32::from_be_bytes(self.bytes())
+    }
 
-// Whether the data begins with these numbers, 8 bytes each.
-pub fn same_numbers(numbers: &[u64], due: &[u8]) -> bool {
-    let mut at = 0;
-    let mut i = 0;
-    while i < numbers.len() {
-        if numbers[i] != number(due, at) {
-            return false;
+    pub fn number(&mut self) -> u64 {
+        u64::from_be_bytes(self.bytes())
+    }
+
+    // A flag: 1 where it is set, else 0. The data has no other.
+    pub fn flag(&mut self) -> Option<bool> {
+        match self.byte() {
+            0 => Some(false),
+            1 => Some(true),
+            _ => None,
         }
-        at = after(at, 8);
-        i += 1;
     }
-    true
-}
 
-// What follows the first `at` bytes.
-pub fn rest(s: &[u8], at: usize) -> &[u8] {
-    if at <= s.len() {
-        return &s[at..];
+    pub fn numbers<const N: usize>(&mut self) -> [u64; N] {
+        std::array::from_fn(|_| self.number())
     }
-    &s[..0]
 }
 
-// The first `n` bytes.
-pub fn first(s: &[u8], n: usize) -> &[u8] {
-    if n <= s.len() {
-        return &s[0..n];
-    }
-    &s[0..]
-}
-
-// The 16 bytes of an address.
-pub fn address(s: &[u8], at: usize) -> [u8; 16] {
-    let bytes = rest(s, at);
-    [
-        byte(bytes, 0),
-        byte(bytes, 1),
-        byte(bytes, 2),
-        byte(bytes, 3),
-        byte(bytes, 4),
-        byte(bytes, 5),
-        byte(bytes, 6),
-        byte(bytes, 7),
-        byte(bytes, 8),
-        byte(bytes, 9),
-        byte(bytes, 10),
-        byte(bytes, 11),
-        byte(bytes, 12),
-        byte(bytes, 13),
-        byte(bytes, 14),
-        byte(bytes, 15),
-    ]
-}
-
-// Whether an address is that of the data.
-pub fn same_address(a: &[u8; 16], s: &[u8], at: usize) -> bool {
-    check::same(a, first(rest(s, at), 16))
-}
-
-// Whether a flag is that of the data: 1 where it is set, else 0.
-pub fn same_flag(flag: bool, s: &[u8], at: usize) -> bool {
-    if flag {
-        return byte(s, at) == 1;
-    }
-    byte(s, at) == 0
-}
-
-// An output as the data has it before each call: longer than any in the data.
-pub fn dirty() -> [u8; 4096]
-    ensures { 4096 ≡ length result }
+// Whether a call answers rightly and leaves its output as the data has it. As much of it is lent as the data has.
+pub fn writes<F: FnOnce(&mut [u8]) -> bool>(due: &[u8], call: F) -> bool
+    requires { F.IsAlwaysCallable call }
 {
-    [0xa5; 4096]
-}
-
-// Whether a call left the output as the data has it, in every byte that it was lent.
-pub fn same_output(out: &[u8; 4096], due: &[u8]) -> bool {
-    check::same(first(out, due.len()), due)
-}
-
-// A number, or the limit where that is less.
-pub fn at_most(n: usize, limit: usize) -> usize
-    ensures { result ≤ limit }
-{
-    if n < limit {
-        return n;
-    }
-    limit
+    // Longer than any output in the data.
+    let mut out = [LENT; 4096];
+    let room = due.len().min(out.len());
+    let agrees = call(&mut out[..room]);
+    agrees && out.get(..due.len()) == Some(due)
 }

@@ -3,162 +3,148 @@
 #![tactic(auto)]
 
 use plan::TrafficPlan;
-use testkit_packets::{TestkitElements, TestkitPlanForecast, TestkitTpdu, TestkitWritten};
+use replay_data::Reader;
+use testkit_packets::{TestkitPlanForecast, TestkitTpdu, TestkitWritten};
 
 // A list of bytes after its checksum. The call refuses nothing.
-pub fn checksum(number: u8, s: &[u8]) -> bool {
-    number == 0
-        && testkit_packets::testkit_checksum(replay_data::rest(s, 2)) == replay_data::word(s, 0)
+pub fn checksum(number: u8, mut data: Reader) -> bool {
+    let due = data.word();
+    number == 0 && testkit_packets::testkit_checksum(data.rest()) == due
 }
 
-// Whether a call answers this number, and that it wrote this many bytes.
-fn same_written(written: TestkitWritten, number: u8, bytes: u16) -> bool {
-    replay_data::same_number(written.number, number) && written.bytes == bytes as usize
+// A flow, in 37 bytes.
+#[derive(Clone, Copy)]
+struct Flow {
+    version: u8,
+    src: [u8; 16],
+    dst: [u8; 16],
+    src_port: u16,
+    dst_port: u16,
 }
 
-fn build_into(s: &[u8], room: usize, out: &mut [u8]) -> TestkitWritten {
-    let n = replay_data::at_most(room, out.len());
-    let src = replay_data::address(s, 1);
-    let dst = replay_data::address(s, 17);
-    testkit_packets::testkit_build(
-        replay_data::byte(s, 0),
-        &src,
-        &dst,
-        replay_data::word(s, 33),
-        replay_data::word(s, 35),
-        replay_data::number(s, 37),
-        replay_data::number(s, 45),
-        &mut out[0..n],
-    )
-}
-
-// A flow: version, source, destination and both ports, in 37 bytes. A sequence and a time, 16 bytes; how many bytes are
-// written; and the output afterwards.
-pub fn build(number: u8, s: &[u8]) -> bool {
-    let due = replay_data::rest(s, 55);
-    let mut out = replay_data::dirty();
-    let written = build_into(s, due.len(), &mut out);
-    same_written(written, number, replay_data::word(s, 53)) && replay_data::same_output(&out, due)
-}
-
-fn same_tpdu(read: TestkitTpdu, number: u8, s: &[u8]) -> bool {
-    replay_data::same_number(read.number, number)
-        && read.version == replay_data::byte(s, 0)
-        && read.src_port == replay_data::word(s, 33)
-        && read.dst_port == replay_data::word(s, 35)
-        && read.sequence == replay_data::number(s, 37)
-        && read.send_timestamp_ns == replay_data::number(s, 45)
-}
-
-fn decode_into(s: &[u8], src: &mut [u8; 16], dst: &mut [u8; 16]) -> TestkitTpdu {
-    testkit_packets::testkit_decode(replay_data::rest(s, 53), src, dst)
-}
-
-// What is read: version, addresses, ports, sequence and time, 53 bytes as above; and the T-PDU.
-pub fn decode(number: u8, s: &[u8]) -> bool {
-    let mut src = [0xa5; 16];
-    let mut dst = [0xa5; 16];
-    let read = decode_into(s, &mut src, &mut dst);
-    if !replay_data::same_address(&src, s, 1) {
-        return false;
+fn read_flow(data: &mut Reader) -> Flow {
+    Flow {
+        version: data.byte(),
+        src: data.bytes(),
+        dst: data.bytes(),
+        src_port: data.word(),
+        dst_port: data.word(),
     }
-    if !replay_data::same_address(&dst, s, 17) {
-        return false;
-    }
-    same_tpdu(read, number, s)
 }
 
-fn echo_into(tpdu: &[u8], room: usize, out: &mut [u8]) -> TestkitWritten {
-    let n = replay_data::at_most(room, out.len());
-    testkit_packets::testkit_echo(tpdu, &mut out[0..n])
+// How many bytes a call writes.
+fn written_due(number: u8, data: &mut Reader) -> TestkitWritten {
+    TestkitWritten {
+        number,
+        bytes: usize::from(data.word()),
+    }
+}
+
+// A flow; a sequence and a time, 16 bytes; how many bytes are written; and the output afterwards.
+pub fn build(number: u8, mut data: Reader) -> bool {
+    let flow = read_flow(&mut data);
+    let sequence = data.number();
+    let send_timestamp_ns = data.number();
+    let due = written_due(number, &mut data);
+    replay_data::writes(data.rest(), |out| {
+        let built = testkit_packets::testkit_build(
+            flow.version,
+            &flow.src,
+            &flow.dst,
+            flow.src_port,
+            flow.dst_port,
+            sequence,
+            send_timestamp_ns,
+            out,
+        );
+        built == due
+    })
+}
+
+// What is read: a flow, a sequence and a time, 53 bytes; and the T-PDU.
+pub fn decode(number: u8, mut data: Reader) -> bool {
+    let flow = read_flow(&mut data);
+    let due = TestkitTpdu {
+        number,
+        version: flow.version,
+        src_port: flow.src_port,
+        dst_port: flow.dst_port,
+        sequence: data.number(),
+        send_timestamp_ns: data.number(),
+    };
+    let mut src = replay_data::LENT_ADDRESS;
+    let mut dst = replay_data::LENT_ADDRESS;
+    let read = testkit_packets::testkit_decode(data.rest(), &mut src, &mut dst);
+    read == due && src == flow.src && dst == flow.dst
 }
 
 // How many bytes are written, the output's length and the output afterwards; and the T-PDU.
-pub fn echo(number: u8, s: &[u8]) -> bool {
-    let length = replay_data::word(s, 2) as usize;
-    let after = replay_data::rest(s, 4);
-    let due = replay_data::first(after, length);
-    let mut out = replay_data::dirty();
-    let written = echo_into(replay_data::rest(after, length), due.len(), &mut out);
-    same_written(written, number, replay_data::word(s, 0)) && replay_data::same_output(&out, due)
+pub fn echo(number: u8, mut data: Reader) -> bool {
+    let due = written_due(number, &mut data);
+    let length = usize::from(data.word());
+    let out_due = data.take(length);
+    replay_data::writes(out_due, |out| {
+        testkit_packets::testkit_echo(data.rest(), out) == due
+    })
 }
 
-fn traffic_plan(s: &[u8]) -> TrafficPlan {
+fn read_plan(data: &mut Reader) -> TrafficPlan {
     TrafficPlan {
-        packet_count: replay_data::number(s, 37),
-        target_rate_pps: replay_data::number(s, 45),
-        first_send_timestamp_ns: replay_data::number(s, 53),
+        packet_count: data.number(),
+        target_rate_pps: data.number(),
+        first_send_timestamp_ns: data.number(),
     }
 }
 
-fn generate_into(s: &[u8], next_sequence: &mut u64, room: usize, out: &mut [u8]) -> TestkitWritten {
-    let n = replay_data::at_most(room, out.len());
-    let src = replay_data::address(s, 1);
-    let dst = replay_data::address(s, 17);
-    testkit_packets::testkit_generate(
-        replay_data::byte(s, 0),
-        &src,
-        &dst,
-        replay_data::word(s, 33),
-        replay_data::word(s, 35),
-        traffic_plan(s),
-        next_sequence,
-        &mut out[0..n],
-    )
-}
-
-fn forecast_of(s: &[u8]) -> TestkitPlanForecast {
-    testkit_packets::testkit_forecast(
-        replay_data::byte(s, 0),
-        traffic_plan(s),
-        replay_data::number(s, 61),
-    )
-}
-
-// Whether a forecast's last packet is the record's: its sequence is one below the next sequence afterwards, and its
-// time stands at the end of the bytes that are written. Where none is written there is no last packet.
-fn same_last(forecast: TestkitPlanForecast, bytes: usize, s: &[u8]) -> bool {
-    if bytes == 0 {
-        return !forecast.has_last;
+// The forecast of a plan that is generated so. The last packet's sequence is one below the next sequence afterwards,
+// and its time stands at the end of the bytes that are written. Where none is written there is no last packet.
+fn forecast_due(generated: TestkitWritten, next_sequence: u64, out: &[u8]) -> TestkitPlanForecast {
+    let written = out.get(..generated.bytes).unwrap_or(&[]);
+    let last = written.last_chunk().map(|time| u64::from_be_bytes(*time));
+    TestkitPlanForecast {
+        number: generated.number,
+        has_last: last.is_some(),
+        bytes: generated.bytes,
+        last_sequence: last.map_or(0, |_| next_sequence.wrapping_sub(1)),
+        last_send_timestamp_ns: last.unwrap_or(0),
     }
-    forecast.has_last
-        && std::num::wrapping_add_u64(forecast.last_sequence, 1) == replay_data::number(s, 69)
-        && forecast.last_send_timestamp_ns == replay_data::number(s, replay_data::after(71, bytes))
 }
 
-// Whether a plan is forecast as the record has it generated. No record has 15, by which no forecast refuses.
-fn same_forecast(number: u8, s: &[u8]) -> bool {
-    let forecast = forecast_of(s);
-    let bytes = replay_data::word(s, 77) as usize;
-    replay_data::same_number(forecast.number, number)
-        && forecast.bytes == bytes
-        && same_last(forecast, bytes, s)
+// A flow; a plan's count, rate and first time, and the next sequence; the next sequence afterwards; how many bytes are
+// written; and the output afterwards. The plan is forecast too. No record has 15, by which no forecast refuses.
+pub fn generate(number: u8, mut data: Reader) -> bool {
+    let flow = read_flow(&mut data);
+    let plan = read_plan(&mut data);
+    let next_sequence = data.number();
+    let next_sequence_due = data.number();
+    let due = written_due(number, &mut data);
+    let out_due = data.rest();
+    let forecast_due = forecast_due(due, next_sequence_due, out_due);
+    let generates = replay_data::writes(out_due, |out| {
+        let mut next_sequence = next_sequence;
+        let generated = testkit_packets::testkit_generate(
+            flow.version,
+            &flow.src,
+            &flow.dst,
+            flow.src_port,
+            flow.dst_port,
+            plan,
+            &mut next_sequence,
+            out,
+        );
+        generated == due && next_sequence == next_sequence_due
+    });
+    generates
+        && testkit_packets::testkit_forecast(flow.version, plan, next_sequence) == forecast_due
 }
 
-// A flow as above; count, rate, first time and next sequence; the next sequence afterwards; how many bytes are written;
-// and the output afterwards. The plan is forecast too.
-pub fn generate(number: u8, s: &[u8]) -> bool {
-    let due = replay_data::rest(s, 79);
-    let mut next_sequence = replay_data::number(s, 61);
-    let mut out = replay_data::dirty();
-    let written = generate_into(s, &mut next_sequence, due.len(), &mut out);
-    same_written(written, number, replay_data::word(s, 77))
-        && next_sequence == replay_data::number(s, 69)
-        && replay_data::same_output(&out, due)
-        && same_forecast(number, s)
-}
-
-// Whether an answer names no tunnel: version 4 and TEID 0, and the address is as it was lent.
-fn names_no_tunnel(answer: TestkitElements, peer_address: &[u8; 16]) -> bool {
-    answer.version == 4
+// The elements of an Error Indication. The Rust does not tell which tunnel they name; a refusal names none: version 4
+// and TEID 0, and the address is as it was lent.
+pub fn elements(number: u8, data: Reader) -> bool {
+    let mut peer_address = replay_data::LENT_ADDRESS;
+    let answer = testkit_packets::testkit_validate_elements(data.rest(), &mut peer_address);
+    let names_no_tunnel = answer.version == 4
         && answer.teid == 0
-        && replay_data::same_address(peer_address, &[0xa5; 16], 0)
-}
-
-// The elements of an Error Indication. The Rust does not tell which tunnel they name; a refusal names none.
-pub fn elements(number: u8, s: &[u8]) -> bool {
-    let mut peer_address = [0xa5; 16];
-    let answer = testkit_packets::testkit_validate_elements(s, &mut peer_address);
-    replay_data::same_number(answer.number, number)
-        && (number == 0 || names_no_tunnel(answer, &peer_address))
+        && peer_address == replay_data::LENT_ADDRESS;
+    answer.number == number && (number == 0 || names_no_tunnel)
 }
