@@ -2,7 +2,6 @@
 // rows back with the answer, so that callers such as the replay lend no rows themselves.
 #![tactic(auto)]
 
-ghost use Rattle.std.specs.Prelude.{◌≡◌};
 ghost use Rattle.reflector_sessions.specs.Session.{value_of};
 ghost use Rattle.reflector_sessions.specs.Table.{table_of};
 ghost use Rattle.reflector_sessions.specs.Register.{register_session};

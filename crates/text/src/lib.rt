@@ -1,12 +1,10 @@
 // Text: numbers that are read, values that are printed in a form of their own, and the bytes of any reader.
 #![tactic(auto)]
 
-ghost use Rattle.std.specs.Prelude.{◌≤◌, length, OnOk};
-ghost use Rattle.std.specs.Io.KnownBytes.{Appends};
+ghost use Rattle.std.specs.Prelude.{◌≤◌, length};
 
 use std::fmt;
-use std::io;
-use std::io::{Read, Write};
+use std::io::Read;
 
 // Larger than every limit: a number above it takes no more digits.
 const LARGEST: u64 = 1_000_000_000_000;
@@ -86,53 +84,4 @@ impl fmt::Display for NumberOr {
             None => f.write_str(self.1),
         }
     }
-}
-
-// What follows is for the crate `replay` alone, until it prints by `write!`.
-pub fn part(s: &[u8], at: usize, n: usize) -> &[u8] {
-    if at <= s.len() {
-        if n <= s.len() - at {
-            return &s[at..at + n];
-        }
-    }
-    &s[..0]
-}
-
-pub fn find_from(s: &[u8], at: usize, byte: u8) -> usize
-    ensures lower_bound { at ≤ result }
-    ensures upper_bound { at ≤ length s.now → result ≤ length s.now }
-{
-    let mut i = at;
-    while i < s.len() {
-        if s[i] == byte {
-            return i;
-        }
-        i += 1;
-    }
-    i
-}
-
-pub fn item(list: &[u8], number: usize) -> &[u8] {
-    let mut at = 0;
-    let mut i = 0;
-    while i < number {
-        at = std::num::wrapping_add_usize(find_from(list, at, b' '), 1);
-        i += 1;
-    }
-    part(list, at, find_from(list, at, b' ') - at)
-}
-
-pub fn print<W: Write>(out: &mut W, s: &[u8]) -> io::Result<()>
-    ensures { OnOk result (Appends (W.contents out.old) (W.contents out.new) s.now) }
-{
-    out.write_all(s)
-}
-
-pub fn print_hex<W: Write>(out: &mut W, n: u64, width: usize) -> io::Result<()> {
-    write!(out, "{n:0width$x}")
-}
-
-pub fn print_count<W: Write>(out: &mut W, name: &[u8], n: u64) -> io::Result<()> {
-    print(out, name)?;
-    write!(out, "{n}")
 }
