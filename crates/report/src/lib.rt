@@ -80,8 +80,8 @@ fn gather(latencies: &[u64], marks: &[u8]) -> Gathered
     gathered
 }
 
-// A sum of n words divided by n, rounded down: long division with digits of 32 bits. (a: `sum / n` would have the
-// archive ask for the compiler's division of 128 bits, and it may ask for no such function.)
+// A sum of n words divided by n, rounded down: long division with digits of 32 bits. The C interface needs it: with
+// `sum / n` the archive asks for the compiler's division of 128 bits, and it may ask for no such function.
 #[tactic(auto, using(crate::proofs::Division::mean_rules))]
 fn mean(sum: u128, n: u64) -> u64
     requires { (sum < n * 18446744073709551616) × (n ≤ 2048) }

@@ -201,7 +201,7 @@ pub extern "C" fn testkit_record_received_tpdus(
     TestkitReturnsRecorded::new(answer, counts)
 }
 
-// What a datagram that came back was: the numbers of include/testkit.h (a: the C interface).
+// What a datagram that came back was: numbers, since the C interface has no enum (include/testkit.h).
 pub const OUTCOME_REFUSED: u8 = 0;
 
 pub const OUTCOME_MEASUREMENT_TPDU: u8 = 1;
@@ -410,7 +410,7 @@ pub extern "C" fn testkit_report(
     report::report(sheet, counts, window_start_ns, window_end_ns, budget).into()
 }
 
-// What a verdict says: pass, or the first reason why not; the numbers of include/testkit.h (a: the C interface).
+// What a verdict says: pass, or the first reason why not. Numbers, since the C interface has no enum.
 pub const VERDICT_PASS: u8 = 0;
 
 pub const VERDICT_NOTHING_RETURNED: u8 = 1;
