@@ -9,9 +9,8 @@ use exit_status::ExitStatus;
 use rehearsal_records::{csv, log};
 use rehearsal_run::Rehearsed;
 use scenario::{Format, Scenario};
-use std::fmt;
-use std::io;
 use std::io::{Read, Write};
+use std::{fmt, io};
 use text::Given;
 use verdict::Verdict;
 use word_names::Number;
@@ -47,7 +46,10 @@ fn rehearse<W: Write>(out: &mut W, scenario: &Scenario) -> io::Result<ExitStatus
         // Accepted words never lead here.
         Err(refusal) => {
             let number = refusal.number();
-            writeln!(out, "rehearse: the plan was refused by number {number} of the card")?;
+            writeln!(
+                out,
+                "rehearse: the plan was refused by number {number} of the card"
+            )?;
             Ok(ExitStatus::NoRun)
         }
         Ok(run) => {

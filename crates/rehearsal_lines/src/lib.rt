@@ -9,9 +9,8 @@ use probe_fate::{Notes, Tally};
 use reflector_answer::ReflectorStats;
 use rehearsal_run::Rehearsed;
 use scenario::Scenario;
-use std::fmt;
-use std::io;
 use std::io::Write;
+use std::{fmt, io};
 use text::Nanoseconds;
 use verdict::Verdict;
 use word_names::{Effect, Number};
@@ -86,9 +85,7 @@ fn print_reflector<W: Write>(out: &mut W, stats: ReflectorStats) -> io::Result<(
     writeln!(
         out,
         "reflector: received {}, echoed {}, error indications {}",
-        stats.gpdu_received,
-        stats.gpdu_forwarded,
-        stats.error_indications_sent
+        stats.gpdu_received, stats.gpdu_forwarded, stats.error_indications_sent
     )
 }
 
@@ -136,7 +133,10 @@ pub fn print_rehearsal<W: Write>(
     report_lines::print_report(out, run.report)?;
     print_reflector(out, run.stats)?;
     print_refusals(out, &run.notes)?;
-    timeline::print_rows(out, run.notes.fates(scenario.number(Number::Count) as usize))?;
+    timeline::print_rows(
+        out,
+        run.notes.fates(scenario.number(Number::Count) as usize),
+    )?;
     timeline::print_indication(out, run.indication)?;
     report_lines::print_verdict(out, verdict)
 }

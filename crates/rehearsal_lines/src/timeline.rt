@@ -32,16 +32,19 @@ pub fn print_rows<W: Write>(out: &mut W, fates: &[Fate]) -> io::Result<()> {
         write!(out, "{}", mark(*fate))?;
     }
     writeln!(out)?;
-    writeln!(out, "           . returned  + duplicate  ~ out of order  ! refused")?;
-    writeln!(out, "           _ lost  E error indication  (one mark per probe)")
+    writeln!(
+        out,
+        "           . returned  + duplicate  ~ out of order  ! refused"
+    )?;
+    writeln!(
+        out,
+        "           _ lost  E error indication  (one mark per probe)"
+    )
 }
 
 // The first Error Indication, where there is one: the probe that it answers, and the tunnel that it names. The address
 // that a rehearsal's reflector names is short, so that the line has at most 65 columns.
-pub fn print_indication<W: Write>(
-    out: &mut W,
-    first: Option<FirstIndication>,
-) -> io::Result<()> {
+pub fn print_indication<W: Write>(out: &mut W, first: Option<FirstIndication>) -> io::Result<()> {
     let Some(FirstIndication { probe, tunnel }) = first else {
         return Ok(());
     };
@@ -51,5 +54,8 @@ pub fn print_indication<W: Write>(
         bytes,
     };
     let teid = Teid(tunnel.teid);
-    writeln!(out, "           first E, probe {probe}: TEID {teid}, peer {peer}")
+    writeln!(
+        out,
+        "           first E, probe {probe}: TEID {teid}, peer {peer}"
+    )
 }

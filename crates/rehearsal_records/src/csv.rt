@@ -8,7 +8,10 @@ use std::io::Write;
 use text::NumberOr;
 
 pub fn print_sheet<W: Write>(out: &mut W, sheet: Sheet, fates: &[Fate]) -> io::Result<()> {
-    writeln!(out, "probe,sent_ns,returned,returned_ns,latency_ns,fate,refused")?;
+    writeln!(
+        out,
+        "probe,sent_ns,returned,returned_ns,latency_ns,fate,refused"
+    )?;
     for (k, fate) in fates.iter().enumerate() {
         let row = Row::of(sheet, k);
         writeln!(

@@ -21,11 +21,7 @@ use tunnel_text::Address;
 use verdict::Verdict;
 use word_names::{Effect, Number};
 
-fn print_plan<W: Write>(
-    out: &mut W,
-    scenario: &Scenario,
-    window_start_ns: u64,
-) -> io::Result<()> {
+fn print_plan<W: Write>(out: &mut W, scenario: &Scenario, window_start_ns: u64) -> io::Result<()> {
     writeln!(
         out,
         r#"{{
@@ -47,9 +43,7 @@ fn print_forecast<W: Write>(
             out,
             r#""forecast": {{"bytes": {}, "last_sequence": {},
   "last_send_timestamp_ns": {}}},"#,
-            packets.bytes,
-            packets.last.sequence,
-            packets.last.send_timestamp_ns
+            packets.bytes, packets.last.sequence, packets.last.send_timestamp_ns
         ),
         Ok(None) | Err(_) => writeln!(out, r#""forecast": null,"#),
     }
@@ -84,17 +78,12 @@ fn print_reflector<W: Write>(out: &mut W, stats: ReflectorStats) -> io::Result<(
         out,
         r#""reflector": {{"received": {}, "echoed": {},
   "error_indications": {}}},"#,
-        stats.gpdu_received,
-        stats.gpdu_forwarded,
-        stats.error_indications_sent
+        stats.gpdu_received, stats.gpdu_forwarded, stats.error_indications_sent
     )
 }
 
 // The first Error Indication that was accepted: null, or the probe that it answers and the tunnel that it names.
-fn print_indication<W: Write>(
-    out: &mut W,
-    first: Option<FirstIndication>,
-) -> io::Result<()> {
+fn print_indication<W: Write>(out: &mut W, first: Option<FirstIndication>) -> io::Result<()> {
     let Some(FirstIndication { probe, tunnel }) = first else {
         return writeln!(out, r#""error_indication": null,"#);
     };
@@ -174,5 +163,9 @@ pub fn print_json<W: Write>(
     print_reflector(out, run.stats)?;
     print_indication(out, run.indication)?;
     print_refusals(out, &run.notes)?;
-    print_probes(out, run.sheet(), run.notes.fates(scenario.number(Number::Count) as usize))
+    print_probes(
+        out,
+        run.sheet(),
+        run.notes.fates(scenario.number(Number::Count) as usize),
+    )
 }

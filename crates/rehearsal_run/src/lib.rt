@@ -53,12 +53,7 @@ pub fn forecast(scenario: &Scenario) -> Result<Option<PlannedPackets>, Refusal> 
 }
 
 // Puts what comes back in its order, and has it recorded, one return after the other.
-fn travel(
-    scenario: &Scenario,
-    packets: &[u8],
-    sheet: &mut MarkedSheet,
-    progress: &mut Progress,
-)
+fn travel(scenario: &Scenario, packets: &[u8], sheet: &mut MarkedSheet, progress: &mut Progress)
     ensures { SameMarked sheet.old sheet.new }
 {
     let path = Path {
@@ -134,7 +129,11 @@ fn start() -> Progress {
 pub fn rehearse(scenario: &Scenario) -> Result<Rehearsed, Refusal> {
     let plan = plan_of(scenario);
     let mut packets = [0; PACKET_BYTES];
-    rehearsal_packets::generate(rehearsal_reflector::flow(scenario.version()), plan, &mut packets)?;
+    rehearsal_packets::generate(
+        rehearsal_reflector::flow(scenario.version()),
+        plan,
+        &mut packets,
+    )?;
     let mut progress = start();
     let mut sequences = [0; ROWS];
     let mut send_timestamps = [0; ROWS];
