@@ -52,7 +52,7 @@ function declare_all(text, separator,    parts, count, k, at, out) {
     count = split(text, parts, ",")
     for (k = 1; k <= count; k++) {
         gsub(/^ +| +$/, "", parts[k])
-        sub(/^pub /, "", parts[k])
+        sub(/^(pub|mut) /, "", parts[k])
         at = index(parts[k], ": ")
         if (at) out = out (out == "" ? "" : separator) declare(substr(parts[k], 1, at - 1), substr(parts[k], at + 2))
     }
