@@ -49,20 +49,22 @@ pub struct TestkitRemoved {
     pub session: ReflectorSession,
 }
 
-fn registered_numbers(registered: Result<Registration, Refusal>, used: usize) -> TestkitRegistered
-    ensures { result ≡ registered_numbers (registration_means registered) used }
-{
-    match registered {
-        Ok(registration) => TestkitRegistered {
-            number: 0,
-            added: registration == Registration::Added,
-            used,
-        },
-        Err(refusal) => TestkitRegistered {
-            number: refusal.number(),
-            added: false,
-            used,
-        },
+impl TestkitRegistered {
+    fn new(registered: Result<Registration, Refusal>, used: usize) -> Self
+        ensures { result ≡ registered_numbers (registration_means registered) used }
+    {
+        match registered {
+            Ok(registration) => Self {
+                number: 0,
+                added: registration == Registration::Added,
+                used,
+            },
+            Err(refusal) => Self {
+                number: refusal.number(),
+                added: false,
+                used,
+            },
+        }
     }
 }
 
@@ -83,7 +85,7 @@ pub extern "C" fn testkit_register_session(
         max_sessions,
     };
     let registered = reflector_sessions::register_session(&mut table, session);
-    registered_numbers(registered, table.used)
+    TestkitRegistered::new(registered, table.used)
 }
 
 // What stands where there is no session.
@@ -101,29 +103,28 @@ fn no_session() -> ReflectorSession
     }
 }
 
-fn removed_numbers(
-    removed: Result<Option<ReflectorSession>, Refusal>,
-    used: usize,
-) -> TestkitRemoved
-    ensures { result ≡ removed_numbers (answered removed) used (session_of (answered removed)) }
-{
-    let none = TestkitRemoved {
-        number: 0,
-        removed: false,
-        used,
-        session: no_session(),
-    };
-    match removed {
-        Ok(Some(session)) => TestkitRemoved {
-            removed: true,
-            session,
-            ..none
-        },
-        Ok(None) => none,
-        Err(refusal) => TestkitRemoved {
-            number: refusal.number(),
-            ..none
-        },
+impl TestkitRemoved {
+    fn new(removed: Result<Option<ReflectorSession>, Refusal>, used: usize) -> Self
+        ensures { result ≡ removed_numbers (answered removed) used (session_of (answered removed)) }
+    {
+        let none = Self {
+            number: 0,
+            removed: false,
+            used,
+            session: no_session(),
+        };
+        match removed {
+            Ok(Some(session)) => Self {
+                removed: true,
+                session,
+                ..none
+            },
+            Ok(None) => none,
+            Err(refusal) => Self {
+                number: refusal.number(),
+                ..none
+            },
+        }
     }
 }
 
@@ -144,7 +145,7 @@ pub extern "C" fn testkit_remove_session(
         max_sessions,
     };
     let removed = reflector_sessions::remove_session(&mut table, local_teid);
-    removed_numbers(removed, table.used)
+    TestkitRemoved::new(removed, table.used)
 }
 
 // What is done with G-PDUs of known sessions. Every other number routes too. These numbers and those below stay
@@ -220,6 +221,9 @@ pub struct TestkitHandled {
     pub state: ReflectorState,
 }
 
+// `From` converts one value, and stands in the crate of one of its types. So these stay functions: the policy takes a
+// target too, a sequence two values, and the types of reasons and addresses are of crates below.
+
 // The policy of a number, which holds the target if it is route.
 #[tactic(auto, unfolding(crate::specs::Interface::policy_numbered))]
 fn policy_of(policy: u8, target: RouteTarget) -> ReflectorPolicy
@@ -245,27 +249,31 @@ pub fn policy_number(policy: ReflectorPolicy) -> u8
     }
 }
 
-fn config_of(config: TestkitReflectorConfig) -> MultiSessionReflectorConfig
-    ensures { result ≡ config_of config }
-{
-    let target = RouteTarget {
-        destination: SocketAddr::from(config.target),
-        teid: config.target_teid,
-    };
-    MultiSessionReflectorConfig {
-        max_sessions: config.max_sessions,
-        recovery_counter: config.recovery_counter,
-        policy: policy_of(config.policy, target),
+impl From<TestkitReflectorConfig> for MultiSessionReflectorConfig {
+    ghost from_gives = { λ numbers config. config ≡ config_of numbers };
+
+    fn from(numbers: TestkitReflectorConfig) -> Self {
+        let target = RouteTarget {
+            destination: SocketAddr::from(numbers.target),
+            teid: numbers.target_teid,
+        };
+        Self {
+            max_sessions: numbers.max_sessions,
+            recovery_counter: numbers.recovery_counter,
+            policy: policy_of(numbers.policy, target),
+        }
     }
 }
 
-fn message_of(message: TestkitGtpuMessage) -> GtpuMessage
-    ensures { result ≡ message_of message }
-{
-    GtpuMessage {
-        message_type: message.message_type,
-        teid: message.teid,
-        sequence_number: sequence_of(message.has_sequence, message.sequence),
+impl From<TestkitGtpuMessage> for GtpuMessage {
+    ghost from_gives = { λ numbers message. message ≡ message_of numbers };
+
+    fn from(numbers: TestkitGtpuMessage) -> Self {
+        Self {
+            message_type: numbers.message_type,
+            teid: numbers.teid,
+            sequence_number: sequence_of(numbers.has_sequence, numbers.sequence),
+        }
     }
 }
 
@@ -315,14 +323,16 @@ fn address_numbers(address: SocketAddr) -> LentSocketAddr
     }
 }
 
-fn message_numbers(message: GtpuMessage) -> TestkitGtpuMessage
-    ensures { result ≡ message_numbers message }
-{
-    TestkitGtpuMessage {
-        message_type: message.message_type,
-        teid: message.teid,
-        has_sequence: message.sequence_number.is_some() as u8,
-        sequence: message.sequence_number.unwrap_or(0),
+impl From<GtpuMessage> for TestkitGtpuMessage {
+    ghost from_gives = { λ message numbers. numbers ≡ message_numbers message };
+
+    fn from(message: GtpuMessage) -> Self {
+        Self {
+            message_type: message.message_type,
+            teid: message.teid,
+            has_sequence: message.sequence_number.is_some() as u8,
+            sequence: message.sequence_number.unwrap_or(0),
+        }
     }
 }
 
@@ -348,40 +358,39 @@ fn no_message() -> TestkitGtpuMessage
     }
 }
 
-fn handled_numbers(
-    handled: Result<ReflectorAction, Refusal>,
-    state: ReflectorState,
-) -> TestkitHandled
-    ensures { result ≡ handled_numbers (answered handled) state }
-{
-    let nothing = TestkitHandled {
-        number: 0,
-        action: ACTION_NOOP,
-        noop_reason: 0,
-        send_reason: 0,
-        bytes: 0,
-        destination: no_address(),
-        message: no_message(),
-        state,
-    };
-    match handled {
-        Err(refusal) => TestkitHandled {
-            number: refusal.number(),
-            action: ACTION_REFUSED,
-            ..nothing
-        },
-        Ok(ReflectorAction::Noop(reason)) => TestkitHandled {
-            noop_reason: noop_number(reason),
-            ..nothing
-        },
-        Ok(ReflectorAction::Send(sent)) => TestkitHandled {
-            action: ACTION_SEND,
-            send_reason: send_number(sent.reason),
-            bytes: sent.bytes,
-            destination: address_numbers(sent.destination),
-            message: message_numbers(sent.message),
-            ..nothing
-        },
+impl TestkitHandled {
+    fn new(handled: Result<ReflectorAction, Refusal>, state: ReflectorState) -> Self
+        ensures { result ≡ handled_numbers (answered handled) state }
+    {
+        let nothing = Self {
+            number: 0,
+            action: ACTION_NOOP,
+            noop_reason: 0,
+            send_reason: 0,
+            bytes: 0,
+            destination: no_address(),
+            message: no_message(),
+            state,
+        };
+        match handled {
+            Err(refusal) => Self {
+                number: refusal.number(),
+                action: ACTION_REFUSED,
+                ..nothing
+            },
+            Ok(ReflectorAction::Noop(reason)) => Self {
+                noop_reason: noop_number(reason),
+                ..nothing
+            },
+            Ok(ReflectorAction::Send(sent)) => Self {
+                action: ACTION_SEND,
+                send_reason: send_number(sent.reason),
+                bytes: sent.bytes,
+                destination: address_numbers(sent.destination),
+                message: sent.message.into(),
+                ..nothing
+            },
+        }
     }
 }
 
@@ -405,14 +414,14 @@ pub extern "C" fn testkit_handle_datagram(
     let handled = reflector::handle_datagram(
         sessions,
         used,
-        config_of(config),
+        config.into(),
         &mut state,
-        SocketAddr::from(source),
-        message_of(message),
+        source.into(),
+        message.into(),
         payload,
         out,
     );
-    handled_numbers(handled, state)
+    TestkitHandled::new(handled, state)
 }
 
 // Carries that a sequence and an address which C is answered with, handed back, are the same ones.

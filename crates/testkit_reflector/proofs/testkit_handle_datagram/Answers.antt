@@ -8,7 +8,7 @@ use Rattle.testkit_reflector.proofs.testkit_handle_datagram.Goals as goal
 pub returns : goal.returns
 returns c =
     let a = c.args in
-    subst (λ (to : Answer). AnswersNumbers c.handled_numbers.result c.handle_datagram-handled.new.out to a.out.now)
-    (λ i. handle_datagram a.sessions.now a.used (c.config_of.ensures i) a.state (c.from.ensures i) (c.message_of.ensures i) a.payload.now a.out.now)
-    (numbered c.handled_numbers.result c.handle_datagram-handled.result c.handle_datagram-handled.new.state c.handle_datagram-handled.new.out _ a.out.now
-    c.handled_numbers.ensures c.handle_datagram-handled.ensures)
+    subst (λ (to : Answer). AnswersNumbers c.new.result c.handle_datagram-handled.new.out to a.out.now)
+    (λ i. handle_datagram a.sessions.now a.used (c.into.ensures i) a.state (c.into-2.ensures i) (c.into-3.ensures i) a.payload.now a.out.now)
+    (numbered c.new.result c.handle_datagram-handled.result c.handle_datagram-handled.new.state c.handle_datagram-handled.new.out _ a.out.now
+    c.new.ensures c.handle_datagram-handled.ensures)
