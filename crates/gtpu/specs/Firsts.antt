@@ -1,11 +1,8 @@
 -- The walk from the middle, for the contracts of the private functions: what it has seen, and what is left of the list.
-use Rattle.std.specs.Prelude.{ℕ, ◌+◌, ◌<◌, ◌≤◌, ◌≡◌, ◌⊎◌, List, [], ◌∷◌, length, Option, Result, Ok, Err}
+use Rattle.std.specs.Prelude.{ℕ, ◌+◌, ◌<◌, ◌≤◌, ◌≡◌, ◌⊎◌, List, [], ◌∷◌, length, Option}
 use Rattle.std.specs.Option.{option_or, option_copied}
-use Rattle.std.specs.Borrow.{Bor}
-use Rattle.error.specs.Answer.{number_of}
-use Rattle.error.specs.Outcome.{Outcome, refused, gives}
-use Rattle.error.specs.declared.Refusal.{Refusal}
-use Rattle.gtpu.specs.Element.{element_type, teid_data_i, gtpu_peer_address, value_length}
+use Rattle.error.specs.Outcome.{Outcome, gives}
+use Rattle.gtpu.specs.Element.{element_type, teid_data_i, gtpu_peer_address, value_length, element_of}
 use Rattle.gtpu.specs.Indication.{and_then, elements_in, first_of}
 use Rattle.gtpu.specs.declared.Seen.{Seen}
 
@@ -36,16 +33,12 @@ firsts_from before list =
       peer_address = option_or before.peer_address (first_of gtpu_peer_address elements);
     }))
 
--- What the answer of a walk means, with what it has then seen: the rest of the list decides.
-abbrev pub walked : Result (Bor (List ℕ)) Refusal → Seen → Outcome Firsts
-walked (Ok rest) seen = firsts_from (firsts_seen seen) rest.now
-walked (Err r) seen = refused (number_of r)
-
--- A walk that may make a call takes at least one byte of a list that has one.
-abbrev pub Advanced : Result (Bor (List ℕ)) Refusal → ℕ → List ℕ → Type 0
-Advanced (Ok rest) calls list =
-    (length rest.now ≤ length list) × (0 < calls → 0 < length list → length rest.now < length list)
-Advanced (Err r) calls list = Unit {0}
+-- From a list to what a walk leaves of it. It takes an element that is sound, if it may make a call; and where it stops
+-- in front of another, it has made all its calls, each of which took at least one byte.
+pub record Advanced (calls : ℕ) (list rest : List ℕ) : Type 0 where
+  pub taken : (size : ℕ) → gives size ≡ element_of list → 0 < length list → 0 < calls → length rest < length list
+  pub stopped : (size : ℕ) → gives size ≡ element_of rest → 0 < length rest → length rest + calls ≤ length list
+  pub shorter : length rest ≤ length list
 
 -- A whole 16, and a whole 133.
 pub record TeidData (element : List ℕ) : Type 0 where

@@ -8,7 +8,7 @@ ghost use Rattle.error.specs.Answer.{answered};
 ghost use Rattle.gtpu.specs.Message.{message_types_of};
 ghost use Rattle.gtpu.specs.Element.{element_types_of, value_length, other_length, element_of};
 ghost use Rattle.gtpu.specs.Indication.{teid_in, version_in, address_in, indication_of};
-ghost use Rattle.gtpu.specs.Firsts.{firsts_seen, firsts_after, firsts_from, walked, Advanced};
+ghost use Rattle.gtpu.specs.Firsts.{firsts_seen, firsts_after, firsts_from, Advanced};
 ghost use Rattle.gtpu.specs.Firsts.{TeidData, PeerAddress};
 ghost use Rattle.gtpu.specs.Claims.{SameRule, EndRule, EmptyList, ErrorIndicationAccepted, Examples};
 ghost use Rattle.gtpu.specs.Tunnels.{SameAnswer, IndicationNumbers, FirstOfEach, EveryAccepted, TunnelExamples};
@@ -75,9 +75,11 @@ const VALUE_START: usize = 3;
 // list, bounds the stack. The reflector's Error Indications have two elements.
 const WALK_DEPTH: usize = 16;
 
-// What a walk has seen: the first element of each type that an Error Indication must have, whole.
+// What a walk has seen: the first element of each type that an Error Indication must have, whole; and what is left of
+// the list. A walk changes this and answers nothing, so that the compiler makes a loop of its calls.
 #[derive(Clone, Copy)]
 struct Seen<'a> {
+    rest: &'a [u8],
     teid_data: Option<&'a [u8]>,
     peer_address: Option<&'a [u8]>,
 }
@@ -86,7 +88,8 @@ impl<'a> Seen<'a> {
     // One element more: one of its type that was seen before stays.
     fn note(&mut self, element: &'a [u8])
         requires { 0 < length element.now }
-        ensures { firsts_seen self.new ≡ firsts_after (firsts_seen self.old) element.now }
+        ensures firsts { firsts_seen self.new ≡ firsts_after (firsts_seen self.old) element.now }
+        ensures rest { self.new.rest ≡ self.old.rest }
     {
         match element[0] {
             TEID_DATA_I => self.teid_data = self.teid_data.or(Some(element)),
@@ -148,21 +151,22 @@ fn judge_element(list: &[u8]) -> Result<usize, Refusal>
 }
 
 // The element at the front is judged, and what follows it is read by the same rule: by a call of the walk on the rest.
-// What is left of the list comes back: nothing, or where the loop is to start the walk again.
-fn walk_elements<'a>(
-    list: &'a [u8],
-    calls_left: usize,
-    seen: &mut Seen<'a>,
-) -> Result<&'a [u8], Refusal>
-    ensures list_after { walked result seen.new ≡ firsts_from (firsts_seen seen.old) list.now }
-    ensures advanced { Advanced result calls_left list.now }
+// It stops where nothing is left, in front of an element that is refused, or where the loop is to start it again.
+fn walk_elements(seen: &mut Seen, calls_left: usize)
+    ensures list_after { firsts_from (firsts_seen seen.new) seen.new.rest.now
+        ≡ firsts_from (firsts_seen seen.old) seen.old.rest.now }
+    ensures advanced { Advanced calls_left seen.old.rest.now seen.new.rest.now }
 {
-    if list.is_empty() || calls_left == 0 {
-        return Ok(list);
+    if seen.rest.is_empty() || calls_left == 0 {
+        return;
     }
-    let (element, rest) = list.split_at(judge_element(list)?);
+    let Ok(size) = judge_element(seen.rest) else {
+        return;
+    };
+    let (element, rest) = seen.rest.split_at(size);
     seen.note(element);
-    walk_elements(rest, calls_left - 1, seen)
+    seen.rest = rest;
+    walk_elements(seen, calls_left - 1)
 }
 
 // The tunnel that an Error Indication is about: the TEID in its first TEID Data I, and the address in its first GTP-U
@@ -215,12 +219,13 @@ pub fn validate_error_indication_ies(payload: &[u8]) -> Result<RefusedTunnel, Re
     ensures { answered result ≡ indication_of payload.now }
 {
     let mut seen = Seen {
+        rest: payload,
         teid_data: None,
         peer_address: None,
     };
-    let mut rest = payload;
-    while !rest.is_empty() {
-        rest = walk_elements(rest, WALK_DEPTH, &mut seen)?;
+    while !seen.rest.is_empty() {
+        judge_element(seen.rest)?;
+        walk_elements(&mut seen, WALK_DEPTH);
     }
     let teid_data = seen.teid_data.ok_or(Refusal::MissingTeidDataI)?;
     let peer_address = seen.peer_address.ok_or(Refusal::MissingPeerAddress)?;

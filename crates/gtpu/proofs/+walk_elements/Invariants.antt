@@ -1,5 +1,6 @@
+use Rattle.std.proofs.Common.{length}
 use Rattle.gtpu.proofs.+walk_elements.Given as goal
 
--- Each call has one call less left.
+-- Each call has a shorter rest.
 abbrev pub decreases-walk_elements : goal.decreases-walk_elements
-decreases-walk_elements l = l.calls_left
+decreases-walk_elements l = length l.seen.now.rest.now

@@ -6,8 +6,8 @@ use Rattle.gtpu.specs.Firsts.{firsts_seen, firsts_from}
 use Rattle.gtpu.proofs.Firsts.{firsts}
 use Rattle.gtpu.proofs.validate_error_indication_ies.Given as goal
 
-abbrev pub invariant-loop-rest : goal.invariant-loop-rest
-invariant-loop-rest l = firsts_from (firsts_seen l.seen) l.rest ≡ firsts_from (firsts None None) l.payload
+abbrev pub invariant-loop-seen : goal.invariant-loop-seen
+invariant-loop-seen l = firsts_from (firsts_seen l.seen) l.seen.rest.now ≡ firsts_from (firsts None None) l.payload
 
-abbrev pub decreases-loop-rest : goal.decreases-loop-rest
-decreases-loop-rest l = length l.rest
+abbrev pub decreases-loop-seen : goal.decreases-loop-seen
+decreases-loop-seen l = length l.seen.rest.now
