@@ -1,5 +1,5 @@
 -- The search's result may stand for the session that a message's TEID means: where the table is refused, no session is looked at; else the search found what the TEID means.
-use Rattle.std.proofs.Common.{◌≡◌, ℕ, List, Option, length, sym, ap, ◌∙◌}
+use Rattle.std.proofs.Common.{◌≡◌, ℕ, List, Option, Some, None, length, refl, sym, ap, ◌∙◌}
 use Rattle.error.specs.Outcome.{refused, gives}
 use Rattle.error.proofs.Causes.{refuses}
 use Rattle.reflector_answer.specs.Handle.{handle_found}
@@ -8,12 +8,20 @@ use Rattle.reflector_answer.specs.declared.MultiSessionReflectorConfig.{MultiSes
 use Rattle.reflector_answer.specs.declared.ReflectorState.{ReflectorState}
 use Rattle.reflector_answer.proofs.Answers.{handling_refused}
 use Rattle.reflector_sessions.specs.Judge.{table_outcome}
-use Rattle.reflector_sessions.specs.Table.{table_of, find, searched_rows}
+use Rattle.reflector_sessions.specs.Table.{table_of, find, place_of, at_place, found_in, searched_rows}
 use Rattle.reflector_sessions.specs.declared.ReflectorSession.{ReflectorSession}
 use Rattle.reflector_sessions.specs.declared.SocketAddr.{SocketAddr}
 use Rattle.reflector_sessions.proofs.Judging.{Judged, unsound, sound, judge}
 use Rattle.reflector_sessions.proofs.Search.{searched_used}
-use Rattle.reflector.specs.Handle.{handle_datagram}
+use Rattle.reflector.specs.Handle.{session_found, handle_datagram}
+
+-- of what a search tells the session is left
+pub session_is : (teid : ℕ) (rows : List ReflectorSession) → session_found (found_in rows teid) ≡ find teid rows
+session_is teid rows = by (find teid rows)
+  where
+    by : (o : Option ReflectorSession) → session_found (at_place (place_of teid rows) o) ≡ o
+    by None = refl
+    by (Some session) = refl
 
 module _ (config : MultiSessionReflectorConfig) (state : ReflectorState) (source : SocketAddr) (message : GtpuMessage) (payload buffer : List ℕ) where
   -- a refused table's answer is the same with any session

@@ -3,13 +3,24 @@
 // the counts, the error sequence and every byte of the output, on refusals too.
 #![tactic(auto)]
 
+ghost use Rattle.std.specs.Prelude.{◌≡◌};
 ghost use Rattle.reflector_answer.specs.Handle.{HandledAs};
-ghost use Rattle.reflector.specs.Handle.{handle_datagram};
+ghost use Rattle.reflector.specs.Handle.{session_found, handle_datagram};
 
 use error::Refusal;
 use gtpu::GtpuMessage;
 use reflector_answer::{MultiSessionReflectorConfig, ReflectorAction, ReflectorState};
-use reflector_sessions::{ReflectorSession, Sessions, SocketAddr};
+use reflector_sessions::{FoundSession, ReflectorSession, Sessions, SocketAddr};
+
+// The session of the row that a search found.
+fn session_of(found: Option<FoundSession>) -> Option<ReflectorSession>
+    ensures { result ≡ session_found found }
+{
+    match found {
+        Some(row) => Some(row.session),
+        None => None,
+    }
+}
 
 // Handles a message: 30, 31, 15, then by its type.
 pub fn handle_datagram(
@@ -31,7 +42,7 @@ pub fn handle_datagram(
         used,
         max_sessions: config.max_sessions,
     };
-    let session = reflector_sessions::find_session(sessions, message.teid);
+    let session = session_of(reflector_sessions::find_session(sessions, message.teid));
     reflector_answer::handle_found(
         rows.len(),
         used,

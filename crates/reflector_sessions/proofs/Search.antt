@@ -1,5 +1,5 @@
 -- What a search finds, by the place that the code looks for.
-use Rattle.std.proofs.Common.{ℕ, suc, ◌≡◌, ◌+◌, ◌<◌, ◌≤◌, ◌==◌, List, [], ◌∷◌, Bool, true, false, not, Option, Some, None, cond, refl, sym, ap, subst, ◌∙◌, arith, length, take, get_or, position, eqb, nat_lt}
+use Rattle.std.proofs.Common.{ℕ, suc, ◌≡◌, ◌+◌, ◌<◌, ◌≤◌, ◌==◌, List, [], ◌∷◌, Bool, true, false, not, Option, Some, None, cond, refl, sym, ap, ap₂, subst, ◌∙◌, arith, length, take, get_or, position, eqb, nat_lt}
 use Rattle.std.specs.List.{position_or_len}
 use lib.Dec.{leb-suc-suc}
 use borrow.Author.Tests.{lt-ltb, ltb-true}
@@ -8,7 +8,7 @@ use Rattle.error.specs.Outcome.{refused, gives}
 use Rattle.error.proofs.Causes.{refuses}
 use Rattle.reflector_sessions.specs.Judge.{table_outcome}
 use Rattle.reflector_sessions.specs.Session.{no_session}
-use Rattle.reflector_sessions.specs.Table.{Table, used_rows, find, place_of, searched_count, searched_rows, judged_table}
+use Rattle.reflector_sessions.specs.Table.{Table, used_rows, find, place_of, at_place, found_in, searched_count, searched_rows, judged_table}
 use Rattle.reflector_sessions.specs.declared.ReflectorSession.{ReflectorSession}
 use Rattle.reflector_sessions.proofs.Judging.{Sound, Judged, unsound, sound, judge, table_sound, judged_sound, searched_none, searched_all}
 
@@ -67,6 +67,14 @@ no_row teid rows e = by (found teid rows no_session e)
   where
     by : Found teid no_session rows None → find teid rows ≡ None
     by (missing f) = f
+
+-- what a search tells, by what it found
+module _ (teid : ℕ) (rows : List ReflectorSession) where
+  pub told : {place : ℕ} {session : ReflectorSession} → place ≡ place_of teid rows → find teid rows ≡ Some session → found_in rows teid ≡ Some (record { place = place; session = session })
+  told e f = ap₂ at_place (sym e) f
+
+  pub nothing_told : find teid rows ≡ None → found_in rows teid ≡ None
+  nothing_told f = ap (at_place (place_of teid rows)) f
 
 abbrev pub SoundTable : Table → Type 0
 SoundTable t = Sound (length t.sessions) t.used t.maximum

@@ -3,6 +3,7 @@ use Rattle.std.specs.Prelude.{ℕ, suc, ◌≡◌, ◌+◌, ◌-◌, List, [], �
 use Rattle.std.specs.Prelude.{take, set, get_or}
 use Rattle.error.specs.Outcome.{Outcome, refused, gives}
 use Rattle.reflector_sessions.specs.Judge.{table_outcome}
+use Rattle.reflector_sessions.specs.declared.FoundSession.{FoundSession}
 use Rattle.reflector_sessions.specs.declared.ReflectorSession.{ReflectorSession}
 use Rattle.reflector_sessions.specs.declared.SessionTable.{SessionTable}
 use Rattle.reflector_sessions.specs.declared.Sessions.{Sessions}
@@ -43,6 +44,14 @@ find teid (session ∷ rows) = elim (eqb session.local_teid teid) [ true ↦ Som
 abbrev pub place_of : ℕ → List ReflectorSession → ℕ
 place_of teid [] = 0
 place_of teid (session ∷ rows) = elim (eqb session.local_teid teid) [ true ↦ 0 | false ↦ suc (place_of teid rows) ]
+
+-- What a search among these rows tells of a TEID: the place and the session of its first row, or nothing.
+abbrev pub at_place : ℕ → Option ReflectorSession → Option FoundSession
+at_place place None = None
+at_place place (Some session) = Some (record { place = place; session = session })
+
+abbrev pub found_in : List ReflectorSession → ℕ → Option FoundSession
+found_in rows teid = at_place (place_of teid rows) (find teid rows)
 
 -- The rows that a search goes through: the used ones, and none of a table that is refused.
 unfoldable pub searched_count : ℕ → ℕ → ℕ → ℕ

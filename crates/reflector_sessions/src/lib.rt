@@ -11,8 +11,8 @@ ghost use Rattle.error.specs.Answer.{answered};
 ghost use Rattle.measurement.specs.Flow.{address};
 ghost use Rattle.reflector_sessions.specs.Session.{value_of, no_session, compared, lent_compared};
 ghost use Rattle.reflector_sessions.specs.Judge.{table_outcome};
-ghost use Rattle.reflector_sessions.specs.Table.{table_read, table_lent, SameRows, judged_table, find, searched_rows};
-ghost use Rattle.reflector_sessions.specs.Table.{appended, swap_removed};
+ghost use Rattle.reflector_sessions.specs.Table.{table_read, table_lent, SameRows, judged_table, found_in};
+ghost use Rattle.reflector_sessions.specs.Table.{searched_rows, appended, swap_removed};
 ghost use Rattle.reflector_sessions.specs.Register.{invalid_session, register_session, Registers};
 ghost use Rattle.reflector_sessions.specs.Claims.{AddedIsFound, UnchangedIsFound, RemovedIsNotFound, StaysUnique};
 ghost use Rattle.reflector_sessions.specs.Claims.{OtherRowsKept};
@@ -123,6 +123,13 @@ pub struct SessionTable<'a> {
     pub max_sessions: usize,
 }
 
+// What a search found: the row's place, and its session.
+#[derive(Clone, Copy)]
+pub struct FoundSession {
+    pub place: usize,
+    pub session: ReflectorSession,
+}
+
 // Whether a session was appended, or was there already.
 #[derive(Clone, Copy, Debug, PartialEq, Eq)]
 pub enum Registration {
@@ -209,11 +216,14 @@ impl SessionTable<'_> {
 }
 
 // Looks for the session of a TEID among the used rows. A table that is refused has none.
-pub fn find_session(sessions: Sessions, local_teid: u32) -> Option<ReflectorSession>
-    ensures { result ≡ find local_teid (searched_rows (table_read sessions.entry)) }
+pub fn find_session(sessions: Sessions, local_teid: u32) -> Option<FoundSession>
+    ensures { result ≡ found_in (searched_rows (table_read sessions.entry)) local_teid }
 {
     let place = sessions.place(local_teid)?;
-    Some(sessions.rows[place])
+    Some(FoundSession {
+        place,
+        session: sessions.rows[place],
+    })
 }
 
 // Registers a session: 30, 31, 32; the same record changes nothing, another of its TEID is refused by 33; 34; else it
