@@ -362,7 +362,7 @@ impl TestkitHandled {
     fn new(handled: Result<ReflectorAction, Refusal>, state: ReflectorState) -> Self
         ensures { result ≡ handled_numbers (answered handled) state }
     {
-        let nothing = Self {
+        let mut told = Self {
             number: 0,
             action: ACTION_NOOP,
             noop_reason: 0,
@@ -373,24 +373,20 @@ impl TestkitHandled {
             state,
         };
         match handled {
-            Err(refusal) => Self {
-                number: refusal.number(),
-                action: ACTION_REFUSED,
-                ..nothing
-            },
-            Ok(ReflectorAction::Noop(reason)) => Self {
-                noop_reason: noop_number(reason),
-                ..nothing
-            },
-            Ok(ReflectorAction::Send(sent)) => Self {
-                action: ACTION_SEND,
-                send_reason: send_number(sent.reason),
-                bytes: sent.bytes,
-                destination: address_numbers(sent.destination),
-                message: sent.message.into(),
-                ..nothing
-            },
+            Err(refusal) => {
+                told.number = refusal.number();
+                told.action = ACTION_REFUSED;
+            }
+            Ok(ReflectorAction::Noop(reason)) => told.noop_reason = noop_number(reason),
+            Ok(ReflectorAction::Send(sent)) => {
+                told.action = ACTION_SEND;
+                told.send_reason = send_number(sent.reason);
+                told.bytes = sent.bytes;
+                told.destination = address_numbers(sent.destination);
+                told.message = sent.message.into();
+            }
         }
+        told
     }
 }
 
