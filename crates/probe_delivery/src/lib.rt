@@ -43,10 +43,9 @@ fn packet_of(version: IpVersion, packets: &[u8], probe: u64) -> &[u8] {
         IpVersion::V4 => IPV4_TPDU_BYTES,
         IpVersion::V6 => IPV6_TPDU_BYTES,
     };
-    packets
-        .chunks(bytes)
-        .nth(rehearsal_path::row(probe))
-        .unwrap_or(&[])
+    let first = rehearsal_path::row(probe).saturating_mul(bytes);
+    let rest = packets.get(first..).unwrap_or(&[]);
+    &rest[..bytes.min(rest.len())]
 }
 
 // A probe reaches the reflector, and what it sends comes back at a time and is recorded.

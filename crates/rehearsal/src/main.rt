@@ -7,7 +7,7 @@ mod words;
 
 use exit_status::ExitStatus;
 use rehearsal_records::{csv, log};
-use rehearsal_run::Rehearsed;
+use rehearsal_run::{Columns, Rehearsed};
 use scenario::{Format, Scenario};
 use std::io::{Read, Write};
 use std::{fmt, io};
@@ -42,7 +42,8 @@ fn rehearse<W: Write>(out: &mut W, scenario: &Scenario) -> io::Result<ExitStatus
     if let Format::Text = scenario.format() {
         rehearsal_lines::print_before(out, scenario, rehearsal_run::forecast(scenario))?;
     }
-    match rehearsal_run::rehearse(scenario) {
+    let mut columns = Columns::fresh();
+    match rehearsal_run::rehearse(scenario, &mut columns) {
         // Accepted words never lead here.
         Err(refusal) => {
             let number = refusal.number();

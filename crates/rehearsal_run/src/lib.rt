@@ -84,13 +84,9 @@ fn window_end(scenario: &Scenario, send_timestamps: &[u64]) -> u64 {
     }
 }
 
-// What a rehearsal leaves: the columns of the run sheet, the report, and what was noted beside them.
+// The columns of the run sheet. The caller lends them, so that they stand on the stack once.
 #[derive(Clone, Copy)]
-pub struct Rehearsed {
-    pub report: PacketContinuityReport,
-    pub stats: ReflectorStats,
-    pub indication: Option<FirstIndication>,
-    pub notes: Notes,
+pub struct Columns {
     sequences: [u64; ROWS],
     send_timestamps: [u64; ROWS],
     latencies: [u64; ROWS],
@@ -98,15 +94,31 @@ pub struct Rehearsed {
     arrival_timestamps: [u64; ROWS],
 }
 
-impl Rehearsed {
-    pub fn sheet(&self) -> Sheet<'_> {
-        Sheet {
-            sequences: &self.sequences,
-            send_timestamps: &self.send_timestamps,
-            latencies: &self.latencies,
-            marks: &self.marks,
-            arrival_timestamps: &self.arrival_timestamps,
+impl Columns {
+    pub fn fresh() -> Self {
+        Self {
+            sequences: [0; ROWS],
+            send_timestamps: [0; ROWS],
+            latencies: [0; ROWS],
+            marks: [0; ROWS],
+            arrival_timestamps: [0; ROWS],
         }
+    }
+}
+
+// What a rehearsal leaves: the run sheet, the report, and what was noted beside them.
+#[derive(Clone, Copy)]
+pub struct Rehearsed<'a> {
+    pub report: PacketContinuityReport,
+    pub stats: ReflectorStats,
+    pub indication: Option<FirstIndication>,
+    pub notes: Notes,
+    sheet: Sheet<'a>,
+}
+
+impl<'a> Rehearsed<'a> {
+    pub fn sheet(&self) -> Sheet<'a> {
+        self.sheet
     }
 }
 
@@ -126,7 +138,10 @@ fn start() -> Progress {
 }
 
 // Rehearses a scenario on a fresh run sheet: the plan's probes are entered as sent, and travel.
-pub fn rehearse(scenario: &Scenario) -> Result<Rehearsed, Refusal> {
+pub fn rehearse<'a>(
+    scenario: &Scenario,
+    columns: &'a mut Columns,
+) -> Result<Rehearsed<'a>, Refusal> {
     let plan = plan_of(scenario);
     let mut packets = [0; PACKET_BYTES];
     rehearsal_packets::generate(
@@ -135,32 +150,34 @@ pub fn rehearse(scenario: &Scenario) -> Result<Rehearsed, Refusal> {
         &mut packets,
     )?;
     let mut progress = start();
-    let mut sequences = [0; ROWS];
-    let mut send_timestamps = [0; ROWS];
-    let mut latencies = [0; ROWS];
-    let mut marks = [0; ROWS];
-    let mut arrival_timestamps = [0; ROWS];
     let mut written = WrittenSheet {
-        sequences: &mut sequences,
-        send_timestamps: &mut send_timestamps,
-        latencies: &mut latencies,
-        marks: &mut marks,
-        arrival_timestamps: &mut arrival_timestamps,
+        sequences: &mut columns.sequences,
+        send_timestamps: &mut columns.send_timestamps,
+        latencies: &mut columns.latencies,
+        marks: &mut columns.marks,
+        arrival_timestamps: &mut columns.arrival_timestamps,
     };
     sent_plan::record_sent_plan(&mut written, &mut progress.counts, plan, 1)?;
     let mut marked = MarkedSheet {
-        sequences: &sequences,
-        send_timestamps: &send_timestamps,
-        latencies: &mut latencies,
-        marks: &mut marks,
-        arrival_timestamps: &mut arrival_timestamps,
+        sequences: &columns.sequences,
+        send_timestamps: &columns.send_timestamps,
+        latencies: &mut columns.latencies,
+        marks: &mut columns.marks,
+        arrival_timestamps: &mut columns.arrival_timestamps,
     };
     travel(scenario, &packets, &mut marked, &mut progress);
+    let sheet = Sheet {
+        sequences: &columns.sequences,
+        send_timestamps: &columns.send_timestamps,
+        latencies: &columns.latencies,
+        marks: &columns.marks,
+        arrival_timestamps: &columns.arrival_timestamps,
+    };
     let report = report::report(
-        marked.read(),
+        sheet,
         progress.counts,
         FIRST_SEND_NS,
-        window_end(scenario, &send_timestamps),
+        window_end(scenario, sheet.send_timestamps),
         budget_of(scenario),
     )?;
     Ok(Rehearsed {
@@ -168,10 +185,6 @@ pub fn rehearse(scenario: &Scenario) -> Result<Rehearsed, Refusal> {
         stats: progress.state.stats,
         indication: progress.indication,
         notes: progress.notes,
-        sequences,
-        send_timestamps,
-        latencies,
-        marks,
-        arrival_timestamps,
+        sheet,
     })
 }
